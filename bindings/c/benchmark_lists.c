@@ -1,9 +1,9 @@
 /*
  * Nanoseconds for a block, a message or a key of lists of short messages, 256 at once: by batches of 128, by those of 256 where the
  * processor has them, and by a peer one at a time. The peer is OpenSSL's own functions of DES, called with nothing around them, or,
- * where OpenSSL has no such call, this library's call of one. Then lists of few blocks, by quick and quiet contexts, beside OpenSSL and
- * libgcrypt; threads, by the clock on the wall; and PBKDF2 beside OpenSSL's. The least of many short runs counts; an empty cell is a way
- * that there is not.
+ * where OpenSSL has no such call, this library's call of one. Then lists of few blocks, by contexts with and without tables, beside OpenSSL
+ * and libgcrypt; threads, by the clock on the wall; and PBKDF2 beside OpenSSL's. The least of many short runs counts; an empty cell is a
+ * way that there is not.
  *
  *   benchmark_lists [RUNS]
  */
@@ -24,8 +24,8 @@ static uint8_t keys[COUNT * 24], vectors[COUNT * 8], blocks[COUNT * RECORD * 8],
 static uint8_t serials[COUNT * 10], transaction_keys[COUNT * 16], list[MOST];
 static size_t counts[COUNT];
 static cukvashe_message messages[COUNT];
-static cukvashe_des des, quiet_des;
-static cukvashe_tdes_ede3 ede3, quiet_ede3;
+static cukvashe_des des, no_tables_des;
+static cukvashe_tdes_ede3 ede3, no_tables_ede3;
 static DES_key_schedule schedules[3];
 
 static void check(int status) {
@@ -144,22 +144,22 @@ static void rows_of_messages(void) {
 }
 
 /* Lists of few blocks, by contexts of one kind or the other, and by peers. */
-static void quick_ede3(void *state, size_t bytes) {
+static void with_tables_ede3(void *state, size_t bytes) {
   (void)state;
   check(cukvashe_tdes_ede3_decrypt_cbc(&ede3, vectors, list, bytes));
 }
 
-static void quiet_ede3_list(void *state, size_t bytes) {
+static void no_tables_ede3_list(void *state, size_t bytes) {
   (void)state;
-  check(cukvashe_tdes_ede3_decrypt_cbc(&quiet_ede3, vectors, list, bytes));
+  check(cukvashe_tdes_ede3_decrypt_cbc(&no_tables_ede3, vectors, list, bytes));
 }
 
-static void quiet_des_list(void *state, size_t bytes) {
+static void no_tables_des_list(void *state, size_t bytes) {
   (void)state;
-  check(cukvashe_des_decrypt_cbc(&quiet_des, vectors, list, bytes));
+  check(cukvashe_des_decrypt_cbc(&no_tables_des, vectors, list, bytes));
 }
 
-static void quick_des(void *state, size_t bytes) {
+static void with_tables_des(void *state, size_t bytes) {
   (void)state;
   check(cukvashe_des_decrypt_cbc(&des, vectors, list, bytes));
 }
@@ -200,9 +200,9 @@ static gcry_cipher_hd_t gcrypt_of(bool is_triple) {
 
 static void rows_of_few(const char *what, bool is_triple) {
   static const size_t sizes[] = {1, 3, 8, 16, 31, 40};
-  struct timed timed[] = {{"quick", is_triple ? quick_ede3 : quick_des, NULL, 0},
-                          {"quiet", is_triple ? quiet_ede3_list : quiet_des_list, NULL, 0},
-                          {"quick, one call for each block", is_triple ? blocks_one_by_one : des_one_by_one, NULL, 0},
+  struct timed timed[] = {{"with tables", is_triple ? with_tables_ede3 : with_tables_des, NULL, 0},
+                          {"without tables", is_triple ? no_tables_ede3_list : no_tables_des_list, NULL, 0},
+                          {"with tables, one call for each block", is_triple ? blocks_one_by_one : des_one_by_one, NULL, 0},
                           {"OpenSSL's own functions", is_triple ? openssl_ede3 : openssl_des, NULL, 0},
                           {"libgcrypt", NULL, NULL, 0}};
 #ifdef HAS_GCRYPT
@@ -296,8 +296,8 @@ static void prepare(void) {
   for (size_t part = 0; part < 3; part++) DES_set_key_unchecked(key_at(part), &schedules[part]);
   check(cukvashe_des_init(&des, keys, 8));
   check(cukvashe_tdes_ede3_init(&ede3, keys, 24));
-  check(cukvashe_des_init_quiet(&quiet_des, keys, 8));
-  check(cukvashe_tdes_ede3_init_quiet(&quiet_ede3, keys, 24));
+  check(cukvashe_des_init_no_tables(&no_tables_des, keys, 8));
+  check(cukvashe_tdes_ede3_init_no_tables(&no_tables_ede3, keys, 24));
 }
 
 int main(int count, char **words) {

@@ -37,10 +37,11 @@
  *
  * SECRETS AND TIME
  *
- * A context of init is quick, one of init_quiet is quiet; both answer alike, and a copy is of its kind. With a quick
- * one, MACs, CBC encryption, and ECB and CBC decryption of a list whose number of blocks modulo 128 is 1 to 31 read
- * tables at addresses that depend on the key and the data; with a quiet one no call does, and MACs, CBC encryption and
- * short lists take up to four times as long. Take quiet ones if others run programs on the processor.
+ * The calls of a context of init may read tables, those of one of init_no_tables read none; both answer alike, and a
+ * copy is of its kind. With tables, MACs, CBC encryption, and ECB and CBC decryption of a list whose number of blocks
+ * modulo 128 is 1 to 31 read them at addresses that depend on the key and the data; without tables no call does, and
+ * MACs, CBC encryption and short lists take up to four times as long. Take contexts without tables if others run
+ * programs on the processor.
  *
  * Other calls, and those of records, read none. Calls branch on lengths, on the status that they return, and on account
  * and key serial numbers, dates, codes, fill digits and decimalization tables, which are not secret here; on anything
@@ -55,8 +56,8 @@
  *     base, card, first, initial, issuer, key, keys, parts, password, pin, protection, session, terminal, transaction,
  *     translation
  *
- * Calls with a context, except init and init_quiet, do not: they may leave round keys and parts of blocks there. These
- * are given nothing of that kind:
+ * Calls with a context, except init and init_no_tables, do not: they may leave round keys and parts of blocks there.
+ * These are given nothing of that kind:
  *
  *     compare_tags, decimal_table_init, decimal_table_init_any, dukpt_is_usable, dukpt_next_serial, key_block_context,
  *     key_block_header, key_block_optional_block, pad, strerror, unpad, version, wipe
@@ -236,17 +237,17 @@ typedef struct {
 
 /*
  * int cukvashe_NAME_init(cukvashe_NAME *context, const uint8_t *key, size_t key_length)
- * int cukvashe_NAME_init_quiet(cukvashe_NAME *context, const uint8_t *key, size_t key_length)
+ * int cukvashe_NAME_init_no_tables(cukvashe_NAME *context, const uint8_t *key, size_t key_length)
  *
- * Makes the context of a key, quick or quiet (see SECRETS AND TIME). Parity bits, the lowest of each byte, are ignored.
- * Errors: CUKVASHE_ERR_KEY_LENGTH.
+ * Makes the context of a key, with or without tables (see SECRETS AND TIME). Parity bits, the lowest of each byte, are
+ * ignored. Errors: CUKVASHE_ERR_KEY_LENGTH.
  */
 CUKVASHE_CHECK int cukvashe_des_init(cukvashe_des *context, const uint8_t *key, size_t key_length);
 CUKVASHE_CHECK int cukvashe_tdes_ede2_init(cukvashe_tdes_ede2 *context, const uint8_t *key, size_t key_length);
 CUKVASHE_CHECK int cukvashe_tdes_ede3_init(cukvashe_tdes_ede3 *context, const uint8_t *key, size_t key_length);
-CUKVASHE_CHECK int cukvashe_des_init_quiet(cukvashe_des *context, const uint8_t *key, size_t key_length);
-CUKVASHE_CHECK int cukvashe_tdes_ede2_init_quiet(cukvashe_tdes_ede2 *context, const uint8_t *key, size_t key_length);
-CUKVASHE_CHECK int cukvashe_tdes_ede3_init_quiet(cukvashe_tdes_ede3 *context, const uint8_t *key, size_t key_length);
+CUKVASHE_CHECK int cukvashe_des_init_no_tables(cukvashe_des *context, const uint8_t *key, size_t key_length);
+CUKVASHE_CHECK int cukvashe_tdes_ede2_init_no_tables(cukvashe_tdes_ede2 *context, const uint8_t *key, size_t key_length);
+CUKVASHE_CHECK int cukvashe_tdes_ede3_init_no_tables(cukvashe_tdes_ede3 *context, const uint8_t *key, size_t key_length);
 
 /*
  * ECB
@@ -436,10 +437,11 @@ typedef struct {
 
 /*
  * int cukvashe_MAC_init(cukvashe_MAC *context, const uint8_t *key, size_t key_length, int method)
- * int cukvashe_MAC_init_quiet(cukvashe_MAC *context, const uint8_t *key, size_t key_length, int method)
+ * int cukvashe_MAC_init_no_tables(cukvashe_MAC *context, const uint8_t *key, size_t key_length, int method)
  *
- * Makes the context of a key and an empty message, quick or quiet. `method` is the sender's, CUKVASHE_MAC_PADDING_1 or
- * _2: the other one makes another tag. CMAC takes none. Errors: CUKVASHE_ERR_KEY_LENGTH, _PADDING_METHOD.
+ * Makes the context of a key and an empty message, with or without tables. `method` is the sender's,
+ * CUKVASHE_MAC_PADDING_1 or _2: the other one makes another tag. CMAC takes none. Errors: CUKVASHE_ERR_KEY_LENGTH,
+ * _PADDING_METHOD.
  */
 CUKVASHE_CHECK int cukvashe_cbc_mac_des_init(cukvashe_cbc_mac_des *context, const uint8_t *key, size_t key_length,
                                              int method);
@@ -453,18 +455,18 @@ CUKVASHE_CHECK int cukvashe_cmac_tdes_ede2_init(cukvashe_cmac_tdes_ede2 *context
                                                 size_t key_length);
 CUKVASHE_CHECK int cukvashe_cmac_tdes_ede3_init(cukvashe_cmac_tdes_ede3 *context, const uint8_t *key,
                                                 size_t key_length);
-CUKVASHE_CHECK int cukvashe_cbc_mac_des_init_quiet(cukvashe_cbc_mac_des *context, const uint8_t *key,
-                                                   size_t key_length, int method);
-CUKVASHE_CHECK int cukvashe_cbc_mac_tdes_ede2_init_quiet(cukvashe_cbc_mac_tdes_ede2 *context, const uint8_t *key,
-                                                         size_t key_length, int method);
-CUKVASHE_CHECK int cukvashe_cbc_mac_tdes_ede3_init_quiet(cukvashe_cbc_mac_tdes_ede3 *context, const uint8_t *key,
-                                                         size_t key_length, int method);
-CUKVASHE_CHECK int cukvashe_retail_mac_des_init_quiet(cukvashe_retail_mac_des *context, const uint8_t *key,
-                                                      size_t key_length, int method);
-CUKVASHE_CHECK int cukvashe_cmac_tdes_ede2_init_quiet(cukvashe_cmac_tdes_ede2 *context, const uint8_t *key,
-                                                      size_t key_length);
-CUKVASHE_CHECK int cukvashe_cmac_tdes_ede3_init_quiet(cukvashe_cmac_tdes_ede3 *context, const uint8_t *key,
-                                                      size_t key_length);
+CUKVASHE_CHECK int cukvashe_cbc_mac_des_init_no_tables(cukvashe_cbc_mac_des *context, const uint8_t *key,
+                                                       size_t key_length, int method);
+CUKVASHE_CHECK int cukvashe_cbc_mac_tdes_ede2_init_no_tables(cukvashe_cbc_mac_tdes_ede2 *context, const uint8_t *key,
+                                                             size_t key_length, int method);
+CUKVASHE_CHECK int cukvashe_cbc_mac_tdes_ede3_init_no_tables(cukvashe_cbc_mac_tdes_ede3 *context, const uint8_t *key,
+                                                             size_t key_length, int method);
+CUKVASHE_CHECK int cukvashe_retail_mac_des_init_no_tables(cukvashe_retail_mac_des *context, const uint8_t *key,
+                                                          size_t key_length, int method);
+CUKVASHE_CHECK int cukvashe_cmac_tdes_ede2_init_no_tables(cukvashe_cmac_tdes_ede2 *context, const uint8_t *key,
+                                                          size_t key_length);
+CUKVASHE_CHECK int cukvashe_cmac_tdes_ede3_init_no_tables(cukvashe_cmac_tdes_ede3 *context, const uint8_t *key,
+                                                          size_t key_length);
 
 /*
  * int cukvashe_MAC_update(cukvashe_MAC *context, const uint8_t *message, size_t length)
@@ -598,8 +600,9 @@ CUKVASHE_CHECK int cukvashe_compare_tags(const uint8_t *tags, size_t tags_length
  * int cukvashe_key_check_value(const uint8_t *key, size_t key_length, uint8_t value[3])
  * int cukvashe_short_key_check_value(const uint8_t *key, size_t key_length, uint8_t value[2])
  *
- * The check value of a key or component: the first three bytes of the block of zeros, encrypted under it by NAME, or by
- * the cipher of its length, 8, 16 or 24 bytes. `short` gives the first two. Errors: CUKVASHE_ERR_KEY_LENGTH.
+ * The key check value (KCV) of a key or component: the first three bytes of the block of zeros, encrypted under it by
+ * NAME, or by the cipher of its length, 8, 16 or 24 bytes. `short` gives the first two. Errors:
+ * CUKVASHE_ERR_KEY_LENGTH.
  *
  * int cukvashe_NAME_check_values(const uint8_t *keys, size_t keys_length, uint8_t *values, size_t values_length,
  *                                size_t count)
@@ -635,14 +638,15 @@ CUKVASHE_CHECK int cukvashe_combine_24(const uint8_t first[24], const uint8_t se
 /*
  * KEYS OF A TRANSACTION (DUKPT)
  *
- * DUKPT with triple DES (ANSI X9.24-1:2009), the host's side. Keys have 16 bytes, key serial numbers ten, of which the
- * last 21 bits are the transaction counter. Before a shorter one put bytes FF.
+ * DUKPT with triple DES (ANSI X9.24-1:2009), the host's side. Keys have 16 bytes, key serial numbers (KSN) ten, of
+ * which the last 21 bits are the transaction counter. Before a shorter one put bytes FF.
  *
- * initial_key makes a terminal's key from the base derivation key and any of the terminal's key serial numbers; the
- * counter plays no part. transaction_key makes the transaction's key from the initial key and the transaction's key
- * serial number. From that key, which encrypts nothing itself, pin_key makes the key of PIN blocks, mac_key and
- * data_key those that authenticate and encrypt data of the request or, if `is_response`, of the response. data_variant
- * leaves out the last step of data_key, as some terminals do: its key reveals the transaction's other keys.
+ * initial_key makes a terminal's initial key (IK, IPEK) from the base derivation key (BDK) and any of the terminal's
+ * key serial numbers; the counter plays no part. transaction_key makes the transaction's key from the initial key and
+ * the transaction's key serial number. From that key, which encrypts nothing itself, pin_key makes the key of PIN
+ * blocks, mac_key and data_key those that authenticate and encrypt data of the request or, if `is_response`, of the
+ * response. data_variant leaves out the last step of data_key, as some terminals do: its key reveals the transaction's
+ * other keys.
  *
  * transaction_keys_from_base takes the base derivation key, not the initial key, and writes for each of `count` key
  * serial numbers, one after the other, what transaction_key makes of initial_key. Errors: CUKVASHE_ERR_COUNTS if
@@ -671,8 +675,8 @@ CUKVASHE_CHECK int cukvashe_dukpt_next_serial(const uint8_t serial[10], uint8_t 
  * transaction and 21 future keys, which make the keys of all transactions to come: keep it secret. You may store its
  * bytes, and go on from them: store them before you use a key, or it is used twice.
  *
- * init makes the state from the initial key and any of the terminal's key serial numbers: the first transaction has
- * counter 1. next_key writes the next transaction's key serial number, and its key, that of
+ * init makes the state from the initial key (IK, IPEK) and any of the terminal's key serial numbers: the first
+ * transaction has counter 1. next_key writes the next transaction's key serial number, and its key, that of
  * cukvashe_dukpt_transaction_key, and clears it in the state. Errors: CUKVASHE_ERR_NO_SERIAL after the last
  * transaction, the 1,048,575th. A state without future keys, as one of zeros, has the same error.
  */
@@ -690,8 +694,8 @@ CUKVASHE_CHECK int cukvashe_dukpt_terminal_next_key(cukvashe_dukpt_terminal *ter
  * PIN BLOCKS
  *
  * PIN blocks (ISO 9564-1, formats 0 to 3), which are not encrypted here: that is one ECB call, and none for format 2,
- * which goes to a card in clear. A PIN is a text of 4 to 12 ASCII digits, an account number one of 8 to 19, the last
- * the check digit.
+ * which goes to a card in clear. A PIN is a text of 4 to 12 ASCII digits, an account number (PAN) one of 8 to 19, the
+ * last the check digit.
  *
  * `transaction` and `fill` are ten digits, one in a byte: 0 to 15 in `transaction`, 10 to 15 in `fill`. All ten are
  * checked; the block uses those it has room for, in order.
@@ -803,9 +807,10 @@ CUKVASHE_CHECK bool cukvashe_pin_offset_is_pin(const uint8_t *key, size_t key_le
 /*
  * CARD VERIFICATION VALUES
  *
- * Writes the card verification value, three ASCII digits, under a key pair, of an account number of 12 to 19 digits, an
- * expiry date of four, in the order that the issuer takes, and a service code of three: texts as those of PIN blocks.
- * Errors: CUKVASHE_ERR_ACCOUNT_LENGTH, _ACCOUNT_DIGIT, _EXPIRY_LENGTH, _EXPIRY_DIGIT, _SERVICE_LENGTH, _SERVICE_DIGIT.
+ * Writes the card verification value (CVV), three ASCII digits, under a key pair, of an account number of 12 to 19
+ * digits, an expiry date of four, in the order that the issuer takes, and a service code of three: texts as those of
+ * PIN blocks. Errors: CUKVASHE_ERR_ACCOUNT_LENGTH, _ACCOUNT_DIGIT, _EXPIRY_LENGTH, _EXPIRY_DIGIT, _SERVICE_LENGTH,
+ * _SERVICE_DIGIT.
  */
 CUKVASHE_CHECK int cukvashe_cvv(const uint8_t key[16], const char *account, size_t account_length, const char *expiry,
                                 size_t expiry_length, const char *service, size_t service_length, char value[4]);
@@ -815,20 +820,21 @@ CUKVASHE_CHECK int cukvashe_cvv(const uint8_t key[16], const char *account, size
  *
  * The issuer's side of EMV 4.3, Book 2, with triple DES. Keys have 16 bytes.
  *
- * card_key makes a card's key (A1.4.1, option A), with odd parity, from the issuer's key, an account number of 8 to 19
- * digits and a sequence number of two, `00` where the card has none: texts as those of PIN blocks. card_key_b is option
- * B (A1.4.2), which differs where the account number has more than sixteen digits: take it if the card scheme asks for
- * it. Errors: CUKVASHE_ERR_ACCOUNT_LENGTH, _ACCOUNT_DIGIT, _SEQUENCE_LENGTH, _SEQUENCE_DIGIT.
+ * card_key makes a card's key (A1.4.1, option A), with odd parity, from the issuer's master key (IMK), an account
+ * number (PAN) of 8 to 19 digits and a sequence number (PSN) of two, `00` where the card has none: texts as those of
+ * PIN blocks. card_key_b is option B (A1.4.2), which differs where the account number has more than sixteen digits:
+ * take it if the card scheme asks for it. Errors: CUKVASHE_ERR_ACCOUNT_LENGTH, _ACCOUNT_DIGIT, _SEQUENCE_LENGTH,
+ * _SEQUENCE_DIGIT.
  *
  * application_key makes the session key for application cryptograms from the card's key and the application transaction
- * counter; session_key that for other uses (A1.3), from eight bytes that are different for each session: for secure
- * messaging the application cryptogram. The third of them plays no part.
+ * counter (ATC); session_key that for other uses (A1.3), from eight bytes that are different for each session: for
+ * secure messaging the application cryptogram. The third of them plays no part.
  *
- * application_cryptogram writes the cryptogram of `length` bytes (8.1.2), of the data that the card scheme names: the
- * retail MAC with padding method 2 under the session key. To check one that a card sent, give the data to a context of
- * retail_mac_des, and ask cukvashe_retail_mac_des_is_tag.
+ * application_cryptogram writes the cryptogram (ARQC, TC or AAC) of `length` bytes (8.1.2), of the data that the card
+ * scheme names: the retail MAC with padding method 2 under the session key. To check one that a card sent, give the
+ * data to a context of retail_mac_des, and ask cukvashe_retail_mac_des_is_tag.
  *
- * response_1 writes the issuer's response by method 1 (8.2.1) to a cryptogram, with a response code of two ASCII
+ * response_1 writes the issuer's response (ARPC) by method 1 (8.2.1) to a cryptogram, with a response code of two ASCII
  * characters; response_2 that by method 2 (8.2.2), with a card status update of four bytes and `length` bytes of the
  * issuer's, at most 8. Errors: CUKVASHE_ERR_DATA_LENGTH.
  */

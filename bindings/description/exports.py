@@ -11,7 +11,7 @@ STRUCTS = {
     "HeaderText": "cukvashe_key_block_fields *{}",
     "TableText": "cukvashe_decimal_table *{}",
     "Terminal": "cukvashe_dukpt_terminal *{}",
-    "Message": "uint64_t {}[4]",
+    "MessageState": "uint64_t {}[4]",
 }
 
 

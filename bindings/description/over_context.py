@@ -20,7 +20,7 @@ class OverContext:
         self.call, self.names = call, [it.name for it in call.parameters]
         self.algorithm = next((word for name, word in ALGORITHMS.items() if kind.startswith(name)), None)
         self.words = header.structs[kind].words - (MESSAGE_WORDS if self.algorithm else 0)
-        name = call.name.removeprefix(f"{kind}_").removesuffix("_quiet")
+        name = call.name.removeprefix(f"{kind}_").removesuffix("_no_tables")
         self.export = exports.get(f"internal_{'mac_' if self.algorithm else ''}{name}")
         if self.export is None:
             raise Refused(f"cukvashe_{call.name} has no export in crates/des_c")
@@ -46,14 +46,14 @@ class OverContext:
         """What an argument of the export is given."""
         if name == "context":
             return ["context->words", str(self.words)]
-        if kind.endswith("Message"):
+        if kind.endswith("MessageState"):
             return [f"context->words + {self.words}"]
         if name == "algorithm":
             return [self.algorithm]
         if name == "padding":
             return [f"(uint32_t){self._taken('method')}" if "method" in self.names else "CUKVASHE_MAC_PADDING_2"]
-        if name == "quiet":
-            return ["true" if self.call.name.endswith("_quiet") else "false"]
+        if name == "no_tables":
+            return ["true" if self.call.name.endswith("_no_tables") else "false"]
         if kind == "usize":
             return [self._taken("length")]
         pointer = self._pointer(name)
@@ -66,7 +66,7 @@ class OverContext:
 
     def _pointer(self, name):
         """The call's argument of this name, else the next one whose name is none of the export's."""
-        named = [it for it, kind in self.export.pairs if not kind.endswith("Message")]
+        named = [it for it, kind in self.export.pairs if not kind.endswith("MessageState")]
         others = [it.name for it in self.call.parameters if it.type.is_pointer and it.name in self.left and it.name not in named]
         return self._taken(name if name in self.left else next(iter(others), name))
 

@@ -31,7 +31,7 @@ struct context {
 
 #define DEFINE_RUNS(NAME)                                                                                             \
   static int NAME##_init(union round_keys *keys, const uint8_t *key, size_t length, bool no_tables) {                 \
-    if (no_tables) return cukvashe_##NAME##_init_quiet(&keys->NAME, key, length);                                     \
+    if (no_tables) return cukvashe_##NAME##_init_no_tables(&keys->NAME, key, length);                                 \
     return cukvashe_##NAME##_init(&keys->NAME, key, length);                                                          \
   }                                                                                                                   \
   static int NAME##_ecb(struct context *context, uint8_t *data, size_t length) {                                      \

@@ -94,7 +94,7 @@ static bool ciphers_answer_as_known(const struct provider *provider) {
   for (size_t i = 0; i < sizeof key; i += BLOCK) memcpy(key + i, part, BLOCK);
   for (size_t i = 0; i < sizeof list; i += BLOCK) memcpy(list + i, answer, BLOCK);
   memcpy(block, text, BLOCK);
-  if ((provider->no_tables ? cukvashe_tdes_ede3_init_quiet : cukvashe_tdes_ede3_init)(&context, key, sizeof key) !=
+  if ((provider->no_tables ? cukvashe_tdes_ede3_init_no_tables : cukvashe_tdes_ede3_init)(&context, key, sizeof key) !=
           CUKVASHE_OK ||
       cukvashe_tdes_ede3_encrypt_ecb(&context, block, BLOCK) != CUKVASHE_OK || memcmp(block, answer, BLOCK) != 0 ||
       cukvashe_tdes_ede3_decrypt_ecb(&context, list, length) != CUKVASHE_OK)
@@ -110,7 +110,7 @@ static bool mac_answers_as_known(const struct provider *provider) {
   static const uint8_t answer[9] = "\xf1\xfb\xcf\x2a\x56\xd1\x9b\xa7";
   cukvashe_retail_mac_des context;
   uint8_t tag[CUKVASHE_TAG_SIZE];
-  if ((provider->no_tables ? cukvashe_retail_mac_des_init_quiet : cukvashe_retail_mac_des_init)(
+  if ((provider->no_tables ? cukvashe_retail_mac_des_init_no_tables : cukvashe_retail_mac_des_init)(
           &context, key, 16, CUKVASHE_MAC_PADDING_2) != CUKVASHE_OK)
     return false;
   return cukvashe_retail_mac_des_final(&context, tag) == CUKVASHE_OK && memcmp(tag, answer, sizeof tag) == 0;

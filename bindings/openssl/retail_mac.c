@@ -87,7 +87,7 @@ static int begin(struct context *context) {
   const struct provider *provider = context->provider;
   if (!context->has_key) return REFUSE(provider, PROV_R_NO_KEY_SET, NULL);
   if (context->method == 0) return REFUSE(provider, PROV_R_INVALID_PADDING_MODE, "set padding to 1 or 2");
-  if ((provider->no_tables ? cukvashe_retail_mac_des_init_quiet : cukvashe_retail_mac_des_init)(
+  if ((provider->no_tables ? cukvashe_retail_mac_des_init_no_tables : cukvashe_retail_mac_des_init)(
           &context->state, context->key, sizeof context->key, context->method) != CUKVASHE_OK)
     return REFUSE(provider, PROV_R_KEY_SETUP_FAILED, NULL);
   context->has_begun = true;

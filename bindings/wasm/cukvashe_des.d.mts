@@ -274,12 +274,12 @@ export function withOddParity(key: Uint8Array): Uint8Array;
  */
 export function equalButParity(first: Uint8Array, second: Uint8Array): boolean;
 /**
- * The check value of a key, three bytes: the first of the block of zeros encrypted. `cipher` is a class, as TdesEde2.
- * KeyLength.
+ * The check value (KCV) of a key, three bytes: the first of the block of zeros encrypted. `cipher` is a class, as
+ * TdesEde2. KeyLength.
  */
 export function checkValue(cipher: CipherClass, key: Uint8Array): Uint8Array;
 /**
- * The check value of a key or component of 8, 16 or 24 bytes, by DES or, where it is longer, triple DES (EDE).
+ * The check value (KCV) of a key or component of 8, 16 or 24 bytes, by DES or, where it is longer, triple DES (EDE).
  * KeyLength.
  */
 export function keyCheckValue(key: Uint8Array): Uint8Array;
@@ -290,7 +290,8 @@ export function combine(first: Uint8Array, second: Uint8Array, ...others: Uint8A
 
 // ---- Keys of a transaction: DUKPT with triple DES (ANSI X9.24-1:2009). Keys have 16 bytes, key serial numbers ten
 
-/** The initial key of a terminal, from the base derivation key and a key serial number. KeyLength, SerialLength. */
+/** The initial key (IK, IPEK) of a terminal, from the base derivation key (BDK) and a key serial number (KSN).
+ * KeyLength, SerialLength. */
 export function dukptInitialKey(base: Uint8Array, serial: Uint8Array): Uint8Array;
 /**
  * The key of a transaction, from the terminal's initial key, not the base derivation key, and the transaction's key
@@ -442,23 +443,23 @@ export function emvCardKeyB(issuer: Uint8Array, account: Digits, sequence: Digit
  */
 export function emvSessionKey(card: Uint8Array, block: Uint8Array): Uint8Array;
 /**
- * The session key for application cryptograms, by the application transaction counter, two bytes. KeyLength,
+ * The session key for application cryptograms, by the application transaction counter (ATC), two bytes. KeyLength,
  * DataLength.
  */
 export function emvApplicationKey(card: Uint8Array, counter: Uint8Array): Uint8Array;
 /**
- * The application cryptogram of data under a session key, 8 bytes. To check one that a card sent call new
- * RetailMacDes(session, 2, data).verify(cryptogram). KeyLength.
+ * The application cryptogram (ARQC, TC or AAC) of data under a session key, 8 bytes. To check one that a card sent call
+ * new RetailMacDes(session, 2, data).verify(cryptogram). KeyLength.
  */
 export function emvApplicationCryptogram(session: Uint8Array, data: Uint8Array): Uint8Array;
 /**
- * The issuer's response by method 1 to an application cryptogram, 8 bytes, with a response code of two bytes.
+ * The issuer's response (ARPC) by method 1 to an application cryptogram, 8 bytes, with a response code of two bytes.
  * KeyLength, BlockLength, DataLength.
  */
 export function emvResponse1(session: Uint8Array, cryptogram: Uint8Array, code: Uint8Array): Uint8Array;
 /**
- * The issuer's response by method 2, 4 bytes, with a card status update of four bytes and at most eight bytes of the
- * issuer's. Errors as of emvResponse1.
+ * The issuer's response (ARPC) by method 2, 4 bytes, with a card status update of four bytes and at most eight bytes of
+ * the issuer's. Errors as of emvResponse1.
  */
 export function emvResponse2(
   session: Uint8Array, cryptogram: Uint8Array, status: Uint8Array, data?: Uint8Array,
@@ -483,20 +484,21 @@ interface KeyBlockHeader {
   exportability: string;
 }
 /**
- * The header and the key of a key block of version A, B or C, under a protection key of 16 or 24 bytes. Look at the
- * header before you use the key. KeyBlockMac where the block was changed, or is under another key. ProtectionKeyLength,
- * KeyBlockLength, KeyBlockVersion, KeyBlockField, OptionalBlock, KeyDataLength, KeyBlockDigit, KeyLength.
+ * The header and the key of a key block of version A, B or C, under a protection key (KBPK) of 16 or 24 bytes. Look at
+ * the header before you use the key. KeyBlockMac where the block was changed, or is under another key.
+ * ProtectionKeyLength, KeyBlockLength, KeyBlockVersion, KeyBlockField, OptionalBlock, KeyDataLength, KeyBlockDigit,
+ * KeyLength.
  */
 export function unwrapKeyBlock(
   protection: Uint8Array, block: string | Uint8Array,
 ): { header: KeyBlockHeader; key: Uint8Array };
 /**
- * The key block of a key of 8, 16 or 24 bytes under a protection key of 16 or 24 bytes, of version B or C. `header` has
- * the fields that unwrapKeyBlock gives; no call compares them with the key's length. `optional` has pairs of a name of
- * two letters or digits and its content, printable ASCII, after which a block PB is added where they do not end at a
- * multiple of eight characters, and taken only as the last, where with it they do: OptionalBlock. `padding` is 6, 14 or
- * 22 random bytes that hide how long the key is: without it they come from the engine. KeyBlockVersion,
- * ProtectionKeyLength, KeyBlockField, KeyLength, PaddingLength, KeyBlockLength.
+ * The key block of a key of 8, 16 or 24 bytes under a protection key (KBPK) of 16 or 24 bytes, of version B or C.
+ * `header` has the fields that unwrapKeyBlock gives; no call compares them with the key's length. `optional` has pairs
+ * of a name of two letters or digits and its content, printable ASCII, after which a block PB is added where they do
+ * not end at a multiple of eight characters, and taken only as the last, where with it they do: OptionalBlock.
+ * `padding` is 6, 14 or 22 random bytes that hide how long the key is: without it they come from the engine.
+ * KeyBlockVersion, ProtectionKeyLength, KeyBlockField, KeyLength, PaddingLength, KeyBlockLength.
  */
 export function wrapKeyBlock(
   protection: Uint8Array, header: KeyBlockHeader, key: Uint8Array,

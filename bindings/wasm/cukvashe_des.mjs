@@ -724,8 +724,8 @@ function kindOf(Class, Base, what) {
   throw new TypeError(`${what}: a class is needed, such as ${Base === Cipher ? "TdesEde2" : "RetailMacDes"}`);
 }
 
-// The last word of the calls that make a context, of one that is not quiet.
-const QUICK = 0;
+// The last word of the calls that make a context, of one with tables.
+const WITH_TABLES = 0;
 
 class Keyed {
   close(...more) {
@@ -752,7 +752,7 @@ class Cipher extends Keyed {
     const size = 8 * kind.words;
     const context = inside((memory) => {
       const at = memory.room(size);
-      memory.call("internal_init", ...contextAt(kind, at), ...memory.list(held), QUICK);
+      memory.call("internal_init", ...contextAt(kind, at), ...memory.list(held), WITH_TABLES);
       return memory.taken(at, size);
     });
     keep(this, Cipher, kind, context);
@@ -880,7 +880,7 @@ function macContextOf(kind, key, padding, bytes) {
   const size = 8 * (kind.words + MESSAGE_WORDS);
   return inside((memory) => {
     const at = memory.room(size);
-    memory.call("internal_mac_init", ...contextAt(kind, at), ...memory.list(key), padding, QUICK);
+    memory.call("internal_mac_init", ...contextAt(kind, at), ...memory.list(key), padding, WITH_TABLES);
     memory.call("internal_mac_update", ...contextAt(kind, at), ...memory.list(bytes));
     return memory.taken(at, size);
   });

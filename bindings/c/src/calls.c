@@ -20,21 +20,21 @@ int cukvashe_tdes_ede3_init(cukvashe_tdes_ede3 *context, const uint8_t *key, siz
   return result;
 }
 
-int cukvashe_des_init_quiet(cukvashe_des *context, const uint8_t *key, size_t key_length) {
+int cukvashe_des_init_no_tables(cukvashe_des *context, const uint8_t *key, size_t key_length) {
   const int result = cukvashe_internal_init(context->words, 17, key, key_length, true);
-  cukvashe_internal_wipe_stack(STACK_des_init_quiet);
+  cukvashe_internal_wipe_stack(STACK_des_init_no_tables);
   return result;
 }
 
-int cukvashe_tdes_ede2_init_quiet(cukvashe_tdes_ede2 *context, const uint8_t *key, size_t key_length) {
+int cukvashe_tdes_ede2_init_no_tables(cukvashe_tdes_ede2 *context, const uint8_t *key, size_t key_length) {
   const int result = cukvashe_internal_init(context->words, 33, key, key_length, true);
-  cukvashe_internal_wipe_stack(STACK_tdes_ede2_init_quiet);
+  cukvashe_internal_wipe_stack(STACK_tdes_ede2_init_no_tables);
   return result;
 }
 
-int cukvashe_tdes_ede3_init_quiet(cukvashe_tdes_ede3 *context, const uint8_t *key, size_t key_length) {
+int cukvashe_tdes_ede3_init_no_tables(cukvashe_tdes_ede3 *context, const uint8_t *key, size_t key_length) {
   const int result = cukvashe_internal_init(context->words, 49, key, key_length, true);
-  cukvashe_internal_wipe_stack(STACK_tdes_ede3_init_quiet);
+  cukvashe_internal_wipe_stack(STACK_tdes_ede3_init_no_tables);
   return result;
 }
 
@@ -232,48 +232,49 @@ int cukvashe_cmac_tdes_ede3_init(cukvashe_cmac_tdes_ede3 *context, const uint8_t
   return result;
 }
 
-int cukvashe_cbc_mac_des_init_quiet(cukvashe_cbc_mac_des *context, const uint8_t *key, size_t key_length, int method) {
+int cukvashe_cbc_mac_des_init_no_tables(cukvashe_cbc_mac_des *context, const uint8_t *key, size_t key_length,
+    int method) {
   const int result = cukvashe_internal_mac_init(ALGORITHM_CBC_MAC, context->words, 17, context->words + 17, key,
     key_length, (uint32_t)method, true);
-  cukvashe_internal_wipe_stack(STACK_cbc_mac_des_init_quiet);
+  cukvashe_internal_wipe_stack(STACK_cbc_mac_des_init_no_tables);
   return result;
 }
 
-int cukvashe_cbc_mac_tdes_ede2_init_quiet(cukvashe_cbc_mac_tdes_ede2 *context, const uint8_t *key, size_t key_length,
-    int method) {
+int cukvashe_cbc_mac_tdes_ede2_init_no_tables(cukvashe_cbc_mac_tdes_ede2 *context, const uint8_t *key,
+    size_t key_length, int method) {
   const int result = cukvashe_internal_mac_init(ALGORITHM_CBC_MAC, context->words, 33, context->words + 33, key,
     key_length, (uint32_t)method, true);
-  cukvashe_internal_wipe_stack(STACK_cbc_mac_tdes_ede2_init_quiet);
+  cukvashe_internal_wipe_stack(STACK_cbc_mac_tdes_ede2_init_no_tables);
   return result;
 }
 
-int cukvashe_cbc_mac_tdes_ede3_init_quiet(cukvashe_cbc_mac_tdes_ede3 *context, const uint8_t *key, size_t key_length,
-    int method) {
+int cukvashe_cbc_mac_tdes_ede3_init_no_tables(cukvashe_cbc_mac_tdes_ede3 *context, const uint8_t *key,
+    size_t key_length, int method) {
   const int result = cukvashe_internal_mac_init(ALGORITHM_CBC_MAC, context->words, 49, context->words + 49, key,
     key_length, (uint32_t)method, true);
-  cukvashe_internal_wipe_stack(STACK_cbc_mac_tdes_ede3_init_quiet);
+  cukvashe_internal_wipe_stack(STACK_cbc_mac_tdes_ede3_init_no_tables);
   return result;
 }
 
-int cukvashe_retail_mac_des_init_quiet(cukvashe_retail_mac_des *context, const uint8_t *key, size_t key_length,
+int cukvashe_retail_mac_des_init_no_tables(cukvashe_retail_mac_des *context, const uint8_t *key, size_t key_length,
     int method) {
   const int result = cukvashe_internal_mac_init(ALGORITHM_RETAIL_MAC, context->words, 34, context->words + 34, key,
     key_length, (uint32_t)method, true);
-  cukvashe_internal_wipe_stack(STACK_retail_mac_des_init_quiet);
+  cukvashe_internal_wipe_stack(STACK_retail_mac_des_init_no_tables);
   return result;
 }
 
-int cukvashe_cmac_tdes_ede2_init_quiet(cukvashe_cmac_tdes_ede2 *context, const uint8_t *key, size_t key_length) {
+int cukvashe_cmac_tdes_ede2_init_no_tables(cukvashe_cmac_tdes_ede2 *context, const uint8_t *key, size_t key_length) {
   const int result = cukvashe_internal_mac_init(ALGORITHM_CMAC, context->words, 33, context->words + 33, key,
     key_length, CUKVASHE_MAC_PADDING_2, true);
-  cukvashe_internal_wipe_stack(STACK_cmac_tdes_ede2_init_quiet);
+  cukvashe_internal_wipe_stack(STACK_cmac_tdes_ede2_init_no_tables);
   return result;
 }
 
-int cukvashe_cmac_tdes_ede3_init_quiet(cukvashe_cmac_tdes_ede3 *context, const uint8_t *key, size_t key_length) {
+int cukvashe_cmac_tdes_ede3_init_no_tables(cukvashe_cmac_tdes_ede3 *context, const uint8_t *key, size_t key_length) {
   const int result = cukvashe_internal_mac_init(ALGORITHM_CMAC, context->words, 49, context->words + 49, key,
     key_length, CUKVASHE_MAC_PADDING_2, true);
-  cukvashe_internal_wipe_stack(STACK_cmac_tdes_ede3_init_quiet);
+  cukvashe_internal_wipe_stack(STACK_cmac_tdes_ede3_init_no_tables);
   return result;
 }
 

@@ -5,7 +5,8 @@
 
 #include <cukvashe_des.h>
 
-int cukvashe_internal_init(uint64_t *context, size_t context_count, const uint8_t *key, size_t key_count, bool quiet);
+int cukvashe_internal_init(uint64_t *context, size_t context_count, const uint8_t *key, size_t key_count,
+    bool no_tables);
 int cukvashe_internal_encrypt_cbc(const uint64_t *context, size_t context_count, uint8_t iv[8], uint8_t *blocks,
     size_t blocks_count, size_t size);
 int cukvashe_internal_encrypt_cbc_to(const uint64_t *context, size_t context_count, uint8_t iv[8], const uint8_t *input,
@@ -41,7 +42,7 @@ int cukvashe_internal_encrypt_cbc_records(const uint64_t *context, size_t contex
 int cukvashe_internal_decrypt_cbc_records(const uint64_t *context, size_t context_count, uint8_t *vectors,
     size_t vectors_count, const size_t *counts, size_t counts_count, uint8_t *blocks, size_t blocks_count, size_t size);
 int cukvashe_internal_mac_init(uint32_t algorithm, uint64_t *context, size_t context_count, uint64_t message[4],
-    const uint8_t *key, size_t key_count, uint32_t padding, bool quiet);
+    const uint8_t *key, size_t key_count, uint32_t padding, bool no_tables);
 int cukvashe_internal_mac_update(uint32_t algorithm, const uint64_t *context, size_t context_count, uint64_t message[4],
     const uint8_t *bytes, size_t bytes_count);
 int cukvashe_internal_mac_final(uint32_t algorithm, const uint64_t *context, size_t context_count,
@@ -158,9 +159,9 @@ enum {
   STACK_des_init = 5650,
   STACK_tdes_ede2_init = 5650,
   STACK_tdes_ede3_init = 5650,
-  STACK_des_init_quiet = 5650,
-  STACK_tdes_ede2_init_quiet = 5650,
-  STACK_tdes_ede3_init_quiet = 5650,
+  STACK_des_init_no_tables = 5650,
+  STACK_tdes_ede2_init_no_tables = 5650,
+  STACK_tdes_ede3_init_no_tables = 5650,
   STACK_des_encrypt_each = 26650,
   STACK_des_decrypt_each = 26650,
   STACK_tdes_ede2_encrypt_each = 26650,
@@ -176,12 +177,12 @@ enum {
   STACK_retail_mac_des_init = 5650,
   STACK_cmac_tdes_ede2_init = 5650,
   STACK_cmac_tdes_ede3_init = 5650,
-  STACK_cbc_mac_des_init_quiet = 5650,
-  STACK_cbc_mac_tdes_ede2_init_quiet = 5650,
-  STACK_cbc_mac_tdes_ede3_init_quiet = 5650,
-  STACK_retail_mac_des_init_quiet = 5650,
-  STACK_cmac_tdes_ede2_init_quiet = 5650,
-  STACK_cmac_tdes_ede3_init_quiet = 5650,
+  STACK_cbc_mac_des_init_no_tables = 5650,
+  STACK_cbc_mac_tdes_ede2_init_no_tables = 5650,
+  STACK_cbc_mac_tdes_ede3_init_no_tables = 5650,
+  STACK_retail_mac_des_init_no_tables = 5650,
+  STACK_cmac_tdes_ede2_init_no_tables = 5650,
+  STACK_cmac_tdes_ede3_init_no_tables = 5650,
   STACK_cbc_mac_des_macs = 44650,
   STACK_cbc_mac_des_macs_each = 44650,
   STACK_cbc_mac_tdes_ede2_macs = 44650,

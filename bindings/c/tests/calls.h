@@ -7,11 +7,11 @@ static void call_tdes_ede2_init(void) { returned = cukvashe_tdes_ede2_init((void
     CUKVASHE_TDES_EDE2_KEY_SIZE); }
 static void call_tdes_ede3_init(void) { returned = cukvashe_tdes_ede3_init((void *)contexts[2], key,
     CUKVASHE_TDES_EDE3_KEY_SIZE); }
-static void call_des_init_quiet(void) { returned = cukvashe_des_init_quiet((void *)contexts[0], key,
+static void call_des_init_no_tables(void) { returned = cukvashe_des_init_no_tables((void *)contexts[0], key,
     CUKVASHE_DES_KEY_SIZE); }
-static void call_tdes_ede2_init_quiet(void) { returned = cukvashe_tdes_ede2_init_quiet((void *)contexts[1], key,
+static void call_tdes_ede2_init_no_tables(void) { returned = cukvashe_tdes_ede2_init_no_tables((void *)contexts[1], key,
     CUKVASHE_TDES_EDE2_KEY_SIZE); }
-static void call_tdes_ede3_init_quiet(void) { returned = cukvashe_tdes_ede3_init_quiet((void *)contexts[2], key,
+static void call_tdes_ede3_init_no_tables(void) { returned = cukvashe_tdes_ede3_init_no_tables((void *)contexts[2], key,
     CUKVASHE_TDES_EDE3_KEY_SIZE); }
 static void call_des_encrypt_ecb(void) { returned = cukvashe_des_encrypt_ecb((void *)contexts[0], (void *)rooms[0],
     8 * count); }
@@ -103,17 +103,17 @@ static void call_cmac_tdes_ede2_init(void) { returned = cukvashe_cmac_tdes_ede2_
     CUKVASHE_CMAC_TDES_EDE2_KEY_SIZE); }
 static void call_cmac_tdes_ede3_init(void) { returned = cukvashe_cmac_tdes_ede3_init((void *)contexts[8], key,
     CUKVASHE_CMAC_TDES_EDE3_KEY_SIZE); }
-static void call_cbc_mac_des_init_quiet(void) { returned = cukvashe_cbc_mac_des_init_quiet((void *)contexts[3], key,
-    CUKVASHE_CBC_MAC_DES_KEY_SIZE, 1); }
-static void call_cbc_mac_tdes_ede2_init_quiet(void) { returned = cukvashe_cbc_mac_tdes_ede2_init_quiet((void *)contexts[4],
+static void call_cbc_mac_des_init_no_tables(void) { returned = cukvashe_cbc_mac_des_init_no_tables((void *)contexts[3],
+    key, CUKVASHE_CBC_MAC_DES_KEY_SIZE, 1); }
+static void call_cbc_mac_tdes_ede2_init_no_tables(void) { returned = cukvashe_cbc_mac_tdes_ede2_init_no_tables((void *)contexts[4],
     key, CUKVASHE_CBC_MAC_TDES_EDE2_KEY_SIZE, 1); }
-static void call_cbc_mac_tdes_ede3_init_quiet(void) { returned = cukvashe_cbc_mac_tdes_ede3_init_quiet((void *)contexts[5],
+static void call_cbc_mac_tdes_ede3_init_no_tables(void) { returned = cukvashe_cbc_mac_tdes_ede3_init_no_tables((void *)contexts[5],
     key, CUKVASHE_CBC_MAC_TDES_EDE3_KEY_SIZE, 1); }
-static void call_retail_mac_des_init_quiet(void) { returned = cukvashe_retail_mac_des_init_quiet((void *)contexts[6],
+static void call_retail_mac_des_init_no_tables(void) { returned = cukvashe_retail_mac_des_init_no_tables((void *)contexts[6],
     key, CUKVASHE_RETAIL_MAC_DES_KEY_SIZE, 1); }
-static void call_cmac_tdes_ede2_init_quiet(void) { returned = cukvashe_cmac_tdes_ede2_init_quiet((void *)contexts[7],
+static void call_cmac_tdes_ede2_init_no_tables(void) { returned = cukvashe_cmac_tdes_ede2_init_no_tables((void *)contexts[7],
     key, CUKVASHE_CMAC_TDES_EDE2_KEY_SIZE); }
-static void call_cmac_tdes_ede3_init_quiet(void) { returned = cukvashe_cmac_tdes_ede3_init_quiet((void *)contexts[8],
+static void call_cmac_tdes_ede3_init_no_tables(void) { returned = cukvashe_cmac_tdes_ede3_init_no_tables((void *)contexts[8],
     key, CUKVASHE_CMAC_TDES_EDE3_KEY_SIZE); }
 static void call_cbc_mac_des_update(void) { returned = cukvashe_cbc_mac_des_update((void *)contexts[3], blocks,
     8 * count); }
@@ -290,9 +290,9 @@ static const struct call calls[] = {
     {"des_init", call_des_init, 6000, 1, 0, 1},
     {"tdes_ede2_init", call_tdes_ede2_init, 6000, 1, 0, 1},
     {"tdes_ede3_init", call_tdes_ede3_init, 6000, 1, 0, 1},
-    {"des_init_quiet", call_des_init_quiet, 6000, 1, 0, 1},
-    {"tdes_ede2_init_quiet", call_tdes_ede2_init_quiet, 6000, 1, 0, 1},
-    {"tdes_ede3_init_quiet", call_tdes_ede3_init_quiet, 6000, 1, 0, 1},
+    {"des_init_no_tables", call_des_init_no_tables, 6000, 1, 0, 1},
+    {"tdes_ede2_init_no_tables", call_tdes_ede2_init_no_tables, 6000, 1, 0, 1},
+    {"tdes_ede3_init_no_tables", call_tdes_ede3_init_no_tables, 6000, 1, 0, 1},
     {"des_encrypt_ecb", call_des_encrypt_ecb, 27000, 0, 1, 1},
     {"des_decrypt_ecb", call_des_decrypt_ecb, 27000, 0, 1, 1},
     {"des_encrypt_ecb_to", call_des_encrypt_ecb_to, 27000, 0, 1, 1},
@@ -340,12 +340,12 @@ static const struct call calls[] = {
     {"retail_mac_des_init", call_retail_mac_des_init, 6000, 1, 0, 1},
     {"cmac_tdes_ede2_init", call_cmac_tdes_ede2_init, 6000, 1, 0, 1},
     {"cmac_tdes_ede3_init", call_cmac_tdes_ede3_init, 6000, 1, 0, 1},
-    {"cbc_mac_des_init_quiet", call_cbc_mac_des_init_quiet, 6000, 1, 0, 1},
-    {"cbc_mac_tdes_ede2_init_quiet", call_cbc_mac_tdes_ede2_init_quiet, 6000, 1, 0, 1},
-    {"cbc_mac_tdes_ede3_init_quiet", call_cbc_mac_tdes_ede3_init_quiet, 6000, 1, 0, 1},
-    {"retail_mac_des_init_quiet", call_retail_mac_des_init_quiet, 6000, 1, 0, 1},
-    {"cmac_tdes_ede2_init_quiet", call_cmac_tdes_ede2_init_quiet, 6000, 1, 0, 1},
-    {"cmac_tdes_ede3_init_quiet", call_cmac_tdes_ede3_init_quiet, 6000, 1, 0, 1},
+    {"cbc_mac_des_init_no_tables", call_cbc_mac_des_init_no_tables, 6000, 1, 0, 1},
+    {"cbc_mac_tdes_ede2_init_no_tables", call_cbc_mac_tdes_ede2_init_no_tables, 6000, 1, 0, 1},
+    {"cbc_mac_tdes_ede3_init_no_tables", call_cbc_mac_tdes_ede3_init_no_tables, 6000, 1, 0, 1},
+    {"retail_mac_des_init_no_tables", call_retail_mac_des_init_no_tables, 6000, 1, 0, 1},
+    {"cmac_tdes_ede2_init_no_tables", call_cmac_tdes_ede2_init_no_tables, 6000, 1, 0, 1},
+    {"cmac_tdes_ede3_init_no_tables", call_cmac_tdes_ede3_init_no_tables, 6000, 1, 0, 1},
     {"cbc_mac_des_update", call_cbc_mac_des_update, 6000, 0, 1, 1},
     {"cbc_mac_tdes_ede2_update", call_cbc_mac_tdes_ede2_update, 6000, 0, 1, 1},
     {"cbc_mac_tdes_ede3_update", call_cbc_mac_tdes_ede3_update, 6000, 0, 1, 1},

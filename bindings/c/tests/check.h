@@ -40,8 +40,8 @@ struct way {
   static int name##_init(union context *c, const uint8_t *key, size_t length) {                                       \
     return cukvashe_##name##_init(&c->name, key, length);                                                             \
   }                                                                                                                   \
-  static int name##_init_quiet(union context *c, const uint8_t *key, size_t length) {                                 \
-    return cukvashe_##name##_init_quiet(&c->name, key, length);                                                       \
+  static int name##_init_no_tables(union context *c, const uint8_t *key, size_t length) {                             \
+    return cukvashe_##name##_init_no_tables(&c->name, key, length);                                                   \
   }                                                                                                                   \
   static int name##_encrypt_ecb(const union context *c, uint8_t *data, size_t length) {                               \
     return cukvashe_##name##_encrypt_ecb(&c->name, data, length);                                                     \
@@ -151,14 +151,14 @@ struct cipher {
   const char *name;
   size_t key_size, context_size;
   int (*init)(union context *, const uint8_t *key, size_t length);
-  int (*init_quiet)(union context *, const uint8_t *key, size_t length);
+  int (*init_no_tables)(union context *, const uint8_t *key, size_t length);
   int (*check_value)(const uint8_t *key, size_t length, uint8_t *value);
   struct way ways[MOST_WAYS];
 };
 
 #define CIPHER(name, key_size)                                                                                        \
   {                                                                                                                   \
-    #name, key_size, sizeof(cukvashe_##name), name##_init, name##_init_quiet, cukvashe_##name##_check_value, WAYS(name)\
+    #name, key_size, sizeof(cukvashe_##name), name##_init, name##_init_no_tables, cukvashe_##name##_check_value, WAYS(name)\
   }
 
 enum { CIPHERS = 3, DES = 0, EDE2 = 1, EDE3 = 2 };

@@ -161,7 +161,7 @@ static size_t number;
     CHECK(sizeof NAME == 8 * WORDS);                                                                                  \
     CHECK(cukvashe_##NAME##_init(&NAME, base, 5) == STATUS);                                                          \
     WAS_WIPED("internal", "init", A(NAME.words), WORDS, A(base), 5, false);                                           \
-    CHECK(cukvashe_##NAME##_init_quiet(&NAME, base, 5) == STATUS);                                                    \
+    CHECK(cukvashe_##NAME##_init_no_tables(&NAME, base, 5) == STATUS);                                                \
     WAS_WIPED("internal", "init", A(NAME.words), WORDS, A(base), 5, true);                                            \
     CHECK(cukvashe_##NAME##_check_value(base, 5, output) == STATUS);                                                  \
     WAS_WIPED("internal", "check_value", KEY_SIZE, A(base), 5, A(output));                                            \
@@ -183,7 +183,7 @@ CIPHER(tdes_ede3, 49, 24)
     CHECK(sizeof NAME == 8 * (WORDS + 4));                                                                            \
     CHECK(cukvashe_##NAME##_init(&NAME, base, 5 __VA_ARGS__) == STATUS);                                              \
     WAS_WIPED("internal", "mac_init", ALGORITHM, context, WORDS, message, A(base), 5, METHOD, false);                 \
-    CHECK(cukvashe_##NAME##_init_quiet(&NAME, base, 5 __VA_ARGS__) == STATUS);                                        \
+    CHECK(cukvashe_##NAME##_init_no_tables(&NAME, base, 5 __VA_ARGS__) == STATUS);                                    \
     WAS_WIPED("internal", "mac_init", ALGORITHM, context, WORDS, message, A(base), 5, METHOD, true);                  \
     CHECK(cukvashe_##NAME##_update(&NAME, input, 6) == STATUS);                                                       \
     WAS("internal", "mac_update", ALGORITHM, context, WORDS, message, A(input), 6);                                   \

@@ -122,7 +122,7 @@ static void open_blocks(void) {
 static void planted(void) {
   uint8_t key[8] = {0}, block[8] = {0};
   cukvashe_des context;
-  CHECK(cukvashe_des_init_quiet(&context, key, 8) == CUKVASHE_OK);
+  CHECK(cukvashe_des_init_no_tables(&context, key, 8) == CUKVASHE_OK);
   for (size_t length = 0; length <= 8; length += 8) COUNT(0, CUKVASHE_OK, cukvashe_des_encrypt_ecb(&context, block, length));
 }
 

@@ -20,7 +20,7 @@ struct mac {
   const char *name;
   size_t key_size, context_size;
   int is_padded; /* whether `init` takes a padding method */
-  mac_init *init, *init_quiet;
+  mac_init *init, *init_no_tables;
   int (*update)(union mac_context *, const uint8_t *message, size_t length);
   int (*final)(const union mac_context *, uint8_t *tag);
   int (*verify)(const union mac_context *, const uint8_t *tag, size_t length);
@@ -51,22 +51,22 @@ struct mac {
   }
 #define MAC(name, key_size, is_padded)                                                             \
   {                                                                                                \
-    #name, key_size, sizeof(cukvashe_##name), is_padded, name##_init, name##_init_quiet,           \
+    #name, key_size, sizeof(cukvashe_##name), is_padded, name##_init, name##_init_no_tables,       \
         name##_update, name##_final, name##_verify, name##_is_tag                                  \
   }
 
 PADDED_INIT(cbc_mac_des, init)
-PADDED_INIT(cbc_mac_des, init_quiet)
+PADDED_INIT(cbc_mac_des, init_no_tables)
 PADDED_INIT(cbc_mac_tdes_ede2, init)
-PADDED_INIT(cbc_mac_tdes_ede2, init_quiet)
+PADDED_INIT(cbc_mac_tdes_ede2, init_no_tables)
 PADDED_INIT(cbc_mac_tdes_ede3, init)
-PADDED_INIT(cbc_mac_tdes_ede3, init_quiet)
+PADDED_INIT(cbc_mac_tdes_ede3, init_no_tables)
 PADDED_INIT(retail_mac_des, init)
-PADDED_INIT(retail_mac_des, init_quiet)
+PADDED_INIT(retail_mac_des, init_no_tables)
 INIT(cmac_tdes_ede2, init)
-INIT(cmac_tdes_ede2, init_quiet)
+INIT(cmac_tdes_ede2, init_no_tables)
 INIT(cmac_tdes_ede3, init)
-INIT(cmac_tdes_ede3, init_quiet)
+INIT(cmac_tdes_ede3, init_no_tables)
 DEFINE_MAC(cbc_mac_des)
 DEFINE_MAC(cbc_mac_tdes_ede2)
 DEFINE_MAC(cbc_mac_tdes_ede3)

@@ -1,7 +1,8 @@
 /* In the place of each export that C goes on to a function that notes what it is given. Made by bindings/describe. */
-int cukvashe_internal_init(uint64_t *context, size_t context_count, const uint8_t *key, size_t key_count, bool quiet) {
+int cukvashe_internal_init(uint64_t *context, size_t context_count, const uint8_t *key, size_t key_count,
+    bool no_tables) {
   return noted("internal init", ARGUMENTS((uintptr_t)context, (uintptr_t)context_count, (uintptr_t)key,
-    (uintptr_t)key_count, (uintptr_t)quiet));
+    (uintptr_t)key_count, (uintptr_t)no_tables));
 }
 int cukvashe_internal_encrypt_cbc(const uint64_t *context, size_t context_count, uint8_t iv[8], uint8_t *blocks,
     size_t blocks_count, size_t size) {
@@ -94,9 +95,9 @@ int cukvashe_internal_decrypt_cbc_records(const uint64_t *context, size_t contex
     (uintptr_t)blocks_count, (uintptr_t)size));
 }
 int cukvashe_internal_mac_init(uint32_t algorithm, uint64_t *context, size_t context_count, uint64_t message[4],
-    const uint8_t *key, size_t key_count, uint32_t padding, bool quiet) {
+    const uint8_t *key, size_t key_count, uint32_t padding, bool no_tables) {
   return noted("internal mac_init", ARGUMENTS((uintptr_t)algorithm, (uintptr_t)context, (uintptr_t)context_count,
-    (uintptr_t)message, (uintptr_t)key, (uintptr_t)key_count, (uintptr_t)padding, (uintptr_t)quiet));
+    (uintptr_t)message, (uintptr_t)key, (uintptr_t)key_count, (uintptr_t)padding, (uintptr_t)no_tables));
 }
 int cukvashe_internal_mac_update(uint32_t algorithm, const uint64_t *context, size_t context_count, uint64_t message[4],
     const uint8_t *bytes, size_t bytes_count) {

@@ -257,16 +257,16 @@ static size_t place_of(int type) {
 }
 
 /* A context of a type under a key, and zeros after it. */
-static void make(union memory *memory, int type, int is_quiet) {
+static void make(union memory *memory, int type, int has_no_tables) {
   uint8_t key[24];
   random_bytes(key, sizeof key);
   memset(memory, 0, sizeof *memory);
   if (type < CIPHERS) {
     const struct cipher *cipher = &ciphers[type];
-    CHECK((is_quiet ? cipher->init_quiet : cipher->init)(&memory->cipher, key, cipher->key_size) == CUKVASHE_OK);
+    CHECK((has_no_tables ? cipher->init_no_tables : cipher->init)(&memory->cipher, key, cipher->key_size) == CUKVASHE_OK);
   } else {
     const struct mac *mac = &macs[type - CIPHERS];
-    CHECK((is_quiet ? mac->init_quiet : mac->init)(&memory->mac, key, mac->key_size, CUKVASHE_MAC_PADDING_1) == CUKVASHE_OK);
+    CHECK((has_no_tables ? mac->init_no_tables : mac->init)(&memory->mac, key, mac->key_size, CUKVASHE_MAC_PADDING_1) == CUKVASHE_OK);
   }
 }
 
@@ -310,7 +310,7 @@ static void refuses(int type, const union memory *memory) {
 
 /* What no init wrote; a context of each other type; one of this type with the mark of another, or with a mark that is none. */
 static void refuses_contexts(int type) {
-  union memory memory, other, quiet;
+  union memory memory, other, no_tables;
   const size_t place = place_of(type);
   static const int paints[] = {0, 1, PAINT, 0xff};
   for (size_t i = 0; i < sizeof paints / sizeof *paints; i++) {
@@ -319,20 +319,20 @@ static void refuses_contexts(int type) {
   }
   random_bytes((uint8_t *)&memory, sizeof memory);
   refuses(type, &memory);
-  for (int is_quiet = 0; is_quiet < 2; is_quiet++) {
+  for (int has_no_tables = 0; has_no_tables < 2; has_no_tables++) {
     for (int stranger = 0; stranger < TYPES; stranger++) {
       if (stranger == type) continue;
-      make(&other, stranger, is_quiet);
+      make(&other, stranger, has_no_tables);
       refuses(type, &other);
-      make(&memory, type, is_quiet);
+      make(&memory, type, has_no_tables);
       memory.words[place] = other.words[place_of(stranger)];
       refuses(type, &memory);
     }
-    make(&memory, type, is_quiet);
-    make(&quiet, type, !is_quiet);
+    make(&memory, type, has_no_tables);
+    make(&no_tables, type, !has_no_tables);
     for (int bit = 0; bit < 64; bit++) {
       memory.words[place] ^= (uint64_t)1 << bit;
-      if (memory.words[place] != quiet.words[place]) refuses(type, &memory);
+      if (memory.words[place] != no_tables.words[place]) refuses(type, &memory);
       memory.words[place] ^= (uint64_t)1 << bit;
     }
   }

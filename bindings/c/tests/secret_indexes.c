@@ -1,7 +1,7 @@
 /*
  * Under valgrind, with keys, vectors and data marked undefined: memcheck reports where an index or a branch depends on them.
  * `secret_indexes calls` runs the calls that must give no report; each other word runs one that must give one: `short`, a list that
- * goes by tables, and `rest`, a list whose rest does, `chain` and `message`, of quick contexts, which all read them so; `pin`, which
+ * goes by tables, and `rest`, a list whose rest does, `chain` and `message`, of contexts with tables, which all read them so; `pin`, which
  * branches on whether all characters of a PIN are digits; `translation`, on whether a PIN block is right; `block`, on whether a MAC is;
  * `key`, where it is right, on the length of the key too; `file`, on the padding of what is opened under a password; `verification`, on
  * whether a PIN is right; and `planted`, a lookup here.
@@ -69,12 +69,12 @@ static void verifies(const struct mac *mac) {
   CHECK(is_status(mac->is_tag(&context, tag, sizeof tag), false));
 }
 
-/* Every call of quiet contexts, of lists of any length. */
-static void quiet_calls_of(const struct cipher *cipher) {
+/* Every call of contexts without tables, of lists of any length. */
+static void calls_without_tables_of(const struct cipher *cipher) {
   static const size_t few[] = {1, 2, 3, 4, 5, 6, 7, 8, 9, 10, 11, 12, 20, 40, 257};
   union context context;
   hide(key, sizeof key);
-  CHECK(cipher->init_quiet(&context, key, cipher->key_size) == CUKVASHE_OK);
+  CHECK(cipher->init_no_tables(&context, key, cipher->key_size) == CUKVASHE_OK);
   for (int n = 0; n < count_of_ways(); n++) {
     const struct way *way = &cipher->ways[n];
     for (size_t i = 0; i < sizeof few / sizeof *few; i++) {
@@ -94,12 +94,12 @@ static void quiet_calls_of(const struct cipher *cipher) {
 }
 
 /* A message in pieces. Its length is no secret. */
-static void quiet_message(const struct mac *mac, int method) {
+static void message_without_tables(const struct mac *mac, int method) {
   union mac_context context;
   uint8_t tag[8];
   hide(key, sizeof key);
   hide(data, sizeof data);
-  CHECK(mac->init_quiet(&context, key, mac->key_size, method) == CUKVASHE_OK);
+  CHECK(mac->init_no_tables(&context, key, mac->key_size, method) == CUKVASHE_OK);
   for (size_t length = 0; length < 20; length++) {
     CHECK(mac->update(&context, data, length) == CUKVASHE_OK);
     CHECK(mac->final(&context, tag) == CUKVASHE_OK);
@@ -151,7 +151,7 @@ static void records_and_messages(uint8_t *keys, size_t count) {
   RECORDS(des, init, 8);
   RECORDS(tdes_ede2, init, 16);
   RECORDS(tdes_ede3, init, 24);
-  RECORDS(tdes_ede3, init_quiet, 24);
+  RECORDS(tdes_ede3, init_no_tables, 24);
   CHECK(cukvashe_cbc_mac_des_macs(keys, 8, CUKVASHE_MAC_PADDING_1, messages, other, 8 * count, count) == CUKVASHE_OK);
   CHECK(cukvashe_cbc_mac_tdes_ede2_macs(keys, 16, CUKVASHE_MAC_PADDING_2, messages, other, 8 * count, count) == CUKVASHE_OK);
   CHECK(cukvashe_cbc_mac_tdes_ede3_macs(keys, 24, CUKVASHE_MAC_PADDING_1, messages, other, 8 * count, count) == CUKVASHE_OK);
@@ -347,7 +347,7 @@ static size_t make_file(int cipher, const struct derivation *by, size_t blocks, 
     CHECK(cukvashe_bytes_to_key(by->hash, key, PASSWORD, data + 8, 8, both, size + 8) == CUKVASHE_OK);
   else
     CHECK(cukvashe_pbkdf2(by->hash, by->iterations, key, PASSWORD, data + 8, 8, both, size + 8) == CUKVASHE_OK);
-  CHECK(ciphers[cipher].init_quiet(&context, both, size) == CUKVASHE_OK);
+  CHECK(ciphers[cipher].init_no_tables(&context, both, size) == CUKVASHE_OK);
   CHECK(ciphers[cipher].ways[0].encrypt_cbc(&context, both + size, data + 16, length) == CUKVASHE_OK);
   return 16 + length;
 }
@@ -426,7 +426,7 @@ static void make_pin_block(int format, size_t digits, const char *account, bool 
     CHECK(cukvashe_pin_encode_3(pin, digits, account, 12, fill, block) == CUKVASHE_OK);
   if (!is_right && digits % 2) block[1] |= 0xf0;
   if (!is_right && digits % 2 == 0) block[0] ^= 0x70;
-  CHECK(cukvashe_tdes_ede2_init_quiet(&cipher, key, 16) == CUKVASHE_OK);
+  CHECK(cukvashe_tdes_ede2_init_no_tables(&cipher, key, 16) == CUKVASHE_OK);
   CHECK(cukvashe_tdes_ede2_encrypt_ecb(&cipher, block, 8) == CUKVASHE_OK);
 }
 
@@ -556,9 +556,9 @@ int main(int count, char **words) {
   CHECK(count == 2);
   if (strcmp(words[1], "calls") == 0) {
     for (int n = 0; n < CIPHERS; n++) calls_of(&ciphers[n]);
-    for (int n = 0; n < CIPHERS; n++) quiet_calls_of(&ciphers[n]);
+    for (int n = 0; n < CIPHERS; n++) calls_without_tables_of(&ciphers[n]);
     for (int n = 0; n < MACS; n++) verifies(&macs[n]);
-    for (int n = 0; n < 2 * MACS; n++) quiet_message(&macs[n / 2], n % 2 + 1);
+    for (int n = 0; n < 2 * MACS; n++) message_without_tables(&macs[n / 2], n % 2 + 1);
     others();
     calls_of_one_key();
     transactions_of_a_terminal();

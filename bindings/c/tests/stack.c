@@ -151,7 +151,7 @@ static void measure_all(const char *init, bool with_contexts) {
     if (ends_with(&calls[i], init)) measure(&calls[i]);
   for (size_t i = 0; i < sizeof calls / sizeof *calls; i++) {
     const struct call *call = &calls[i];
-    if (call->takes_context != with_contexts || ends_with(call, "_init") || ends_with(call, "_init_quiet")) continue;
+    if (call->takes_context != with_contexts || ends_with(call, "_init") || ends_with(call, "_init_no_tables")) continue;
     if (ends_with(call, "_open_salted")) measure_file(call);
     else if (call->is_list) measure_lists(call);
     else measure(call);
@@ -173,8 +173,8 @@ static void run_way(void) {
 static void measure_ways(void) {
   static const struct call of_way = {"a call of one width", run_way, 27000, false, true, true};
   for (int cipher = 0; cipher < CIPHERS; cipher++)
-    for (int quiet = 0; quiet < 2; quiet++) {
-      CHECK((quiet ? ciphers[cipher].init_quiet : ciphers[cipher].init)(&forced, key, ciphers[cipher].key_size) == CUKVASHE_OK);
+    for (int no_tables = 0; no_tables < 2; no_tables++) {
+      CHECK((no_tables ? ciphers[cipher].init_no_tables : ciphers[cipher].init)(&forced, key, ciphers[cipher].key_size) == CUKVASHE_OK);
       for (int i = 0; i < count_of_ways(); i++) {
         way = &ciphers[cipher].ways[i];
         measure_lists(&of_way);
@@ -232,7 +232,7 @@ int main(void) {
   measure_ways();
   for (int way = 1; way < 3; way++) {
     make_key_block(way);
-    measure_all(way == 1 ? "_init" : "_init_quiet", true);
+    measure_all(way == 1 ? "_init" : "_init_no_tables", true);
     measure_all("_init", false);
   }
   CHECK(most > 40000);

@@ -12,8 +12,8 @@ void spread_des_decrypt_cbc(const uint8_t *key, const uint8_t *iv, uint8_t *bloc
 void spread_tdes_ede3_encrypt(const uint8_t *key, uint8_t *blocks, size_t count);
 void spread_tdes_ede3_decrypt(const uint8_t *key, uint8_t *blocks, size_t count);
 void spread_tdes_ede3_decrypt_cbc(const uint8_t *key, const uint8_t *iv, uint8_t *blocks, size_t count);
-void quiet_des(const uint8_t *key, uint8_t *blocks, size_t count);
-void quiet_tdes_ede3(const uint8_t *key, uint8_t *blocks, size_t count);
+void no_tables_des(const uint8_t *key, uint8_t *blocks, size_t count);
+void no_tables_tdes_ede3(const uint8_t *key, uint8_t *blocks, size_t count);
 void many_des(const uint8_t *key, const uint8_t *iv, uint8_t *blocks, size_t count);
 void many_tdes_ede3(const uint8_t *key, const uint8_t *iv, uint8_t *blocks, size_t count);
 
@@ -30,8 +30,8 @@ int main(int arguments, char **words) {
     spread_tdes_ede3_encrypt(key, blocks, counts[i]);
     spread_tdes_ede3_decrypt(key, blocks, counts[i]);
     spread_tdes_ede3_decrypt_cbc(key, vector, blocks, counts[i]);
-    quiet_des(key, blocks, counts[i]);
-    quiet_tdes_ede3(key, blocks, counts[i]);
+    no_tables_des(key, blocks, counts[i]);
+    no_tables_tdes_ede3(key, blocks, counts[i]);
   }
   for (size_t count = 0; count <= 12; count++) {
     many_des(key, vector, blocks, count);

@@ -35,7 +35,7 @@ __attribute__((noinline)) static void calls(void) {
                                                  .header = {'B', "P0", 'T', 'E', "00", 'E'}, .key = key, .key_length = sizeof key,
                                                  .padding = data, .padding_length = 6};
   static char block[CUKVASHE_KEY_BLOCK_SIZE];
-  static cukvashe_tdes_ede3 context, quiet;
+  static cukvashe_tdes_ede3 context, no_tables;
   static size_t size;
   is_within = 1;
   raise(SIGTRAP);
@@ -46,8 +46,8 @@ __attribute__((noinline)) static void calls(void) {
       /* By each width: the longer list is for wider vectors, where the processor has them. */
       cukvashe_tdes_ede3_decrypt_ecb(&context, data, 8 * 130) == CUKVASHE_OK &&
       cukvashe_tdes_ede3_decrypt_ecb(&context, data, sizeof data) == CUKVASHE_OK &&
-      cukvashe_tdes_ede3_init_quiet(&quiet, key, sizeof key) == CUKVASHE_OK &&
-      cukvashe_tdes_ede3_encrypt_ecb(&quiet, data, 8) == CUKVASHE_OK &&
+      cukvashe_tdes_ede3_init_no_tables(&no_tables, key, sizeof key) == CUKVASHE_OK &&
+      cukvashe_tdes_ede3_encrypt_ecb(&no_tables, data, 8) == CUKVASHE_OK &&
       cukvashe_key_block_wrap(&parts, block, sizeof block, &size) == CUKVASHE_OK &&
       cukvashe_pbkdf2(CUKVASHE_SHA256, 1, key, sizeof key, data, 8, tag, sizeof tag) == CUKVASHE_OK;
   is_within = 0;

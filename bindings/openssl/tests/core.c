@@ -207,7 +207,7 @@ static void tells_of_itself(void) {
 
 /* ---- A wrong library ---- */
 
-enum call { NONE, INIT, INIT_QUIET, ENCRYPT, DECRYPT, MAC_INIT, MAC_INIT_QUIET, MAC_FINAL };
+enum call { NONE, INIT, INIT_NO_TABLES, ENCRYPT, DECRYPT, MAC_INIT, MAC_INIT_NO_TABLES, MAC_FINAL };
 
 enum { STATUS = -1 };
 
@@ -245,11 +245,11 @@ static void spoil(enum call call, uint8_t *answer, size_t length) {
   }
 
 WRAP_INIT(tdes_ede3_init, INIT)
-WRAP_INIT(tdes_ede3_init_quiet, INIT_QUIET)
+WRAP_INIT(tdes_ede3_init_no_tables, INIT_NO_TABLES)
 WRAP_ECB(tdes_ede3_encrypt_ecb, ENCRYPT)
 WRAP_ECB(tdes_ede3_decrypt_ecb, DECRYPT)
 WRAP_MAC_INIT(retail_mac_des_init, MAC_INIT)
-WRAP_MAC_INIT(retail_mac_des_init_quiet, MAC_INIT_QUIET)
+WRAP_MAC_INIT(retail_mac_des_init_no_tables, MAC_INIT_NO_TABLES)
 
 WRAP(int, retail_mac_des_final, const cukvashe_retail_mac_des *context, uint8_t tag[8]) {
   const int status = __real_cukvashe_retail_mac_des_final(context, tag);
@@ -287,11 +287,11 @@ static bool is_seen(enum call call, int place) {
 static void tests_itself(void) {
   enum { NARROW = 128 * BLOCK };
   for (int set = 0; set < 4; set++) {
-    const bool is_quiet = set & 1, is_small = set & 2;
-    no_tables = is_quiet ? "yes" : NULL;
+    const bool has_no_tables = set & 1, is_small = set & 2;
+    no_tables = has_no_tables ? "yes" : NULL;
     small_stack = is_small ? "yes" : NULL;
-    CHECK(is_seen(INIT, STATUS) == !is_quiet && is_seen(INIT_QUIET, STATUS) == is_quiet);
-    CHECK(is_seen(MAC_INIT, STATUS) == !is_quiet && is_seen(MAC_INIT_QUIET, STATUS) == is_quiet);
+    CHECK(is_seen(INIT, STATUS) == !has_no_tables && is_seen(INIT_NO_TABLES, STATUS) == has_no_tables);
+    CHECK(is_seen(MAC_INIT, STATUS) == !has_no_tables && is_seen(MAC_INIT_NO_TABLES, STATUS) == has_no_tables);
     CHECK(is_seen(ENCRYPT, STATUS) && is_seen(DECRYPT, STATUS) && is_seen(MAC_FINAL, STATUS));
     for (int place = 0; place < BLOCK; place++) CHECK(is_seen(ENCRYPT, place) && is_seen(MAC_FINAL, place));
     for (int place = 0; place < NARROW; place++) CHECK(is_seen(DECRYPT, place));

@@ -18,7 +18,7 @@ Messages are authenticated by objects as those of `hmac`, with `update`, `digest
     mac.update(message)
     mac.verify(tag)                                # TagMismatchError if it is not the whole tag
 
-`TdesEde3(key, quiet=True)`, and so each cipher and MAC, makes the library read no tables at addresses that depend on the key or
+`TdesEde3(key, no_tables=True)`, and so each cipher and MAC, makes the library read no tables at addresses that depend on the key or
 the data, which other programs on the processor could learn. That is tested of the library on x86-64, not of this package.
 
 `check_value` and `combine` make check values and keys of components, the calls named `dukpt_` the keys of a transaction, and

@@ -31,8 +31,8 @@ def vectors_by_name(call: _Call) -> _Call:
 
 
 class Cipher(Keyed):
-    """A block cipher under one key, which threads may share: what Des, TdesEde2 and TdesEde3 have in common, for annotations. A quiet
-    one reads no tables at addresses that depend on the key or the data, and takes up to four times as long. KeyLengthError."""
+    """A block cipher under one key, which threads may share: what Des, TdesEde2 and TdesEde3 have in common, for annotations. One without
+    tables reads none at addresses that depend on the key or the data, and takes up to four times as long. KeyLengthError."""
 
     __slots__ = ()
 
@@ -40,8 +40,8 @@ class Cipher(Keyed):
     key_size: ClassVar[int] = 0
     block_size: ClassVar[int] = BLOCK_SIZE
 
-    def __init__(self, key: ReadableBuffer, *, quiet: bool = False) -> None:
-        self._context = class_of(type(self)).context_of(key, quiet)
+    def __init__(self, key: ReadableBuffer, *, no_tables: bool = False) -> None:
+        self._context = class_of(type(self)).context_of(key, no_tables)
 
     def encrypt_ecb(self, data: ReadableBuffer) -> bytes:
         """The data, each block of 8 bytes encrypted by itself. BlockLengthError where they are not whole blocks."""

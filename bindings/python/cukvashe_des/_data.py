@@ -252,11 +252,11 @@ class Kind:
         self.context.kind = self
         self.calls = {call[len(name) + 1 :]: function(call) for call in CALLS if call.startswith(name + "_")}
 
-    def context_of(self, key: ReadableBuffer, quiet: bool, *padding: int) -> Any:
+    def context_of(self, key: ReadableBuffer, no_tables: bool, *padding: int) -> Any:
         """The context of a key."""
         context = self.context()
         with key_of(key, self.key_size) as held:
-            check(self.calls["init_quiet" if quiet else "init"](context, held, len(held), *padding))
+            check(self.calls["init_no_tables" if no_tables else "init"](context, held, len(held), *padding))
         return context
 
 

@@ -33,9 +33,9 @@ def _made_by(option: Callable[..., Any], issuer: ReadableBuffer, account: Text, 
 
 
 def emv_card_key(issuer: ReadableBuffer, account: Text, sequence: Text) -> bytes:
-    """The key of a card (option A), with odd parity, from the issuer's key, an account number of 8 to 19 digits and a sequence
-    number of two, as str or bytes of digits: "00" where the card has none. KeyLengthError, AccountLengthError, AccountDigitError,
-    SequenceLengthError, SequenceDigitError."""
+    """The key of a card (option A), with odd parity, from the issuer's master key (IMK), an account number (PAN) of 8 to 19 digits and a
+    sequence number (PSN) of two, as str or bytes of digits: "00" where the card has none. KeyLengthError, AccountLengthError,
+    AccountDigitError, SequenceLengthError, SequenceDigitError."""
     return _made_by(_card_key, issuer, account, sequence)
 
 
@@ -52,13 +52,13 @@ def emv_session_key(card: ReadableBuffer, block: ReadableBuffer) -> bytes:
 
 
 def emv_application_key(card: ReadableBuffer, counter: ReadableBuffer) -> bytes:
-    """The session key for application cryptograms, by the application transaction counter, two bytes. KeyLengthError,
+    """The session key for application cryptograms, by the application transaction counter (ATC), two bytes. KeyLengthError,
     DataLengthError."""
     return made_of_key(_application_key, card, data_of(counter, 2, "a transaction counter has", DataLengthError))
 
 
 def emv_application_cryptogram(session: ReadableBuffer, data: ReadableBuffer) -> bytes:
-    """The application cryptogram of data under a session key, 8 bytes. To check one that a card sent call
+    """The application cryptogram (ARQC, TC or AAC) of data under a session key, 8 bytes. To check one that a card sent call
     RetailMacDes(session, 2, data).verify(cryptogram), and do not compare by ==. KeyLengthError."""
     cryptogram, taken = room(BLOCK_SIZE), bytes_of(data)
     with key_of(session, 16) as held:
@@ -67,7 +67,7 @@ def emv_application_cryptogram(session: ReadableBuffer, data: ReadableBuffer) ->
 
 
 def emv_response_1(session: ReadableBuffer, cryptogram: ReadableBuffer, code: ReadableBuffer) -> bytes:
-    """The issuer's response by method 1 to an application cryptogram, 8 bytes, with a response code of two bytes, as b"00".
+    """The issuer's response (ARPC) by method 1 to an application cryptogram, 8 bytes, with a response code of two bytes, as b"00".
     KeyLengthError; BlockLengthError for another cryptogram, DataLengthError for another code."""
     request, word = _cryptogram_of(cryptogram), data_of(code, 2, "a response code has", DataLengthError)
     response = room(BLOCK_SIZE)
@@ -79,7 +79,7 @@ def emv_response_1(session: ReadableBuffer, cryptogram: ReadableBuffer, code: Re
 def emv_response_2(
     session: ReadableBuffer, cryptogram: ReadableBuffer, status: ReadableBuffer, data: ReadableBuffer = b""
 ) -> bytes:
-    """The issuer's response by method 2, 4 bytes, with a card status update of four bytes and at most eight of the issuer's.
+    """The issuer's response (ARPC) by method 2, 4 bytes, with a card status update of four bytes and at most eight of the issuer's.
     KeyLengthError; BlockLengthError for another cryptogram, DataLengthError for another status or more data."""
     request, word = _cryptogram_of(cryptogram), data_of(status, 4, "a card status update has", DataLengthError)
     response, taken = room(4), bytes_of(data)

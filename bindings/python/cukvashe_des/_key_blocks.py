@@ -1,4 +1,4 @@
-"""Key blocks (ANSI X9.143, ASC X9 TR-31): a key with what it is for, encrypted and authenticated under a protection key."""
+"""Key blocks (ANSI X9.143, ASC X9 TR-31): a key with what it is for, encrypted and authenticated under a protection key (KBPK)."""
 
 from __future__ import annotations
 
@@ -113,10 +113,10 @@ def _checked(status: int, protection: Any, key: Any = ()) -> None:
 
 
 def unwrap_key_block(protection: ReadableBuffer, block: Text) -> Tuple[KeyBlockHeader, bytes]:
-    """The header and the key, 8, 16 or 24 bytes, of a key block of version A, B or C, as str or bytes, under a protection key of 16
+    """The header and the key, 8, 16 or 24 bytes, of a key block of version A, B or C, as str or bytes, under a protection key (KBPK) of 16
     or 24 bytes. Look at the header before you use the key. ProtectionKeyLengthError, KeyBlockLengthError, KeyBlockVersionError,
-    KeyBlockFieldError, OptionalBlockError, KeyDataLengthError, KeyBlockDigitError, KeyLengthError; KeyBlockMacError if the block
-    was changed, or is under another key."""
+    KeyBlockFieldError, OptionalBlockError, KeyDataLengthError, KeyBlockDigitError, KeyLengthError; KeyBlockMacError if the block was
+    changed, or is under another key."""
     text, fields, key, length = _block_of(block), room(_FIELDS_SIZE), room(_KEY_SIZE), SIZE()
     with secret_of(no_text(protection)) as held:
         _checked(_unwrap(*held, text, len(text), fields, key, ctypes.byref(length)), held[0])
@@ -131,7 +131,7 @@ def wrap_key_block(
     optional: OptionalBlocks = (),
     padding: Optional[ReadableBuffer] = None,
 ) -> str:
-    """The key block of a key of 8, 16 or 24 bytes under a protection key of 16 or 24 bytes, of version B or C. Optional blocks are
+    """The key block of a key of 8, 16 or 24 bytes under a protection key (KBPK) of 16 or 24 bytes, of version B or C. Optional blocks are
     pairs of a name of two letters or digits and its content, printable ASCII without a length. A block PB is added where they do
     not end at a multiple of eight characters; one of yours is taken only as the last, where with it they do. The padding is random
     bytes that hide how long the key is, or those that are given: 6, 14 or 22, with the key at most 30. KeyBlockVersionError,

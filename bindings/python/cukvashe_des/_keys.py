@@ -53,7 +53,7 @@ def equal_but_parity(first: ReadableBuffer, second: ReadableBuffer) -> bool:
 
 
 def check_value(cipher: Type[Cipher], key: ReadableBuffer) -> bytes:
-    """The check value of a key: three bytes, the first of the encrypted block of zeros. `cipher` is a class, as Des.
+    """The check value (KCV) of a key: three bytes, the first of the encrypted block of zeros. `cipher` is a class, as Des.
     KeyLengthError."""
     value, kind = room(3), class_of(cipher)
     with key_of(key, kind.key_size) as held:
@@ -70,7 +70,7 @@ def _value_by_length(call: Callable[..., Any], size: int, key: ReadableBuffer) -
 
 
 def key_check_value(key: ReadableBuffer) -> bytes:
-    """The check value of a key or component of 8, 16 or 24 bytes, by DES or, where it is longer, triple DES (EDE).
+    """The check value (KCV) of a key or component of 8, 16 or 24 bytes, by DES or, where it is longer, triple DES (EDE).
     KeyLengthError."""
     return _value_by_length(_key_check_value, 3, key)
 
@@ -120,14 +120,14 @@ def _response(is_response: bool) -> bool:
 
 
 def dukpt_initial_key(base: ReadableBuffer, serial: ReadableBuffer) -> bytes:
-    """The initial key of a terminal, from the base derivation key, 16 bytes, and a key serial number, ten (ANSI X9.24-1:2009).
-    KeyLengthError, SerialLengthError."""
+    """The initial key (IK, IPEK) of a terminal, from the base derivation key (BDK), 16 bytes, and a key serial number (KSN), ten (ANSI
+    X9.24-1:2009). KeyLengthError, SerialLengthError."""
     return made_of_key(_initial_key, base, serial_of(serial))
 
 
 def dukpt_transaction_key(initial: ReadableBuffer, serial: ReadableBuffer) -> bytes:
-    """The key of a transaction, from the terminal's initial key and the transaction's key serial number. It takes every counter,
-    and for 0 gives the initial key itself: ask dukpt_is_usable first. KeyLengthError, SerialLengthError."""
+    """The key of a transaction, from the terminal's initial key (IK, IPEK) and the transaction's key serial number (KSN). It takes every
+    counter, and for 0 gives the initial key itself: ask dukpt_is_usable first. KeyLengthError, SerialLengthError."""
     return made_of_key(_transaction_key, initial, serial_of(serial))
 
 
@@ -153,7 +153,7 @@ def dukpt_data_variant(transaction: ReadableBuffer, is_response: bool = False) -
 
 
 def dukpt_next_serial(serial: ReadableBuffer) -> Optional[bytes]:
-    """The next key serial number whose counter is usable, or None where there is none. SerialLengthError."""
+    """The next key serial number (KSN) whose counter is usable, or None where there is none. SerialLengthError."""
     following = room(10)
     status = _next_serial(serial_of(serial), following)
     if status == NO_SERIAL:
@@ -163,5 +163,5 @@ def dukpt_next_serial(serial: ReadableBuffer) -> Optional[bytes]:
 
 
 def dukpt_is_usable(serial: ReadableBuffer) -> bool:
-    """Whether the counter of a key serial number is usable: it is not 0, and has at most ten one bits. SerialLengthError."""
+    """Whether the counter of a key serial number (KSN) is usable: it is not 0, and has at most ten one bits. SerialLengthError."""
     return bool(_is_usable(serial_of(serial)))

@@ -18,7 +18,7 @@ _Self = TypeVar("_Self", bound="Mac")
 
 class Mac(Keyed):
     """A message authentication code of a message that comes in pieces: what all MACs have in common, for annotations. Threads may
-    share one: its calls take turns. A quiet one reads no tables at addresses that depend on the key or the message, and takes two
+    share one: its calls take turns. One without tables reads none at addresses that depend on the key or the message, and takes two
     to two and a half times as long."""
 
     __slots__ = ("_lock",)
@@ -31,8 +31,8 @@ class Mac(Keyed):
     def __init__(self, *arguments: Any, **words: Any) -> None:
         mac_class_of(type(self))  # This class itself is no MAC's, and each MAC's has its own arguments.
 
-    def _begin(self, quiet: bool, key: ReadableBuffer, *padding: int) -> None:
-        self._context, self._lock = mac_class_of(type(self)).context_of(key, quiet, *padding), threading.Lock()
+    def _begin(self, no_tables: bool, key: ReadableBuffer, *padding: int) -> None:
+        self._context, self._lock = mac_class_of(type(self)).context_of(key, no_tables, *padding), threading.Lock()
 
     def update(self, data: ReadableBuffer) -> None:
         """Adds bytes to the message."""
@@ -99,11 +99,11 @@ class PaddedMac(Mac):
 
     __slots__ = ()
 
-    def __init__(self, key: ReadableBuffer, padding: int, data: ReadableBuffer = b"", *, quiet: bool = False) -> None:
+    def __init__(self, key: ReadableBuffer, padding: int, data: ReadableBuffer = b"", *, no_tables: bool = False) -> None:
         if not isinstance(padding, int) or isinstance(padding, bool):
             raise TypeError("the padding method, the second argument, is the number 1 or 2")
         # A number that C has no room for would lose bits.
-        self._begin(quiet, key, padding if padding in (1, 2) else 0)
+        self._begin(no_tables, key, padding if padding in (1, 2) else 0)
         self.update(data)
 
 
@@ -112,8 +112,8 @@ class Cmac(Mac):
 
     __slots__ = ()
 
-    def __init__(self, key: ReadableBuffer, data: ReadableBuffer = b"", *, quiet: bool = False) -> None:
-        self._begin(quiet, key)
+    def __init__(self, key: ReadableBuffer, data: ReadableBuffer = b"", *, no_tables: bool = False) -> None:
+        self._begin(no_tables, key)
         self.update(data)
 
 

@@ -70,7 +70,7 @@ def _decoded(call: Callable[..., Any], block: ReadableBuffer, *account: Any) -> 
 
 
 def pin_encode_0(pin: Text, account: Text) -> bytes:
-    """The PIN block of format 0, 8 bytes, of a PIN of 4 to 12 digits and an account number of 8 to 19 with the check digit,
+    """The PIN block of format 0, 8 bytes, of a PIN of 4 to 12 digits and an account number (PAN) of 8 to 19 with the check digit,
     as str or bytes of digits. It is not encrypted. PinLengthError, PinDigitError, AccountLengthError, AccountDigitError."""
     with text_of(pin) as digits, text_of(account) as number:
         return _encoded(_encode_0, *digits, *number)
@@ -156,7 +156,7 @@ def pin_translate_to_3(
 
 
 def cvv(key: ReadableBuffer, account: Text, expiry: Text, service: Text) -> str:
-    """The card verification value, three digits, under a key pair of 16 bytes, of an account number of 12 to 19 digits, an expiry
+    """The card verification value (CVV), three digits, under a key pair of 16 bytes, of an account number of 12 to 19 digits, an expiry
     date of four and a service code of three, as str or bytes of digits. KeyLengthError, AccountLengthError, AccountDigitError,
     ExpiryLengthError, ExpiryDigitError, ServiceLengthError, ServiceDigitError."""
     value = room(_CVV_SIZE)

@@ -38,18 +38,18 @@ class KnownAnswers(unittest.TestCase):
             if kind is None:
                 continue
             met.add(name)
-            for quiet in (False, True):
+            for no_tables in (False, True):
                 if iv:
-                    self.chain(kind(key, quiet=quiet), iv, plain, answer)
+                    self.chain(kind(key, no_tables=no_tables), iv, plain, answer)
                 else:
-                    self.electronic_codebook(kind(key, quiet=quiet), plain, answer)
+                    self.electronic_codebook(kind(key, no_tables=no_tables), plain, answer)
         self.assertLessEqual({"des", "ede2", "ede3", "des-cbc", "ede3-cbc"}, met)
 
     def test_lists(self):
         """The published blocks, again and again. A chain of their answers is decrypted to each block xor the answer before it,
         so its encryption gives the answers back."""
         for kind, answer in ANSWERS.items():
-            ciphers = kind(KEY[: kind.key_size]), kind(KEY[: kind.key_size], quiet=True)
+            ciphers = kind(KEY[: kind.key_size]), kind(KEY[: kind.key_size], no_tables=True)
             for count in (*COUNTS, LONG):
                 plain, encrypted = (TEXT * LONG)[: 8 * count], (answer * LONG)[: 8 * count]
                 before = (CHAIN_IV + encrypted)[: 8 * count]
@@ -74,11 +74,11 @@ class Lengths(unittest.TestCase):
     def test_keys(self):
         for kind in ANSWERS:
             for length in LENGTHS:
-                for quiet in (False, True):
+                for no_tables in (False, True):
                     if length == kind.key_size:
-                        self.assertIsInstance(kind(bytes(length), quiet=quiet), kind)
+                        self.assertIsInstance(kind(bytes(length), no_tables=no_tables), kind)
                     else:
-                        self.assertRaisesRegex(KeyLengthError, f"not {length}$", kind, bytes(length), quiet=quiet)
+                        self.assertRaisesRegex(KeyLengthError, f"not {length}$", kind, bytes(length), no_tables=no_tables)
 
     def test_data(self):
         """Each call refuses each length that is not whole blocks, and those in place change nothing."""
@@ -118,11 +118,11 @@ class Lengths(unittest.TestCase):
                 self.assertRaisesRegex(TypeError, "'iv'", call, data)
                 self.assertEqual(data, TEXT[:8])
 
-    def test_quiet(self):
-        """A quiet cipher is made by its own call, and is asked for by name alone."""
+    def test_no_tables(self):
+        """A cipher without tables is made by its own call, and is asked for by name alone."""
         for kind in ANSWERS:
             key = KEY[: kind.key_size]
-            contexts = [bytes(kind(key, **words)._context) for words in ({}, {"quiet": False}, {"quiet": True})]
+            contexts = [bytes(kind(key, **words)._context) for words in ({}, {"no_tables": False}, {"no_tables": True})]
             self.assertEqual(contexts[0], contexts[1])
             self.assertNotEqual(contexts[0], contexts[2])
             self.assertRaises(TypeError, kind, key, True)

@@ -37,8 +37,8 @@ class Derived(unittest.TestCase):
         for kind, answer in ANSWERS.items():
             key = KEY[: kind.key_size]
             for made in derived(kind):
-                for quiet in (False, True):
-                    cipher = made(key, quiet=quiet)
+                for no_tables in (False, True):
+                    cipher = made(key, no_tables=no_tables)
                     self.assertEqual((cipher.encrypt_ecb(TEXT), cipher.decrypt_ecb(answer)), (answer, TEXT))
                     self.assertEqual(cipher.encrypt_cbc(TEXT, iv=IV), kind(key).encrypt_cbc(TEXT, iv=IV))
                     for length in {8, 16, 24} - {kind.key_size}:
@@ -120,10 +120,10 @@ class Statuses(unittest.TestCase):
 
     def test_objects(self):
         for kind, arguments in OBJECTS:
-            for name in ("init", "init_quiet"):
+            for name in ("init", "init_no_tables"):
                 with mock.patch.dict(KINDS[kind].calls, {name: lambda *_: 99}):
                     with self.assertRaisesRegex(RuntimeError, "99"):
-                        kind(*arguments, quiet=name == "init_quiet")
+                        kind(*arguments, no_tables=name == "init_no_tables")
 
     def test_functions(self):
         for module, name, call, arguments in (

@@ -21,14 +21,14 @@ CMAC = [
 
 class Tags(unittest.TestCase):
     def answers(self, kind, arguments, message, tag):
-        for quiet in (False, True):
-            self.answers_by(quiet, kind, arguments, message, tag)
+        for no_tables in (False, True):
+            self.answers_by(no_tables, kind, arguments, message, tag)
 
-    def answers_by(self, quiet, kind, arguments, message, tag):
+    def answers_by(self, no_tables, kind, arguments, message, tag):
         """The tag of the message at once, and cut at some places: by pieces, by a copy, and after tags of what came before."""
-        self.assertEqual(kind(*arguments, message, quiet=quiet).digest(), tag)
+        self.assertEqual(kind(*arguments, message, no_tables=no_tables).digest(), tag)
         for cut in sorted({0, 1, 7, 8, 9, len(message) // 2, len(message)}):
-            mac = kind(*arguments, quiet=quiet)
+            mac = kind(*arguments, no_tables=no_tables)
             mac.update(message[:cut])
             other = mac.copy()
             mac.digest()
@@ -89,13 +89,13 @@ class Tags(unittest.TestCase):
             self.assertEqual(kind(*arguments, message).digest(), pieces.digest())
             self.assertRaises(TagMismatchError, whole.verify, kind(*arguments, message[: len(message) % 65536]).digest())
 
-    def test_quiet(self):
-        """A quiet MAC, and its copy, are of another state than a quick one; the word is asked for by name alone."""
+    def test_no_tables(self):
+        """A MAC without tables, and its copy, are of another state than one with tables; the argument is asked for by name alone."""
         for kind in PADDED_MACS + CMACS:
             arguments = (KEY[: kind.key_size],) if kind in CMACS else (KEY[: kind.key_size], 2)
-            quiet = kind(*arguments, quiet=True)
-            self.assertNotEqual(bytes(quiet._context), bytes(kind(*arguments)._context))
-            self.assertEqual(bytes(quiet._context), bytes(quiet.copy()._context))
+            no_tables = kind(*arguments, no_tables=True)
+            self.assertNotEqual(bytes(no_tables._context), bytes(kind(*arguments)._context))
+            self.assertEqual(bytes(no_tables._context), bytes(no_tables.copy()._context))
             self.assertRaises(TypeError, kind, *arguments, b"", True)
 
     def test_method_by_name(self):
@@ -110,18 +110,18 @@ class Refused(unittest.TestCase):
         for kind in PADDED_MACS + CMACS:
             method = () if kind in CMACS else (1,)
             for length in LENGTHS:
-                for quiet in (False, True):
+                for no_tables in (False, True):
                     if length == kind.key_size:
-                        self.assertIsInstance(kind(bytes(length), *method, quiet=quiet), kind)
+                        self.assertIsInstance(kind(bytes(length), *method, no_tables=no_tables), kind)
                     else:
-                        self.assertRaisesRegex(KeyLengthError, f"not {length}$", kind, bytes(length), *method, quiet=quiet)
+                        self.assertRaisesRegex(KeyLengthError, f"not {length}$", kind, bytes(length), *method, no_tables=no_tables)
 
     def test_methods(self):
         for kind in PADDED_MACS:
             key = KEY[: kind.key_size]
             for number in (0, 3, -1, 257, 2**32 + 1, 2**64 + 2, 10**30):
                 self.assertRaises(PaddingMethodError, kind, key, number)
-                self.assertRaises(PaddingMethodError, kind, key, number, quiet=True)
+                self.assertRaises(PaddingMethodError, kind, key, number, no_tables=True)
             for other in (b"1", "1", 1.0, None, True, False, key):
                 self.assertRaises(TypeError, kind, key, other)
 

@@ -23,7 +23,7 @@ def column(cipher: Cipher, vectors: memoryview, blocks: memoryview) -> bytes:
 
 
 def with_class(kind: Type[Cipher], key: bytes) -> Cipher:
-    with kind(key, quiet=True) as cipher:
+    with kind(key, no_tables=True) as cipher:
         return cipher
 
 

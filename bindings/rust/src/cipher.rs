@@ -77,9 +77,9 @@ impl BlockCipher for Cipher {
         Cipher::by_length(key, Des::new_from_slice, TdesEde2::new_from_slice, TdesEde3::new_from_slice)
     }
 
-    fn new_quiet_from_slice(key: &[u8]) -> Result<Self, InvalidLength> {
-        let ede3 = TdesEde3::new_quiet_from_slice;
-        Cipher::by_length(key, Des::new_quiet_from_slice, TdesEde2::new_quiet_from_slice, ede3)
+    fn new_no_tables_from_slice(key: &[u8]) -> Result<Self, InvalidLength> {
+        let ede3 = TdesEde3::new_no_tables_from_slice;
+        Cipher::by_length(key, Des::new_no_tables_from_slice, TdesEde2::new_no_tables_from_slice, ede3)
     }
 
     calls!(

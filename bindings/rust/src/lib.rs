@@ -44,8 +44,9 @@ pub trait BlockCipher: Clone + fmt::Debug {
     /// The cipher of a key that has a length which the cipher takes, weak or not.
     fn new_from_slice(key: &[u8]) -> Result<Self, InvalidLength>;
 
-    /// The quiet cipher of such a key: no call of it, or of a clone, reads a table at an index that depends on the key or the data.
-    fn new_quiet_from_slice(key: &[u8]) -> Result<Self, InvalidLength>;
+    /// The cipher of such a key without tables: no call of it, or of a clone, reads a table at an index that depends on
+    /// the key or the data.
+    fn new_no_tables_from_slice(key: &[u8]) -> Result<Self, InvalidLength>;
 
     /// Encrypts each block of the data by itself, in place.
     fn encrypt_ecb(&self, data: &mut [u8]) -> Result<(), DataError>;
@@ -142,7 +143,7 @@ fn whole(status: i32) -> Result<(), DataError> {
 
 /// A cipher: its type, its context, and its calls of the library.
 macro_rules! cipher {
-    ($(#[$doc:meta])* $name:ident, $key_size:literal, $init:ident, $init_quiet:ident,
+    ($(#[$doc:meta])* $name:ident, $key_size:literal, $init:ident, $init_no_tables:ident,
      $encrypt_ecb:ident, $decrypt_ecb:ident, $encrypt_ecb_to:ident, $decrypt_ecb_to:ident,
      $encrypt_cbc:ident, $decrypt_cbc:ident, $encrypt_cbc_to:ident, $decrypt_cbc_to:ident,
      $encrypt_records:ident, $decrypt_records:ident) => {
@@ -166,14 +167,14 @@ macro_rules! cipher {
                 cipher
             }
 
-            /// The quiet cipher of a key, which answers as that of `new`: no call of it, or of a clone, reads a table at an
-            /// index that depends on the key or the data. A single block and CBC encryption take two to two and a
-            /// half times as long.
+            /// The cipher of a key without tables, which answers as that of `new`: no call of it, or of a clone, reads
+            /// a table at an index that depends on the key or the data. A single block and CBC encryption take two to
+            /// two and a half times as long.
             #[must_use]
-            pub fn new_quiet(key: &[u8; $key_size]) -> Self {
+            pub fn new_no_tables(key: &[u8; $key_size]) -> Self {
                 let mut cipher = $name { context: ffi::$name::empty() };
                 // SAFETY: as of `new`.
-                unsafe { ffi::$init_quiet(&mut cipher.context, key.as_ptr(), key.len()) };
+                unsafe { ffi::$init_no_tables(&mut cipher.context, key.as_ptr(), key.len()) };
                 cipher
             }
         }
@@ -185,8 +186,8 @@ macro_rules! cipher {
                 key.try_into().map(Self::new).map_err(|_| InvalidLength)
             }
 
-            fn new_quiet_from_slice(key: &[u8]) -> Result<Self, InvalidLength> {
-                key.try_into().map(Self::new_quiet).map_err(|_| InvalidLength)
+            fn new_no_tables_from_slice(key: &[u8]) -> Result<Self, InvalidLength> {
+                key.try_into().map(Self::new_no_tables).map_err(|_| InvalidLength)
             }
 
             fn encrypt_ecb(&self, data: &mut [u8]) -> Result<(), DataError> {
@@ -266,7 +267,7 @@ cipher!(
     /// DES, under a key of 8 bytes.
     Des, 8,
     cukvashe_des_init,
-    cukvashe_des_init_quiet,
+    cukvashe_des_init_no_tables,
     cukvashe_des_encrypt_ecb,
     cukvashe_des_decrypt_ecb,
     cukvashe_des_encrypt_ecb_to,
@@ -283,7 +284,7 @@ cipher!(
     /// Triple DES in the EDE form, under a key of 16 bytes, two parts of 8.
     TdesEde2, 16,
     cukvashe_tdes_ede2_init,
-    cukvashe_tdes_ede2_init_quiet,
+    cukvashe_tdes_ede2_init_no_tables,
     cukvashe_tdes_ede2_encrypt_ecb,
     cukvashe_tdes_ede2_decrypt_ecb,
     cukvashe_tdes_ede2_encrypt_ecb_to,
@@ -300,7 +301,7 @@ cipher!(
     /// Triple DES in the EDE form, under a key of 24 bytes, three parts of 8.
     TdesEde3, 24,
     cukvashe_tdes_ede3_init,
-    cukvashe_tdes_ede3_init_quiet,
+    cukvashe_tdes_ede3_init_no_tables,
     cukvashe_tdes_ede3_encrypt_ecb,
     cukvashe_tdes_ede3_decrypt_ecb,
     cukvashe_tdes_ede3_encrypt_ecb_to,

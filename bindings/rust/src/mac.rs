@@ -2,7 +2,7 @@
 //! algorithms 1 and 3, with padding methods 1 and 2), and CMAC (NIST SP 800-38B).
 //!
 //! CBC-MAC is safe only where every message under a key has one length. Padding method 1 hides zeros at the end of a message.
-//! The calls of one message read tables at indexes that depend on key and message, except where `new_quiet` made the MAC. `macs` and
+//! The calls of one message read tables at indexes that depend on key and message, except where `new_no_tables` made the MAC. `macs` and
 //! `macs_each`, of many messages, read none: for speed, sort messages of very different lengths.
 //!
 //! ```
@@ -113,7 +113,7 @@ pub trait Mac: fmt::Debug {
 
 /// A MAC: its type, its context, and its calls of the library. In brackets stands its padding method, if it has one.
 macro_rules! mac {
-    ($(#[$doc:meta])* $name:ident [$($padding:ident)?], $key_size:literal, $init:ident, $init_quiet:ident, $update:ident,
+    ($(#[$doc:meta])* $name:ident [$($padding:ident)?], $key_size:literal, $init:ident, $init_no_tables:ident, $update:ident,
      $finalize:ident, $verify:ident) => {
         $(#[$doc])*
         /// A clone goes on by itself.
@@ -136,13 +136,13 @@ macro_rules! mac {
                 mac
             }
 
-            /// The quiet state of the message of no bytes under a key: no call of it, or of a clone, reads a table at an
-            /// index that depends on the key or the message. It takes two to two and a half times as long.
+            /// The state of the message of no bytes under a key, without tables: no call of it, or of a clone, reads a
+            /// table at an index that depends on the key or the message. It takes two to two and a half times as long.
             #[must_use]
-            pub fn new_quiet(key: &[u8; $key_size] $(, $padding: Padding)?) -> Self {
+            pub fn new_no_tables(key: &[u8; $key_size] $(, $padding: Padding)?) -> Self {
                 let mut mac = $name { context: ffi::$name::empty() };
                 // SAFETY: as of `new`.
-                unsafe { ffi::$init_quiet(&mut mac.context, key.as_ptr(), key.len() $(, $padding.number())?) };
+                unsafe { ffi::$init_no_tables(&mut mac.context, key.as_ptr(), key.len() $(, $padding.number())?) };
                 mac
             }
 
@@ -151,9 +151,9 @@ macro_rules! mac {
                 key.try_into().map(|key| Self::new(key $(, $padding)?)).map_err(|_| InvalidLength)
             }
 
-            /// As `new_quiet`, of a slice, which must have as many bytes as the key size.
-            pub fn new_quiet_from_slice(key: &[u8] $(, $padding: Padding)?) -> Result<Self, InvalidLength> {
-                key.try_into().map(|key| Self::new_quiet(key $(, $padding)?)).map_err(|_| InvalidLength)
+            /// As `new_no_tables`, of a slice, which must have as many bytes as the key size.
+            pub fn new_no_tables_from_slice(key: &[u8] $(, $padding: Padding)?) -> Result<Self, InvalidLength> {
+                key.try_into().map(|key| Self::new_no_tables(key $(, $padding)?)).map_err(|_| InvalidLength)
             }
 
             /// The tag of a whole message.
@@ -198,32 +198,32 @@ macro_rules! mac {
 
 mac!(
     /// CBC-MAC over DES.
-    CbcMacDes [padding], 8, cukvashe_cbc_mac_des_init, cukvashe_cbc_mac_des_init_quiet, cukvashe_cbc_mac_des_update,
+    CbcMacDes [padding], 8, cukvashe_cbc_mac_des_init, cukvashe_cbc_mac_des_init_no_tables, cukvashe_cbc_mac_des_update,
     cukvashe_cbc_mac_des_final, cukvashe_cbc_mac_des_verify
 );
 mac!(
     /// CBC-MAC over triple DES, EDE with two keys.
-    CbcMacTdesEde2 [padding], 16, cukvashe_cbc_mac_tdes_ede2_init, cukvashe_cbc_mac_tdes_ede2_init_quiet, cukvashe_cbc_mac_tdes_ede2_update,
+    CbcMacTdesEde2 [padding], 16, cukvashe_cbc_mac_tdes_ede2_init, cukvashe_cbc_mac_tdes_ede2_init_no_tables, cukvashe_cbc_mac_tdes_ede2_update,
     cukvashe_cbc_mac_tdes_ede2_final, cukvashe_cbc_mac_tdes_ede2_verify
 );
 mac!(
     /// CBC-MAC over triple DES, EDE with three keys.
-    CbcMacTdesEde3 [padding], 24, cukvashe_cbc_mac_tdes_ede3_init, cukvashe_cbc_mac_tdes_ede3_init_quiet, cukvashe_cbc_mac_tdes_ede3_update,
+    CbcMacTdesEde3 [padding], 24, cukvashe_cbc_mac_tdes_ede3_init, cukvashe_cbc_mac_tdes_ede3_init_no_tables, cukvashe_cbc_mac_tdes_ede3_update,
     cukvashe_cbc_mac_tdes_ede3_final, cukvashe_cbc_mac_tdes_ede3_verify
 );
 mac!(
     /// The retail MAC over DES, with two keys.
-    RetailMacDes [padding], 16, cukvashe_retail_mac_des_init, cukvashe_retail_mac_des_init_quiet, cukvashe_retail_mac_des_update,
+    RetailMacDes [padding], 16, cukvashe_retail_mac_des_init, cukvashe_retail_mac_des_init_no_tables, cukvashe_retail_mac_des_update,
     cukvashe_retail_mac_des_final, cukvashe_retail_mac_des_verify
 );
 mac!(
     /// CMAC over triple DES, EDE with two keys.
-    CmacTdesEde2 [], 16, cukvashe_cmac_tdes_ede2_init, cukvashe_cmac_tdes_ede2_init_quiet, cukvashe_cmac_tdes_ede2_update,
+    CmacTdesEde2 [], 16, cukvashe_cmac_tdes_ede2_init, cukvashe_cmac_tdes_ede2_init_no_tables, cukvashe_cmac_tdes_ede2_update,
     cukvashe_cmac_tdes_ede2_final, cukvashe_cmac_tdes_ede2_verify
 );
 mac!(
     /// CMAC over triple DES, EDE with three keys.
-    CmacTdesEde3 [], 24, cukvashe_cmac_tdes_ede3_init, cukvashe_cmac_tdes_ede3_init_quiet, cukvashe_cmac_tdes_ede3_update,
+    CmacTdesEde3 [], 24, cukvashe_cmac_tdes_ede3_init, cukvashe_cmac_tdes_ede3_init_no_tables, cukvashe_cmac_tdes_ede3_update,
     cukvashe_cmac_tdes_ede3_final, cukvashe_cmac_tdes_ede3_verify
 );
 

@@ -1,11 +1,11 @@
 //! Check values, keys of components, PIN blocks, PIN verification, card verification values, card cryptograms, key blocks, and the
 //! keys of a transaction (DUKPT with triple DES, ANSI X9.24-1:2009) at the host and in the terminal.
 //!
-//! A key of a transaction has 16 bytes, two halves of 8, and a key serial number ten, of which the last 21 bits are the
-//! transaction counter. PINs, account numbers, dates and codes are texts, slices of ASCII digits. No call reads a table at an
-//! index that depends on a key or a PIN. The calls that make a key of components branch on it, those that take a PIN on whether its
-//! characters are digits, those that take a PIN block on its fault and on its PIN's length, and verifications on whether the PIN is
-//! right.
+//! A key of a transaction has 16 bytes, two halves of 8, and a key serial number (KSN) ten, of which the last 21 bits
+//! are the transaction counter. PINs, account numbers, dates and codes are texts, slices of ASCII digits. No call reads
+//! a table at an index that depends on a key or a PIN. The calls that make a key of components branch on it, those that
+//! take a PIN on whether its characters are digits, those that take a PIN block on its fault and on its PIN's length,
+//! and verifications on whether the PIN is right.
 //!
 //! ```
 //! use cukvashe_des::payment::pin_blocks::{decode_format_0, encode_format_0, Pin};
@@ -47,9 +47,9 @@ use crate::ffi;
 use crate::statuses::OK;
 use crate::{CountsDiffer, Des, InvalidLength, KeyTestError, TdesEde2, TdesEde3};
 
-/// The message of a transaction that a key is for.
+/// Which message of a transaction a key is for: its direction.
 #[derive(Clone, Copy, Debug, PartialEq, Eq)]
-pub enum Message {
+pub enum MessageDirection {
     /// The request, which the terminal sends.
     Request,
     /// The response, which the host sends.
@@ -58,7 +58,7 @@ pub enum Message {
 
 /// A cipher whose keys have check values.
 pub trait CheckValue: KeyForEach {
-    /// The check value of a key: the first three bytes of the block of zeros, encrypted under it.
+    /// The check value (KCV) of a key: the first three bytes of the block of zeros, encrypted under it.
     fn check_value(key: &[u8]) -> Result<[u8; 3], InvalidLength>;
 
     /// Writes the check value of each key at its place, 128 keys at a time, without tables; where keys and values differ in
@@ -96,7 +96,7 @@ check_value!(
     TdesEde3: cukvashe_tdes_ede3_check_value, cukvashe_tdes_ede3_check_values;
 );
 
-/// The check value of a key or component of 8, 16 or 24 bytes: by DES or, where it is longer, triple DES (EDE).
+/// The check value (KCV) of a key or component of 8, 16 or 24 bytes: by DES or, where it is longer, triple DES (EDE).
 pub fn key_check_value(key: &[u8]) -> Result<[u8; 3], InvalidLength> {
     let mut value = [0; 3];
     // SAFETY: the pointers are of references, good for their lengths, and don't overlap.
@@ -142,7 +142,7 @@ combine!(
 
 // SAFETY of each call below: the pointers are of references to arrays of the lengths that it takes, and don't overlap.
 
-/// The initial key of a terminal, from the base derivation key and a key serial number.
+/// The initial key (IK, IPEK) of a terminal, from the base derivation key (BDK) and a key serial number (KSN).
 #[must_use]
 pub fn initial_key(base: &[u8; 16], serial: &[u8; 10]) -> [u8; 16] {
     let mut key = [0; 16];
@@ -150,8 +150,8 @@ pub fn initial_key(base: &[u8; 16], serial: &[u8; 10]) -> [u8; 16] {
     key
 }
 
-/// The key of a transaction, from the terminal's initial key and the transaction's key serial number. It takes every counter,
-/// and for 0 gives the initial key itself: ask [`is_usable`] first.
+/// The key of a transaction, from the terminal's initial key (IK, IPEK) and the transaction's key serial number (KSN).
+/// It takes every counter, and for 0 gives the initial key itself: ask [`is_usable`] first.
 #[must_use]
 pub fn transaction_key(initial: &[u8; 16], serial: &[u8; 10]) -> [u8; 16] {
     let mut key = [0; 16];
@@ -159,7 +159,7 @@ pub fn transaction_key(initial: &[u8; 16], serial: &[u8; 10]) -> [u8; 16] {
     key
 }
 
-/// Writes the key of the transaction of each key serial number at its place, from the base derivation key: what
+/// Writes the key of the transaction of each key serial number at its place, from the base derivation key (BDK): what
 /// [`transaction_key`] makes of [`initial_key`]. Where serial numbers and keys differ in number, the keys stay. It takes every
 /// counter: ask [`is_usable`] first. Such a key encrypts nothing itself: take [`pin_key`], [`mac_key`] or [`data_key`] of it.
 pub fn transaction_keys_from_base(
@@ -193,26 +193,26 @@ pub fn pin_key(transaction: &[u8; 16]) -> [u8; 16] {
 
 /// The key that authenticates a message, from the transaction's key.
 #[must_use]
-pub fn mac_key(transaction: &[u8; 16], message: Message) -> [u8; 16] {
+pub fn mac_key(transaction: &[u8; 16], message: MessageDirection) -> [u8; 16] {
     let mut key = [0; 16];
-    unsafe { ffi::cukvashe_dukpt_mac_key(transaction, message == Message::Response, &mut key) };
+    unsafe { ffi::cukvashe_dukpt_mac_key(transaction, message == MessageDirection::Response, &mut key) };
     key
 }
 
 /// The key that encrypts the data of a message, from the transaction's key.
 #[must_use]
-pub fn data_key(transaction: &[u8; 16], message: Message) -> [u8; 16] {
+pub fn data_key(transaction: &[u8; 16], message: MessageDirection) -> [u8; 16] {
     let mut key = [0; 16];
-    unsafe { ffi::cukvashe_dukpt_data_key(transaction, message == Message::Response, &mut key) };
+    unsafe { ffi::cukvashe_dukpt_data_key(transaction, message == MessageDirection::Response, &mut key) };
     key
 }
 
 /// The data variant of the transaction's key for a message: the key that [`data_key`] makes, without its last step. Some terminals
 /// encrypt data under it; it reveals the transaction's other keys.
 #[must_use]
-pub fn data_variant(transaction: &[u8; 16], message: Message) -> [u8; 16] {
+pub fn data_variant(transaction: &[u8; 16], message: MessageDirection) -> [u8; 16] {
     let mut key = [0; 16];
-    unsafe { ffi::cukvashe_dukpt_data_variant(transaction, message == Message::Response, &mut key) };
+    unsafe { ffi::cukvashe_dukpt_data_variant(transaction, message == MessageDirection::Response, &mut key) };
     key
 }
 
@@ -222,7 +222,7 @@ pub fn is_usable(serial: &[u8; 10]) -> bool {
     unsafe { ffi::cukvashe_dukpt_is_usable(serial) }
 }
 
-/// The next key serial number with at most ten one bits in its counter, if there is one.
+/// The next key serial number (KSN) with at most ten one bits in its counter, if there is one.
 #[must_use]
 pub fn next_serial(serial: &[u8; 10]) -> Option<[u8; 10]> {
     let mut next = [0; 10];

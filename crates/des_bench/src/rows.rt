@@ -37,8 +37,9 @@ pub fn write_cipher<C: KeyInit + BlockCipherEncrypt + BlockCipherDecrypt + Algor
     Ok(answer ^ joined(&blocks))
 }
 
-/// Writes the row of a list of few blocks: the time of a block one by one, by the cipher of `quiet`
-/// four side by side, and by `encrypt_many`, which takes a batch if there are more than eleven.
+/// Writes the row of a list of few blocks: the time of a block one by one, by the cipher of
+/// `no_tables` four side by side, and by `encrypt_many`, which takes a batch if there are more than
+/// eleven.
 pub fn write_few<C: KeyInit + ManyBlocks + Drop, Q: KeyInit + BlockCipherEncrypt + Drop>(
     rt: &(impl AllocGlobal + Clock + CpuClock),
     keys: &Keys,
@@ -46,12 +47,12 @@ pub fn write_few<C: KeyInit + ManyBlocks + Drop, Q: KeyInit + BlockCipherEncrypt
     out: &mut impl Write,
 ) -> io::Result<u64> {
     let cipher: C = cipher_of(&keys[0])?;
-    let quiet: Q = cipher_of(&keys[0])?;
+    let no_tables: Q = cipher_of(&keys[0])?;
     let mut blocks = zero_blocks(rt, length)?;
     let tables = tenths_of_call(rt, length, &Encrypt(&cipher), &mut blocks)?;
-    let quiet = tenths_of_call(rt, length, &EncryptBlocks(&quiet), &mut blocks)?;
+    let no_tables = tenths_of_call(rt, length, &EncryptBlocks(&no_tables), &mut blocks)?;
     let many = tenths_of_call(rt, length, &EncryptMany(&cipher), &mut blocks)?;
-    write_length_row(out, length, &[tables, quiet, many])?;
+    write_length_row(out, length, &[tables, no_tables, many])?;
     Ok(joined(&blocks))
 }
 

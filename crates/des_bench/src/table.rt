@@ -12,7 +12,7 @@ use des::cipher::{AlgorithmName, BlockCipherEncrypt, KeyInit};
 use des::tdes::{Ede3, SingleDes};
 use des::{Des, cbc};
 use des_fast::many::ManyBlocks;
-use des_fast::{TdesEde3, quiet};
+use des_fast::{TdesEde3, no_tables};
 use std::alloc::AllocGlobal;
 use std::io;
 use std::io::Write;
@@ -26,9 +26,9 @@ pub fn write_table<R: AllocGlobal + Clock + CpuClock, W: Write>(
     let keys = mixed_keys();
     let joined = write_ciphers::<Des>(rt, "des", &keys, out)?
         ^ write_ciphers::<des_fast::Des>(rt, "des_fast", &keys, out)?
-        ^ write_ciphers::<quiet::Des>(rt, "des_fast, quiet", &keys, out)?
-        ^ write_few_blocks::<des_fast::Des, quiet::Des>(rt, "Des, few", &keys, out)?
-        ^ write_few_blocks::<TdesEde3, quiet::TdesEde3>(rt, "TdesEde3, few", &keys, out)?
+        ^ write_ciphers::<no_tables::Des>(rt, "des_fast, no_tables", &keys, out)?
+        ^ write_few_blocks::<des_fast::Des, no_tables::Des>(rt, "Des, few", &keys, out)?
+        ^ write_few_blocks::<TdesEde3, no_tables::TdesEde3>(rt, "TdesEde3, few", &keys, out)?
         ^ write_spread(rt, &keys, out)?
         ^ write_others(rt, &keys, out)?;
     writeln!(out, "{joined:016x}")?;
@@ -62,7 +62,7 @@ fn write_few_blocks<C: KeyInit + ManyBlocks + Drop, Q: KeyInit + BlockCipherEncr
     keys: &Keys,
     out: &mut impl Write,
 ) -> io::Result<u64> {
-    write_head(out, name, &["tables", "quiet", "many"])?;
+    write_head(out, name, &["tables", "no_tables", "many"])?;
     let mut sum = 0;
     for length in [4, 12] {
         sum ^= write_few::<C, Q>(rt, keys, length, out)?;

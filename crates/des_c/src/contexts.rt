@@ -3,26 +3,26 @@
 ghost use Rattle.std.specs.Prelude.{◌≡◌, ◌≢◌, ◌↔◌, ◌+◌, ◌*◌, ℕ, List, length};
 ghost use Rattle.des.specs.Cbc.{Chains, next_vector};
 ghost use Rattle.des_context.specs.Bytes.{AreBytesOf, FitInto};
-ghost use Rattle.des_context.specs.Contexts.{HasAForm, HasMark, IsContextOf, IsMarked, IsSoundIfMarked};
-ghost use Rattle.des_context.specs.Forms.{relation_of};
+ghost use Rattle.des_context.specs.Contexts.{HasSomeCipherType, HasMark, IsContextOf, IsMarked, IsSoundIfMarked};
+ghost use Rattle.des_context.specs.CipherTypes.{relation_of};
 
 use des_context::contexts::NO_MAC;
 use des_context::status::{ERR_BLOCKS, ERR_CONTEXT, ERR_KEY_LENGTH, OK};
-use des_context::{calls, contexts};
+use des_context::{block_modes, contexts};
 
-/// Makes a context of 17, 33 or 49 words from a key of one, two or three parts of 8 bytes, a quiet
-/// one, whose calls read no table, or a quick one. The status of a key of another length is
+/// Makes a context of 17, 33 or 49 words from a key of one, two or three parts of 8 bytes, without
+/// tables, so that its calls read none, or with them. The status of a key of another length is
 /// `ERR_KEY_LENGTH`; the context is then unchanged.
 #[unsafe(no_mangle)]
-pub extern "C" fn cukvashe_internal_init(context: &mut [u64], key: &[u8], quiet: bool) -> i32
-    requires { HasAForm context.old }
+pub extern "C" fn cukvashe_internal_init(context: &mut [u64], key: &[u8], no_tables: bool) -> i32
+    requires { HasSomeCipherType context.old }
     ensures accepted { (result ≡ OK) ↔ (2 * length key.now + 1 ≡ length context.old) }
     ensures refused { (result ≡ ERR_KEY_LENGTH) ↔ (2 * length key.now + 1 ≢ length context.old) }
     ensures made { result ≡ OK → IsContextOf context.new key.now }
-    ensures quiet { result ≡ OK → IsMarked NO_MAC quiet context.new }
+    ensures no_tables { result ≡ OK → IsMarked NO_MAC no_tables context.new }
     ensures kept { result ≢ OK → context.new ≡ context.old }
 {
-    contexts::init(context, key, quiet)
+    contexts::init(context, key, no_tables)
 }
 
 /// Encrypts bytes in place by CBC from the vector, which becomes the last ciphertext block. The
@@ -44,7 +44,7 @@ pub extern "C" fn cukvashe_internal_encrypt_cbc(
     ensures goes_on { result ≡ OK → iv.new ≡ next_vector iv.old blocks.new }
     ensures kept { result ≢ OK → (blocks.new ≡ blocks.old) × (iv.new ≡ iv.old) }
 {
-    calls::encrypt_cbc(context, iv, blocks, size)
+    block_modes::encrypt_cbc(context, iv, blocks, size)
 }
 
 /// Writes the bytes of `input`, encrypted as by `cukvashe_internal_encrypt_cbc`, to `output`. The
@@ -69,8 +69,8 @@ pub extern "C" fn cukvashe_internal_encrypt_cbc_to(
     ensures goes_on { result ≡ OK → iv.new ≡ next_vector iv.old output.new }
     ensures kept { result ≢ OK → (output.new ≡ output.old) × (iv.new ≡ iv.old) }
 {
-    match calls::copy_whole(context, input, output, size) {
-        OK => calls::encrypt_cbc(context, iv, output, size),
+    match block_modes::copy_whole(context, input, output, size) {
+        OK => block_modes::encrypt_cbc(context, iv, output, size),
         status => status,
     }
 }

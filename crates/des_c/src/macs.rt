@@ -5,36 +5,36 @@ ghost use Rattle.std.specs.Prelude.{◌≡◌, ◌≢◌, ◌↔◌, ◌<◌, �
 ghost use Rattle.des_mac.specs.Tags.{IsTruncated};
 ghost use Rattle.des_context.specs.Contexts.{IsMarked};
 ghost use Rattle.des_context.specs.MacAlgorithms.{IsAlgorithm, mac_by};
-ghost use Rattle.des_context.specs.MacContexts.{HasMacForm, HasMacMark, IsMacOf, IsSoundMacIfMarked, key_size_of, words_of_chain};
+ghost use Rattle.des_context.specs.MacContexts.{HasMacCipherType, HasMacMark, IsMacOf, IsSoundMacIfMarked, key_size_of, words_of_chain};
 ghost use Rattle.des_context.specs.PaddingMethods.{status_of};
 
-use des_context::macs::{self, Message};
+use des_context::macs::{self, MessageState};
 use des_context::status::{ERR_CONTEXT, ERR_COUNTS, ERR_TAG, OK};
 use des_mac::many;
 
-/// Makes the words of a MAC of the bytes of a key, quiet ones, whose calls read no table, or quick
-/// ones, and the message of no bytes, with padding method 1 or 2, which plays no part in CMAC. The
-/// status of a key of another length than the words have room for is `ERR_KEY_LENGTH`, of another
-/// padding `ERR_PADDING_METHOD`; the words and the message are then unchanged.
+/// Makes the words of a MAC of the bytes of a key, without tables, so that its calls read none, or
+/// with them, and of the message of no bytes, with padding method 1 or 2, which plays no part in
+/// CMAC. The status of a key of another length than the words have room for is `ERR_KEY_LENGTH`, of
+/// another padding `ERR_PADDING_METHOD`; the words and the message are then unchanged.
 #[unsafe(no_mangle)]
 pub extern "C" fn cukvashe_internal_mac_init(
     algorithm: u32,
     context: &mut [u64],
-    message: &mut Message,
+    message: &mut MessageState,
     key: &[u8],
     padding: u32,
-    quiet: bool,
+    no_tables: bool,
 ) -> i32
     requires by { IsAlgorithm algorithm }
-    requires form { HasMacForm algorithm context.old }
+    requires cipher_type { HasMacCipherType algorithm context.old }
     ensures status { result ≡ status_of (key_size_of context.old) (length key.now) padding }
     ensures made { result ≡ OK → IsMacOf algorithm context.new message.new padding key.now [] }
-    ensures quiet { result ≡ OK → IsMarked algorithm quiet (words_of_chain algorithm context.new) }
-    ensures second_quiet { result ≡ OK → algorithm ≡ 3
-        → IsMarked algorithm quiet (drop 17 context.new) }
+    ensures no_tables { result ≡ OK → IsMarked algorithm no_tables (words_of_chain algorithm context.new) }
+    ensures second_no_tables { result ≡ OK → algorithm ≡ 3
+        → IsMarked algorithm no_tables (drop 17 context.new) }
     ensures kept { result ≢ OK → (context.new ≡ context.old) × (message.new ≡ message.old) }
 {
-    macs::init(algorithm, context, message, key, padding, quiet)
+    macs::init(algorithm, context, message, key, padding, no_tables)
 }
 
 /// Adds bytes to the message, after those that it has. The status of words that no init made for the
@@ -43,10 +43,10 @@ pub extern "C" fn cukvashe_internal_mac_init(
 pub extern "C" fn cukvashe_internal_mac_update(
     algorithm: u32,
     context: &[u64],
-    message: &mut Message,
+    message: &mut MessageState,
     bytes: &[u8],
 ) -> i32
-    requires form { HasMacForm algorithm context.now }
+    requires cipher_type { HasMacCipherType algorithm context.now }
     requires sound { IsSoundMacIfMarked algorithm context.now message.old }
     ensures accepted { (result ≡ OK) ↔ HasMacMark algorithm context.now }
     ensures unmarked { (result ≡ ERR_CONTEXT) ↔ ¬ (HasMacMark algorithm context.now) }
@@ -64,10 +64,10 @@ pub extern "C" fn cukvashe_internal_mac_update(
 pub extern "C" fn cukvashe_internal_mac_final(
     algorithm: u32,
     context: &[u64],
-    message: &Message,
+    message: &MessageState,
     tag: &mut [u8; 8],
 ) -> i32
-    requires form { HasMacForm algorithm context.now }
+    requires cipher_type { HasMacCipherType algorithm context.now }
     requires sound { IsSoundMacIfMarked algorithm context.now message.now }
     ensures accepted { (result ≡ OK) ↔ HasMacMark algorithm context.now }
     ensures unmarked { (result ≡ ERR_CONTEXT) ↔ ¬ (HasMacMark algorithm context.now) }
@@ -85,10 +85,10 @@ pub extern "C" fn cukvashe_internal_mac_final(
 pub extern "C" fn cukvashe_internal_mac_verify(
     algorithm: u32,
     context: &[u64],
-    message: &Message,
+    message: &MessageState,
     tag: &[u8],
 ) -> i32
-    requires form { HasMacForm algorithm context.now }
+    requires cipher_type { HasMacCipherType algorithm context.now }
     requires sound { IsSoundMacIfMarked algorithm context.now message.now }
     ensures unmarked { (result ≡ ERR_CONTEXT) ↔ ¬ (HasMacMark algorithm context.now) }
     ensures accepted { (padding : ℕ) (key m : List ℕ)

@@ -5,8 +5,8 @@ use Rattle.std.specs.declared.vec.Vec.{Vec}
 use Rattle.std.specs.declared.alloc.Global.{Global}
 use Rattle.hex.specs.Hex.{decode_of}
 use Rattle.des.specs.WeakKeys.{IsRefused}
-use Rattle.des_commands.specs.declared.fault.Kind.{Kind}
-use Rattle.des_commands.specs.declared.fault.Kind.TheVariants.{KeyText}
+use Rattle.des_commands.specs.declared.fault.FaultKind.{FaultKind}
+use Rattle.des_commands.specs.declared.fault.FaultKind.TheVariants.{KeyText}
 use Rattle.des_commands.specs.Faults.{FailsOrRefuses}
 use Rattle.des_commands.specs.Lines.{few_fault, key_of_components}
 use Rattle.des_commands.specs.Texts.{bytes_of, text_fault}
@@ -22,12 +22,12 @@ two-at-least digits bytes size (inl one) long twice = let long = rw one at long 
 two-at-least digits bytes size (inr (inl two)) long twice = let long = rw two at long in rw two (omega arith)
 two-at-least digits bytes size (inr (inr three)) long twice = let long = rw three at long in rw three (omega arith)
 
-read : (ok : Bool) (fault : Kind) → (if not ok then Some fault else None) ≡ None → ok ≡ true
+read : (ok : Bool) (fault : FaultKind) → (if not ok then Some fault else None) ≡ None → ok ≡ true
 read true fault none = refl
 read false fault none = cc none
 
 -- digits without a fault write components: what is left is that the key is refused
-pub components-fail : (digits : List ℕ) (size : ℕ) (result : Result (Vec ℕ Global) Kind)
+pub components-fail : (digits : List ℕ) (size : ℕ) (result : Result (Vec ℕ Global) FaultKind)
     → (size ≡ 8) ⊎ ((size ≡ 16) ⊎ (size ≡ 24)) → 4 * size ≤ length digits → text_fault KeyText digits ≡ None
     → FailsOrRefuses (few_fault (length (bytes_of digits) / size)) (IsRefused (key_of_components size (bytes_of digits)))
     result

@@ -7,7 +7,7 @@ use Rattle.hex.specs.declared.error.FromHexError.{FromHexError}
 use Rattle.hex.specs.declared.error.FromHexError.TheVariants.{OddLength}
 use Rattle.hex.specs.Hex.{decode_of, decode_pairs}
 use Rattle.hex.proofs.HexLemmas.{decode_pairs-ok}
-use Rattle.des_commands.specs.declared.fault.Kind.{Kind}
+use Rattle.des_commands.specs.declared.fault.FaultKind.{FaultKind}
 use Rattle.des_commands.specs.Faults.{FailsOnlyBy}
 use Rattle.des_commands.specs.Keys.{IsKeySize, is_key_length, any_key_fault}
 use Rattle.des_commands.specs.Texts.{bytes_of}
@@ -30,7 +30,7 @@ twice-bytes digits is =
     unwrapped (length digits) (decode_of digits) (λ bytes same. decoded (length digits % 2 == 1) digits bytes same) is
 
 -- digits without a fault are read
-are-read : (long ok : Bool) (first second : Kind)
+are-read : (long ok : Bool) (first second : FaultKind)
     → (if not long then Some first else if not ok then Some second else None) ≡ None → ok ≡ true
 are-read true true first second none = refl
 are-read true false first second none = cc none
@@ -40,7 +40,7 @@ are-read false ok first second none = cc none
 front-eight : (size : ℕ) (key : List ℕ) → length key ≡ 24 → size ≡ 8 → length (take size key) ≡ 8
 front-eight size key long one = length-take size key ∙ omega arith
 
-pub protection-size : (digits key : List ℕ) (first second : Kind) (result : Result ℕ Kind) → length key ≡ 24
+pub protection-size : (digits key : List ℕ) (first second : FaultKind) (result : Result ℕ FaultKind) → length key ≡ 24
     → ¬ (length digits ≡ 16) → FailsOnlyBy (any_key_fault first second digits) result → IfOk result IsKeySize
     → IfOk result (λ size. take size key ≡ bytes_of digits) → IfOk result (λ size. (size ≡ 16) ⊎ (size ≡ 24))
 protection-size digits key first second (Ok size) long other fails (inl one) same =

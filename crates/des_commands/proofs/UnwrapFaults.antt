@@ -7,8 +7,8 @@ use Rattle.des_payment.specs.KeyBlocks.{HoldsKey}
 use Rattle.des_payment.specs.KeyLengths.{is_key}
 use Rattle.des_payment.specs.declared.key_block_header.Header.{Header}
 use Rattle.des_payment.proofs.KeyDataLengths.{key-data-lengths, key-data-sealed}
-use Rattle.des_commands.specs.declared.fault.Kind.{Kind}
-use Rattle.des_commands.specs.declared.fault.Kind.TheVariants.{Memory}
+use Rattle.des_commands.specs.declared.fault.FaultKind.{FaultKind}
+use Rattle.des_commands.specs.declared.fault.FaultKind.TheVariants.{Memory}
 use Rattle.des_commands.specs.Texts.{bytes_of}
 use Rattle.des_commands.specs.KeyBlockLines.{IsReadable, protection_fault, FailsAsUnwrapped}
 
@@ -34,7 +34,7 @@ module _ (protection block : List ℕ) (header : Header) (key : List ℕ) (holds
 module _ (protection block : List ℕ) (header : Header) (key : List ℕ) (none : protection_fault protection ≡ None)
     (holds : HoldsKey (bytes_of protection) block header key) where
   -- nothing is at fault: memory is refused, or the lines are given
-  pub unwrap-refuses-memory : (result : Result (Vec ℕ Global) Kind) (kind : Kind) → result ≡ Err kind → kind ≡ Memory
+  pub unwrap-refuses-memory : (result : Result (Vec ℕ Global) FaultKind) (kind : FaultKind) → result ≡ Err kind → kind ≡ Memory
       → FailsAsUnwrapped protection block result
   unwrap-refuses-memory result kind was memory = rw none (inr (header, (key, (holds, rw was memory))))
 

@@ -6,13 +6,13 @@ use Rattle.std.specs.declared.vec.Vec.{Vec}
 use Rattle.std.specs.declared.alloc.Global.{Global}
 use Rattle.des_payment.specs.declared.verification_error.VerificationError.{VerificationError}
 use Rattle.des_payment.specs.declared.verification_error.VerificationError.TheVariants.{AccountLength, AccountDigit, KeyIndex, KeyLength, PinLength, TableLength, TableDigit, TableVariety, WrongPin}
-use Rattle.des_commands.specs.declared.fault.Kind.{Kind}
-use Rattle.des_commands.specs.declared.fault.Kind.TheVariants.{Verification as VerificationFault}
+use Rattle.des_commands.specs.declared.fault.FaultKind.{FaultKind}
+use Rattle.des_commands.specs.declared.fault.FaultKind.TheVariants.{Verification as VerificationFault}
 use Rattle.des_commands.specs.Faults.{FailsBy}
 use Rattle.des_commands.specs.PinLines.{TellsOutcome, IsVerdictLine}
 
 -- another fault than that of a wrong PIN is told as it is
-tells_fault : (fault : VerificationError) (result : Result (Vec ℕ Global) Kind) → (fault ≢ WrongPin)
+tells_fault : (fault : VerificationError) (result : Result (Vec ℕ Global) FaultKind) → (fault ≢ WrongPin)
     → TellsOutcome (Err fault) result → result ≡ Err (VerificationFault fault)
 tells_fault AccountLength result other told = told
 tells_fault AccountDigit result other told = told
@@ -40,7 +40,7 @@ pub record Verifies (Holds : Type 0) (fault : Option VerificationError)
 not_right : (Holds : Type 0) (error : VerificationError) → Verifies Holds None (Err error) → ¬ Holds
 not_right Holds error verifies holds = let bad : false ≡ true = verifies.right.1 (refl, holds) in cc bad
 
-is_wrong : (Holds : Type 0) (error : VerificationError) (result : Result (Vec ℕ Global) Kind)
+is_wrong : (Holds : Type 0) (error : VerificationError) (result : Result (Vec ℕ Global) FaultKind)
     → Verifies Holds None (Err error) → TellsOutcome (Err error) result → TellsOutcome (Err WrongPin) result
 is_wrong Holds error result verifies told =
     subst (λ (outcome : Result (Unit {0}) VerificationError). TellsOutcome outcome result)
@@ -48,7 +48,7 @@ is_wrong Holds error result verifies told =
 
 -- a fault is told as it is
 is_fault : (Holds : Type 0) (fault : VerificationError) (outcome : Result (Unit {0}) VerificationError)
-    (result : Result (Vec ℕ Global) Kind) → Verifies Holds (Some fault) outcome → TellsOutcome outcome result
+    (result : Result (Vec ℕ Global) FaultKind) → Verifies Holds (Some fault) outcome → TellsOutcome outcome result
     → result ≡ Err (VerificationFault fault)
 is_fault Holds fault (Ok done) result verifies told =
     let bad : None ≡ Some fault = verifies.first (λ same. cc same) in cc bad
@@ -60,14 +60,14 @@ is_fault Holds fault (Err error) result verifies told =
 
 -- the line fails by the fault, where there is one
 pub verdict-fails : (Holds : Type 0) (fault : Option VerificationError) (outcome : Result (Unit {0}) VerificationError)
-    (result : Result (Vec ℕ Global) Kind) → Verifies Holds fault outcome → TellsOutcome outcome result
+    (result : Result (Vec ℕ Global) FaultKind) → Verifies Holds fault outcome → TellsOutcome outcome result
     → FailsBy (option_map VerificationFault fault) result
 verdict-fails Holds None (Ok done) result verifies told = told.0
 verdict-fails Holds None (Err error) result verifies told = (is_wrong Holds error result verifies told).0
 verdict-fails Holds (Some fault) outcome result verifies told = is_fault Holds fault outcome result verifies told
 
 -- at success one fact gives another
-ok_weaker : (P Q : Vec ℕ Global → Type 0) (result : Result (Vec ℕ Global) Kind)
+ok_weaker : (P Q : Vec ℕ Global → Type 0) (result : Result (Vec ℕ Global) FaultKind)
     → ((line : Vec ℕ Global) → P line → Q line)
     → IfOk result P → IfOk result Q
 ok_weaker P Q (Ok line) weaker holds = weaker line holds
@@ -75,7 +75,7 @@ ok_weaker P Q (Err fault) weaker holds = tt
 
 -- the line says whether the PIN is right
 pub verdict-says : (Holds : Type 0) (fault : Option VerificationError) (outcome : Result (Unit {0}) VerificationError)
-    (result : Result (Vec ℕ Global) Kind) → Verifies Holds fault outcome → TellsOutcome outcome result
+    (result : Result (Vec ℕ Global) FaultKind) → Verifies Holds fault outcome → TellsOutcome outcome result
     → IfOk result (λ line. IsVerdictLine Holds line.items)
 verdict-says Holds None (Ok done) result verifies told =
     let holds : Holds = (verifies.right.0 refl).1 in

@@ -9,8 +9,8 @@ use Rattle.des_io.specs.declared.error.StreamError.TheVariants.{Read, Write, Len
 use Rattle.des_io.specs.declared.mode.Mode.TheVariants.{Cbc}
 use Rattle.des_io.specs.declared.padding.Padding.TheVariants.{Pkcs7}
 use Rattle.des_commands.specs.declared.fault.FileFault.TheVariants.{KeyPadding, Password}
-use Rattle.des_commands.specs.declared.fault.Kind.{Kind}
-use Rattle.des_commands.specs.declared.fault.Kind.TheVariants.{File, Length, Memory}
+use Rattle.des_commands.specs.declared.fault.FaultKind.{FaultKind}
+use Rattle.des_commands.specs.declared.fault.FaultKind.TheVariants.{File, Length, Memory}
 use Rattle.des_commands.specs.PrivateKeys.{is_sequence}
 
 -- all of the bytes, decrypted by triple DES in CBC from the vector, without the padding of PKCS #7, by a function that
@@ -32,7 +32,7 @@ HasOtherPadding key vector encrypted =
     × IsWronglyPadded decrypted (Cbc vector) Pkcs7 (passage_of (Some encrypted) read_to (Some []) written_to))
 
 -- the fault of a private key, of one of its bytes: a list of bytes fails to grow only where memory is refused
-abbrev pub private_key_fault : StreamError → Kind
+abbrev pub private_key_fault : StreamError → FaultKind
 private_key_fault (Read error) = Memory
 private_key_fault (Write error) = Memory
 private_key_fault (CutBlock past) = Length
@@ -40,7 +40,7 @@ private_key_fault Start = Length
 private_key_fault Padding = File KeyPadding
 
 -- no whole blocks, another padding, no sequence, or memory that was refused
-abbrev pub FailsAsPrivateKey : (key vector encrypted : List ℕ) → Kind → Type 0
+abbrev pub FailsAsPrivateKey : (key vector encrypted : List ℕ) → FaultKind → Type 0
 FailsAsPrivateKey key vector encrypted kind =
     ((kind ≡ Length) × (length encrypted % 8 ≢ 0))
     ⊎ ((kind ≡ File KeyPadding) × HasOtherPadding key vector encrypted)

@@ -9,8 +9,8 @@ use Rattle.des_commands.specs.declared.command.CardKeyOption.{CardKeyOption}
 use Rattle.des_commands.specs.declared.command.CardKeyOption.TheVariants.{A, B}
 use Rattle.des_commands.specs.declared.command.EmvCalculation.{EmvCalculation}
 use Rattle.des_commands.specs.declared.command.EmvCalculation.TheVariants.{CardKey, ApplicationKey, SessionKey, Cryptogram as MakeCryptogram, Response1, Response2}
-use Rattle.des_commands.specs.declared.fault.Kind.{Kind}
-use Rattle.des_commands.specs.declared.fault.Kind.TheVariants.{Counter, Cryptogram, ResponseCode, CardStatus, IssuerData, CryptogramData, Emv}
+use Rattle.des_commands.specs.declared.fault.FaultKind.{FaultKind}
+use Rattle.des_commands.specs.declared.fault.FaultKind.TheVariants.{Counter, Cryptogram, ResponseCode, CardStatus, IssuerData, CryptogramData, Emv}
 use Rattle.des_commands.specs.Faults.{FailsBy}
 use Rattle.des_commands.specs.Keys.{pair_fault}
 use Rattle.des_commands.specs.Texts.{bytes_of, text_fault, digits_fault, hex_line}
@@ -25,7 +25,7 @@ card_key_by B issuer account sequence = card_key_b issuer account sequence
 abbrev pub card_key_of : CardKeyOption → List ℕ → Inputs → List ℕ
 card_key_of option sequence inputs = card_key_by option (bytes_of inputs.text.now) inputs.account.now sequence
 
-abbrev pub card_key_fault : List ℕ → Inputs → Option Kind
+abbrev pub card_key_fault : List ℕ → Inputs → Option FaultKind
 card_key_fault sequence inputs =
     option_or (pair_fault inputs.text.now) (option_map Emv (card_fault inputs.account.now sequence))
 
@@ -36,7 +36,7 @@ application_key_of counter digits = application_key (bytes_of digits) (bytes_of 
 abbrev pub session_key_of : List ℕ → List ℕ → List ℕ
 session_key_of block digits = session_key (bytes_of digits) (bytes_of block)
 
-abbrev pub session_fault : ℕ → Kind → List ℕ → List ℕ → Option Kind
+abbrev pub session_fault : ℕ → FaultKind → List ℕ → List ℕ → Option FaultKind
 session_fault size fault text digits = option_or (pair_fault digits) (digits_fault size fault fault text)
 
 -- ---- cryptograms
@@ -45,12 +45,12 @@ abbrev pub cryptogram_of : Inputs → List ℕ
 cryptogram_of inputs = cryptogram (bytes_of inputs.key.now) (bytes_of inputs.text.now)
 
 -- the fault of the digits of data, of which there is one byte at least
-abbrev pub data_text_fault : List ℕ → Option Kind
+abbrev pub data_text_fault : List ℕ → Option FaultKind
 data_text_fault digits =
     if (length digits == 0) || not (length digits % 2 == 0) then Some CryptogramData
     else text_fault CryptogramData digits
 
-abbrev pub cryptogram_fault : Inputs → Option Kind
+abbrev pub cryptogram_fault : Inputs → Option FaultKind
 cryptogram_fault inputs = option_or (pair_fault inputs.key.now) (data_text_fault inputs.text.now)
 
 -- ---- responses
@@ -58,10 +58,10 @@ cryptogram_fault inputs = option_or (pair_fault inputs.key.now) (data_text_fault
 abbrev pub response_1_of : List ℕ → List ℕ → List ℕ → List ℕ
 response_1_of request code digits = response_1 (bytes_of digits) (bytes_of request) (bytes_of code)
 
-abbrev pub request_fault : List ℕ → Option Kind
+abbrev pub request_fault : List ℕ → Option FaultKind
 request_fault request = digits_fault 8 Cryptogram Cryptogram request
 
-abbrev pub response_1_fault : List ℕ → List ℕ → List ℕ → Option Kind
+abbrev pub response_1_fault : List ℕ → List ℕ → List ℕ → Option FaultKind
 response_1_fault request code digits =
     option_or (pair_fault digits) (option_or (request_fault request) (digits_fault 2 ResponseCode ResponseCode code))
 
@@ -70,12 +70,12 @@ response_2_of request status issued digits =
     response_2 (bytes_of digits) (bytes_of request) (bytes_of status) (bytes_of issued)
 
 -- the fault of the digits of the issuer's data, at most eight bytes
-abbrev pub issuer_data_fault : List ℕ → Option Kind
+abbrev pub issuer_data_fault : List ℕ → Option FaultKind
 issuer_data_fault issued =
     if nat_lt 16 (length issued) || not (length issued % 2 == 0) then Some IssuerData
     else text_fault IssuerData issued
 
-abbrev pub response_2_fault : List ℕ → List ℕ → List ℕ → List ℕ → Option Kind
+abbrev pub response_2_fault : List ℕ → List ℕ → List ℕ → List ℕ → Option FaultKind
 response_2_fault request status issued digits =
     option_or (pair_fault digits)
     (option_or (request_fault request)
@@ -95,7 +95,7 @@ IsEmvLine (Response2 request status issued) inputs line =
     line ≡ hex_line (response_2_of request.now status.now issued.now inputs.text.now)
 
 -- it fails by its first fault
-abbrev pub FailsAsEmv : EmvCalculation → Inputs → Result (Vec ℕ Global) Kind → Type 0
+abbrev pub FailsAsEmv : EmvCalculation → Inputs → Result (Vec ℕ Global) FaultKind → Type 0
 FailsAsEmv (CardKey option sequence) inputs result = FailsBy (card_key_fault sequence.now inputs) result
 FailsAsEmv (ApplicationKey counter) inputs result =
     FailsBy (session_fault 2 Counter counter.now inputs.text.now) result

@@ -7,11 +7,11 @@ use Rattle.std.specs.Str.{chars}
 use Rattle.des_io.specs.declared.error.StreamError.{StreamError}
 use Rattle.des_io.specs.declared.error.StreamError.TheVariants.{Read as ReadError, Write as WriteError, Length as LengthError, Start as StartError, Padding as PaddingError}
 use Rattle.des_commands.specs.declared.fault.Reason.{Reason}
-use Rattle.des_commands.specs.declared.fault.Kind.{Kind}
-use Rattle.des_commands.specs.declared.fault.Kind.TheVariants.{Source, WeakKey, File, Memory, Read, Write, Length, Start, Padding}
+use Rattle.des_commands.specs.declared.fault.FaultKind.{FaultKind}
+use Rattle.des_commands.specs.declared.fault.FaultKind.TheVariants.{Source, WeakKey, File, Memory, Read, Write, Length, Start, Padding}
 
 -- what a fault of what has a name is about: refused memory is about nothing
-abbrev pub about_of : Kind → List ℕ → List ℕ
+abbrev pub about_of : FaultKind → List ℕ → List ℕ
 about_of Memory name = []
 about_of kind name = name
 
@@ -47,7 +47,7 @@ line_with name about words = line_start name ++ (shown_text about ++ line_end ab
 -- the status of a fault: memory was refused; a file was not read or not written; the
 -- input is not whole blocks, is too short, has wrong padding, or is no file of its form under a
 -- password; or else the arguments, a key or an input is at fault
-abbrev pub status_of : Kind → ℕ
+abbrev pub status_of : FaultKind → ℕ
 status_of Memory = 3
 status_of (Read reason) = 4
 status_of (Source reason) = 4
@@ -59,7 +59,7 @@ status_of (File fault) = 5
 status_of _ = 2
 
 -- the fault of an error of a stream
-abbrev pub IsOfStream : StreamError → Kind → Type 0
+abbrev pub IsOfStream : StreamError → FaultKind → Type 0
 IsOfStream (ReadError error) kind = (reason : Reason) × (kind ≡ Read reason)
 IsOfStream (WriteError error) kind = (reason : Reason) × (kind ≡ Write reason)
 IsOfStream (LengthError past) kind = kind ≡ Length
@@ -67,23 +67,23 @@ IsOfStream StartError kind = kind ≡ Start
 IsOfStream PaddingError kind = kind ≡ Padding
 
 -- a call gives this fault, where there is one, and else fails only if memory is refused
-abbrev pub FailsBy : {A : Type 0} → Option Kind → Result A Kind → Type 0
+abbrev pub FailsBy : {A : Type 0} → Option FaultKind → Result A FaultKind → Type 0
 FailsBy (Some kind) result = result ≡ Err kind
 FailsBy None result = IfErr result (λ kind. kind ≡ Memory)
 
 -- a call that takes no memory gives this fault, where there is one, and else does not fail
-abbrev pub FailsOnlyBy : {A : Type 0} → Option Kind → Result A Kind → Type 0
+abbrev pub FailsOnlyBy : {A : Type 0} → Option FaultKind → Result A FaultKind → Type 0
 FailsOnlyBy (Some kind) result = result ≡ Err kind
 FailsOnlyBy None result = IsOk result
 
 -- a call gives this fault, where there is one, and else something else holds
-abbrev pub FailsOr : {A : Type 0} → Option Kind → Type 0 → Result A Kind → Type 0
+abbrev pub FailsOr : {A : Type 0} → Option FaultKind → Type 0 → Result A FaultKind → Type 0
 FailsOr (Some kind) Else result = result ≡ Err kind
 FailsOr None Else result = Else
 
 -- a call gives this fault, where there is one. Else it fails as `WeakKey` where the key is refused,
 -- and only if memory is refused where it is not
-abbrev pub FailsOrRefuses : {A : Type 0} → Option Kind → Type 0 → Result A Kind → Type 0
+abbrev pub FailsOrRefuses : {A : Type 0} → Option FaultKind → Type 0 → Result A FaultKind → Type 0
 FailsOrRefuses (Some kind) Refused result = result ≡ Err kind
 FailsOrRefuses None Refused result =
     (Refused × (result ≡ Err WeakKey)) ⊎ ((¬ Refused) × FailsBy None result)

@@ -6,9 +6,9 @@ use Rattle.des_io.specs.StreamFaults.{FailsToEncrypt, FailsToDecrypt, FailsToSki
 use Rattle.des_io.specs.declared.error.StreamError.{StreamError}
 use Rattle.des_io.specs.declared.mode.Mode.{Mode}
 use Rattle.des_io.specs.declared.padding.Padding.{Padding}
-use Rattle.des_commands.specs.declared.fault.Kind.{Kind}
-use Rattle.des_commands.specs.declared.fault.Kind.TheVariants.{KeyLength, Memory}
-use Rattle.des_commands.specs.declared.stream_request.Part.{Part}
+use Rattle.des_commands.specs.declared.fault.FaultKind.{FaultKind}
+use Rattle.des_commands.specs.declared.fault.FaultKind.TheVariants.{KeyLength, Memory}
+use Rattle.des_commands.specs.declared.stream_request.BlockRange.{BlockRange}
 use Rattle.des_commands.specs.declared.streams.Job.{Job}
 use Rattle.des_commands.specs.declared.streams.Work.{Work}
 use Rattle.des_commands.specs.declared.streams.Work.TheVariants.{Encrypt, Decrypt}
@@ -21,14 +21,14 @@ abbrev pub IsUntouched : Passage → Type 0
 IsUntouched passage = (passage.read_to ≡ passage.read_from) × (passage.written_to ≡ passage.written_from)
 
 -- memory was refused, or the key does not have the bytes that the cipher takes
-abbrev pub LacksKeyOrMemory : Kind → Job → Type 0
+abbrev pub LacksKeyOrMemory : FaultKind → Job → Type 0
 LacksKeyOrMemory kind job =
     (kind ≡ Memory)
     ⊎ ((kind ≡ KeyLength (Some (key_size_of job.cipher))) × (length job.key.now ≢ key_size_of job.cipher))
 
 -- what was written begins the plaintext of all that is read, or of a part, and what the fault says
 abbrev pub StopsHere : (fault : StreamError) (answer : List ℕ → List ℕ) (mode : Mode) (padding : Padding)
-    (part : Option Part) (passage : Passage) → Type 0
+    (part : Option BlockRange) (passage : Passage) → Type 0
 StopsHere fault answer mode padding None passage =
     DecryptsPrefix answer mode padding passage × FailsToDecrypt fault answer mode padding passage
 StopsHere fault answer mode padding (Some part) passage =
@@ -57,7 +57,7 @@ Stops fault encrypted decrypted job passage =
     StopsWork fault encrypted decrypted job.mode job.padding job.work passage
 
 -- a job has stopped by its key
-pub record StopsByKey (kind : Kind) (job : Job) (passage : Passage) : Type 0 where
+pub record StopsByKey (kind : FaultKind) (job : Job) (passage : Passage) : Type 0 where
   pub encrypted : List ℕ → List ℕ
   pub decrypted : List ℕ → List ℕ
   pub of_key : AreOfKey encrypted decrypted job
@@ -66,5 +66,5 @@ pub record StopsByKey (kind : Kind) (job : Job) (passage : Passage) : Type 0 whe
   pub stops : Stops fault encrypted decrypted job passage
 
 -- a job has stopped: before anything is read or written, or in its stream
-abbrev pub HasStopped : Kind → Job → Passage → Type 0
+abbrev pub HasStopped : FaultKind → Job → Passage → Type 0
 HasStopped kind job passage = (LacksKeyOrMemory kind job × IsUntouched passage) ⊎ StopsByKey kind job passage

@@ -11,7 +11,7 @@ use Rattle.des_io.specs.declared.mode.Mode.TheVariants.{Ecb, Cbc}
 use Rattle.des_io.specs.declared.padding.Padding.{Padding}
 use Rattle.des_commands.specs.declared.stream_request.Cipher.{Cipher}
 use Rattle.des_commands.specs.declared.stream_request.Cipher.TheVariants.{Des, TdesEde2, TdesEde3}
-use Rattle.des_commands.specs.declared.stream_request.Part.{Part}
+use Rattle.des_commands.specs.declared.stream_request.BlockRange.{BlockRange}
 use Rattle.des_commands.specs.declared.streams.Job.{Job}
 use Rattle.des_commands.specs.declared.streams.Work.{Work}
 use Rattle.des_commands.specs.declared.streams.Work.TheVariants.{Encrypt, Decrypt}
@@ -58,7 +58,7 @@ pub record AreOfKey (encrypted decrypted : List ℕ → List ℕ) (job : Job) : 
 -- ---- what is done
 
 -- all that is left is decrypted, up to the end, or the blocks of a part
-abbrev pub DecryptsHere : (answer : List ℕ → List ℕ) (mode : Mode) (padding : Padding) (part : Option Part)
+abbrev pub DecryptsHere : (answer : List ℕ → List ℕ) (mode : Mode) (padding : Padding) (part : Option BlockRange)
     (passage : Passage) → Type 0
 DecryptsHere answer mode padding None passage = Decrypts answer mode padding passage × IsAtEnd passage.read_to
 DecryptsHere answer mode padding (Some part) passage = DecryptsPart answer mode padding part.count passage

@@ -22,8 +22,8 @@ use Rattle.des_commands.specs.declared.command.KeyBlockCalculation.{KeyBlockCalc
 use Rattle.des_commands.specs.declared.command.KeyBlockCalculation.TheVariants.{Header as TellHeader, Unwrap, Wrap}
 use Rattle.des_commands.specs.declared.fault.Field.{Field}
 use Rattle.des_commands.specs.declared.fault.Field.TheVariants.{Usage, Algorithm as AlgorithmField, Mode, KeyVersion, Exportability}
-use Rattle.des_commands.specs.declared.fault.Kind.{Kind}
-use Rattle.des_commands.specs.declared.fault.Kind.TheVariants.{KeyText, ToKeyLength, ToKeyText, Field as FieldFault, KeyBlock}
+use Rattle.des_commands.specs.declared.fault.FaultKind.{FaultKind}
+use Rattle.des_commands.specs.declared.fault.FaultKind.TheVariants.{KeyText, ToKeyLength, ToKeyText, Field as FieldFault, KeyBlock}
 use Rattle.des_commands.specs.Faults.{FailsBy, FailsOr}
 use Rattle.des_commands.specs.Keys.{any_key_fault}
 use Rattle.des_commands.specs.Texts.{bytes_of, hex_line, text_line}
@@ -77,7 +77,7 @@ TellsHeader block lines =
     × (lines ≡ header_lines header ++ context_lines readable.1.1.0.context ++ optional_lines blocks)))
 
 -- the block has a fault that shows without a key, or else only memory may be refused
-abbrev pub FailsAsHeader : List ℕ → Result (Vec ℕ Global) Kind → Type 0
+abbrev pub FailsAsHeader : List ℕ → Result (Vec ℕ Global) FaultKind → Type 0
 FailsAsHeader block result =
     ((error : KeyBlockError) × (HasLayoutFault block error × (result ≡ Err (KeyBlock error))))
     ⊎ ((header : Header) × ((blocks : List (List ℕ × List ℕ)) × (IsReadable header blocks block × FailsBy None result)))
@@ -85,7 +85,7 @@ FailsAsHeader block result =
 -- ---- what a block holds
 
 -- the fault of the digits of the key that protects a block, which has two parts or three
-abbrev pub protection_fault : List ℕ → Option Kind
+abbrev pub protection_fault : List ℕ → Option FaultKind
 protection_fault digits =
     if length digits == 16 then Some (KeyBlock ProtectionKeyLength)
     else any_key_fault (KeyBlock ProtectionKeyLength) KeyText digits
@@ -104,7 +104,7 @@ TellsKey false protection block lines =
     × ((told : List ℕ) × (TellsHeader block told × (lines ≡ told ++ check_lines header.algorithm key)))))
 
 -- the fault of the key's digits, or that of the block under the key, or else only memory may be refused
-abbrev pub FailsAsUnwrapped : List ℕ → List ℕ → Result (Vec ℕ Global) Kind → Type 0
+abbrev pub FailsAsUnwrapped : List ℕ → List ℕ → Result (Vec ℕ Global) FaultKind → Type 0
 FailsAsUnwrapped protection block result =
     FailsOr (protection_fault protection)
     (((error : KeyBlockError) × (HasFault (bytes_of protection) block error × (result ≡ Err (KeyBlock error))))
@@ -114,12 +114,12 @@ FailsAsUnwrapped protection block result =
 -- ---- blocks that are made
 
 -- a field has its number of letters and digits
-abbrev pub field_fault : ℕ → Field → List ℕ → Option Kind
+abbrev pub field_fault : ℕ → Field → List ℕ → Option FaultKind
 field_fault size field text =
     if length text == size && are_alphanumeric text then None else Some (FieldFault field)
 
 -- the first field at fault
-abbrev pub header_text_fault : Wrapping → Option Kind
+abbrev pub header_text_fault : Wrapping → Option FaultKind
 header_text_fault wrapping =
     option_or (field_fault 2 Usage wrapping.usage.now)
     (option_or (field_fault 1 AlgorithmField wrapping.algorithm.now)
@@ -156,7 +156,7 @@ pub record IsWrapped (wrapping : Wrapping) (inputs : Inputs) (line : List ℕ) :
       inputs.random.now line
 
 -- the first fault of the digits of both keys and of the fields
-abbrev pub texts_fault : Wrapping → Inputs → Option Kind
+abbrev pub texts_fault : Wrapping → Inputs → Option FaultKind
 texts_fault wrapping inputs =
     option_or (protection_fault inputs.key.now)
     (option_or (any_key_fault ToKeyLength ToKeyText inputs.text.now) (header_text_fault wrapping))
@@ -167,14 +167,14 @@ HasBlocks optional =
     (blocks : List (List ℕ × List ℕ)) × (IsTrue (nat_le (length blocks) 99) × AreOptionalBlocks blocks optional)
 
 -- optional blocks that are none, or what no block is made of, or else only memory may be refused
-abbrev pub FailsAsMade : List ℕ → Header → List ℕ → List ℕ → List ℕ → Result (Vec ℕ Global) Kind → Type 0
+abbrev pub FailsAsMade : List ℕ → Header → List ℕ → List ℕ → List ℕ → Result (Vec ℕ Global) FaultKind → Type 0
 FailsAsMade protection header optional key random result =
     ((¬ HasBlocks optional) × (result ≡ Err (KeyBlock OptionalBlock)))
     ⊎ ((blocks : List (List ℕ × List ℕ)) × (AreOptionalBlocks blocks optional
     × FailsBy (option_map KeyBlock (wrap_fault protection header blocks key (padding_of random key) 9999)) result))
 
 -- the texts at fault, or what the block is made of
-abbrev pub FailsAsWrapped : Wrapping → Inputs → Result (Vec ℕ Global) Kind → Type 0
+abbrev pub FailsAsWrapped : Wrapping → Inputs → Result (Vec ℕ Global) FaultKind → Type 0
 FailsAsWrapped wrapping inputs result =
     FailsOr (texts_fault wrapping inputs)
     ((header : Header) × (IsHeaderOf wrapping header × FailsAsMade (bytes_of inputs.key.now) header
@@ -190,7 +190,7 @@ AnswersKeyBlock (Unwrap shows_key) inputs lines = TellsKey shows_key inputs.key.
 AnswersKeyBlock (Wrap wrapping) inputs lines = IsWrapped wrapping inputs lines
 
 -- how it fails
-abbrev pub FailsAsKeyBlock : KeyBlockCalculation → Inputs → Result (Vec ℕ Global) Kind → Type 0
+abbrev pub FailsAsKeyBlock : KeyBlockCalculation → Inputs → Result (Vec ℕ Global) FaultKind → Type 0
 FailsAsKeyBlock TellHeader inputs result = FailsAsHeader inputs.text.now result
 FailsAsKeyBlock (Unwrap shows_key) inputs result = FailsAsUnwrapped inputs.key.now inputs.text.now result
 FailsAsKeyBlock (Wrap wrapping) inputs result = FailsAsWrapped wrapping inputs result

@@ -3,8 +3,8 @@ use Rattle.std.specs.Prelude.{◌≡◌, ◌⊎◌, ℕ, ◌*◌, ◌==◌, ◌|
 use Rattle.des.specs.Blocks.{part}
 use Rattle.des.specs.Parity.{AgreeOutsideParity}
 use Rattle.des.specs.WeakKeys.{IsRefused}
-use Rattle.des_commands.specs.declared.fault.Kind.{Kind}
-use Rattle.des_commands.specs.declared.fault.Kind.TheVariants.{KeyLength, KeyText}
+use Rattle.des_commands.specs.declared.fault.FaultKind.{FaultKind}
+use Rattle.des_commands.specs.declared.fault.FaultKind.TheVariants.{KeyLength, KeyText}
 use Rattle.des_commands.specs.declared.keys.Verdict.{Verdict}
 use Rattle.des_commands.specs.declared.keys.Verdict.TheVariants.{Good, DoubleLength, Weak}
 use Rattle.des_commands.specs.Texts.{text_fault, digits_fault}
@@ -19,19 +19,19 @@ is_key_length count None = (count == 16) || ((count == 32) || (count == 48))
 is_key_length count (Some size) = count == 2 * size
 
 -- the fault of the digits of a key of 8, 16 or 24 bytes, by the fault of its length and that of its text
-abbrev pub any_key_fault : Kind → Kind → List ℕ → Option Kind
+abbrev pub any_key_fault : FaultKind → FaultKind → List ℕ → Option FaultKind
 any_key_fault length_fault fault digits =
     if not (is_key_length (length digits) None) then Some length_fault
     else text_fault fault digits
 
 -- the fault of the digits of a key, if they have one
-abbrev pub key_fault : Option ℕ → List ℕ → Option Kind
+abbrev pub key_fault : Option ℕ → List ℕ → Option FaultKind
 key_fault size digits =
     if not (is_key_length (length digits) size) then Some (KeyLength size)
     else text_fault KeyText digits
 
 -- the fault of the digits of a key of two parts
-abbrev pub pair_fault : List ℕ → Option Kind
+abbrev pub pair_fault : List ℕ → Option FaultKind
 pair_fault digits = digits_fault 16 (KeyLength (Some 16)) KeyText digits
 
 -- the third part of a key is the first, parity aside, and the key of the first two is not refused

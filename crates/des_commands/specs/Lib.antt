@@ -11,7 +11,7 @@ pub mod Inodes
 pub mod Keys
 pub mod Notices
 pub mod CheckDigits
-pub mod Answers
+pub mod Tags
 pub mod Jobs
 pub mod JobFaults
 pub mod StreamRequests

@@ -20,8 +20,8 @@ use Rattle.des_commands.specs.declared.command.Calculation.TheVariants.{CheckVal
 use Rattle.des_commands.specs.declared.command.Inputs.{Inputs}
 use Rattle.des_commands.specs.declared.command.Purpose.{Purpose}
 use Rattle.des_commands.specs.declared.command.Purpose.TheVariants.{Pin, Mac, Data, DataVariant}
-use Rattle.des_commands.specs.declared.fault.Kind.{Kind}
-use Rattle.des_commands.specs.declared.fault.Kind.TheVariants.{KeyLength, KeyText, Components, BlockLength, BlockText, SerialLength, SerialText, SerialCounter, FillLength, FillText, Pin as PinFault, Cvv as CvvFault}
+use Rattle.des_commands.specs.declared.fault.FaultKind.{FaultKind}
+use Rattle.des_commands.specs.declared.fault.FaultKind.TheVariants.{KeyLength, KeyText, Components, BlockLength, BlockText, SerialLength, SerialText, SerialCounter, FillLength, FillText, Pin as PinFault, Cvv as CvvFault}
 use Rattle.des_commands.specs.Faults.{FailsBy, FailsOrRefuses}
 use Rattle.des_commands.specs.Keys.{key_fault, pair_fault}
 use Rattle.des_commands.specs.PinLines.{IsPinLine, pin_line_fault}
@@ -51,7 +51,7 @@ abbrev pub key_of_components : ℕ → List ℕ → List ℕ
 key_of_components size bytes = combined (first_chunks size (length bytes / size) bytes)
 
 -- a key has two components at least
-abbrev pub few_fault : ℕ → Option Kind
+abbrev pub few_fault : ℕ → Option FaultKind
 few_fault count = if nat_lt count 2 then Some Components else None
 
 -- the size of a key by its number: 8, 16 or else 24
@@ -68,7 +68,7 @@ component_size count digits =
 abbrev pub key_of_count : ℕ → List ℕ → List ℕ
 key_of_count count digits = key_of_components (component_size count digits) (bytes_of digits)
 
-abbrev pub components_fault : ℕ → List ℕ → Option Kind
+abbrev pub components_fault : ℕ → List ℕ → Option FaultKind
 components_fault count digits =
     if nat_lt count 2 then Some Components
     else if length digits == 16 * count then text_fault KeyText digits
@@ -85,7 +85,7 @@ IsEncoded Format1 fill account pin block = IsTheOne (IsFormat1 pin (fill_of fill
 IsEncoded Format2 fill account pin block = IsTheOne (IsFormat2 pin) block
 IsEncoded Format3 fill account pin block = IsTheOne (IsFormat3 pin account (fill_of fill)) block
 
-abbrev pub encoding_fault : Format → List ℕ → List ℕ → Option Kind
+abbrev pub encoding_fault : Format → List ℕ → List ℕ → Option FaultKind
 encoding_fault Format0 fill account = option_map PinFault (account_fault account)
 encoding_fault Format1 fill account =
     option_or (digits_fault 5 FillLength FillText fill) (option_map PinFault (fill_fault 0 (fill_of fill)))
@@ -100,7 +100,7 @@ IsDecoded Format1 account pin block = (transaction : List ℕ) × IsFormat1 pin 
 IsDecoded Format2 account pin block = IsFormat2 pin block
 IsDecoded Format3 account pin block = (fill : List ℕ) × IsFormat3 pin account fill block
 
-abbrev pub decoding_fault : Format → List ℕ → List ℕ → Option Kind
+abbrev pub decoding_fault : Format → List ℕ → List ℕ → Option FaultKind
 decoding_fault Format0 account block =
     option_map PinFault (option_or (account_fault account)
     (field_fault 0 15 (xor_blocks (digits_of block) (account_field account))))
@@ -128,11 +128,11 @@ transaction_key_of is_initial serial digits =
     transaction_key (initial_key_of is_initial (bytes_of digits) (bytes_of serial)) (bytes_of serial)
 
 -- no transaction has a counter of 0, nor one of more than ten one bits
-abbrev pub counter_fault : List ℕ → Option Kind
+abbrev pub counter_fault : List ℕ → Option FaultKind
 counter_fault serial =
     if counter_of serial == 0 || nat_lt 10 (count_ones (counter_of serial)) then Some SerialCounter else None
 
-abbrev pub transaction_fault : List ℕ → List ℕ → Option Kind
+abbrev pub transaction_fault : List ℕ → List ℕ → Option FaultKind
 transaction_fault serial digits =
     option_or (pair_fault digits)
     (option_or (digits_fault 10 SerialLength SerialText serial) (counter_fault (bytes_of serial)))
@@ -142,7 +142,7 @@ transaction_fault serial digits =
 abbrev pub cvv_of : List ℕ → List ℕ → Inputs → List ℕ
 cvv_of expiry service inputs = verification_value (bytes_of inputs.text.now) inputs.account.now expiry service
 
-abbrev pub cvv_fault : List ℕ → List ℕ → Inputs → Option Kind
+abbrev pub cvv_fault : List ℕ → List ℕ → Inputs → Option FaultKind
 cvv_fault expiry service inputs =
     option_or (pair_fault inputs.text.now) (option_map CvvFault (card_fault inputs.account.now expiry service))
 
@@ -167,7 +167,7 @@ IsLine (EmvByKey calculation) inputs line = IsEmvLine calculation inputs line
 IsLine (KeyBlock calculation) inputs line = AnswersKeyBlock calculation inputs line
 
 -- how a calculation fails: by its first fault, where it has one
-abbrev pub FailsAs : Calculation → Inputs → Result (Vec ℕ Global) Kind → Type 0
+abbrev pub FailsAs : Calculation → Inputs → Result (Vec ℕ Global) FaultKind → Type 0
 FailsAs (CheckValue count) inputs result = FailsBy (key_fault None inputs.text.now) result
 FailsAs Parity inputs result = FailsBy (key_fault None inputs.text.now) result
 FailsAs Weak inputs result = FailsBy (key_fault None inputs.text.now) result

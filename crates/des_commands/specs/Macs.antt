@@ -9,8 +9,8 @@ use Rattle.des_mac.specs.Cmac.{cmac}
 use Rattle.des_payment.specs.KeyLengths.{encryption_by}
 use Rattle.des_passwords.specs.HexStreams.{bytes_of}
 use Rattle.des_commands.specs.declared.fault.Reason.{Reason}
-use Rattle.des_commands.specs.declared.fault.Kind.{Kind}
-use Rattle.des_commands.specs.declared.fault.Kind.TheVariants.{KeyLength, Read}
+use Rattle.des_commands.specs.declared.fault.FaultKind.{FaultKind}
+use Rattle.des_commands.specs.declared.fault.FaultKind.TheVariants.{KeyLength, Read}
 use Rattle.des_commands.specs.declared.mac.PaddingMethod.{PaddingMethod}
 use Rattle.des_commands.specs.declared.mac.PaddingMethod.TheVariants.{One, Two}
 use Rattle.des_commands.specs.declared.mac.Method.{Method}
@@ -50,6 +50,6 @@ HasKeySize (Retail padding) key = length key ≡ 16
 HasKeySize method key = (length key ≡ 8) ⊎ ((length key ≡ 16) ⊎ (length key ≡ 24))
 
 -- a message is not authenticated: the method takes no such key, or the message can't be read
-abbrev pub FailsToAuthenticate : Type 0 → Kind → Type 0
+abbrev pub FailsToAuthenticate : Type 0 → FaultKind → Type 0
 FailsToAuthenticate IsKey kind =
     ((¬ IsKey) × (kind ≡ KeyLength None)) ⊎ ((reason : Reason) × (kind ≡ Read reason))

@@ -3,8 +3,8 @@ use Rattle.std.specs.Prelude.{◌≡◌, ◌⊎◌, ℕ, ◌+◌, ◌/◌, ◌^�
 use Rattle.std.specs.Int.{div_ceil}
 use Rattle.des_io.specs.declared.padding.Padding.{Padding}
 use Rattle.des_io.specs.declared.padding.Padding.TheVariants.{Unpadded, Zeros}
-use Rattle.des_commands.specs.declared.fault.Kind.{Kind}
-use Rattle.des_commands.specs.declared.fault.Kind.TheVariants.{WeakKey as RefusedKey}
+use Rattle.des_commands.specs.declared.fault.FaultKind.{FaultKind}
+use Rattle.des_commands.specs.declared.fault.FaultKind.TheVariants.{WeakKey as RefusedKey}
 use Rattle.des_commands.specs.declared.keys.Verdict.{Verdict}
 use Rattle.des_commands.specs.declared.keys.Verdict.TheVariants.{DoubleLength as TwoParts, Weak}
 use Rattle.des_commands.specs.declared.notices.Notice.{Notice}
@@ -38,7 +38,7 @@ notice_line Permissions about =
 -- what follows from the word of `--weak-keys`, from whether the stream encrypts, and from the
 -- verdict: a weak key is refused, told of, or used in silence. A key of two parts in the form of
 -- three is told of to encrypt, unless the word is `accept`
-abbrev pub ruling_of : WeakKeys → Bool → Verdict → Result (Option Notice) Kind
+abbrev pub ruling_of : WeakKeys → Bool → Verdict → Result (Option Notice) FaultKind
 ruling_of Refuse encrypts Weak = Err RefusedKey
 ruling_of Warn encrypts Weak = Ok (Some WeakKey)
 ruling_of Refuse true TwoParts = Ok (Some DoubleLength)
@@ -46,7 +46,7 @@ ruling_of Warn true TwoParts = Ok (Some DoubleLength)
 ruling_of weak_keys encrypts verdict = Ok None
 
 -- what a ruling gives, and what was written: a line, or a prefix of it, where there is a notice
-abbrev pub IsRuledBy : Result (Option Notice) Kind → List ℕ → Result (Unit {0}) Kind
+abbrev pub IsRuledBy : Result (Option Notice) FaultKind → List ℕ → Result (Unit {0}) FaultKind
     → Option (List ℕ) → Option (List ℕ) → Type 0
 IsRuledBy (Err kind) about result old new = (result ≡ Err kind) × (new ≡ old)
 IsRuledBy (Ok None) about result old new = (result ≡ Ok tt) × (new ≡ old)
@@ -54,7 +54,7 @@ IsRuledBy (Ok (Some notice)) about result old new =
     (result ≡ Ok tt) × AppendsPrefix old new (notice_line notice about)
 
 -- the ruling is that of the key's verdict
-abbrev pub IsAccepted : WeakKeys → Bool → List ℕ → List ℕ → Result (Unit {0}) Kind
+abbrev pub IsAccepted : WeakKeys → Bool → List ℕ → List ℕ → Result (Unit {0}) FaultKind
     → Option (List ℕ) → Option (List ℕ) → Type 0
 IsAccepted weak_keys encrypts key about result old new =
     (verdict : Verdict) × IsVerdict verdict key

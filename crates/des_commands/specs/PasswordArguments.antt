@@ -4,8 +4,8 @@ use Rattle.std.specs.Str.Parse.{IsNumeral, without_leading_plus, digits_value}
 use Rattle.des_passwords.specs.declared.derivation.Derivation.{Derivation}
 use Rattle.des_passwords.specs.declared.derivation.Derivation.TheVariants.{Md5, Sha1, Sha256, Pbkdf2Sha1, Pbkdf2Sha256}
 use Rattle.des_commands.specs.declared.fault.Misuse.TheVariants.{Derivation as OtherDerivation, DerivationToEncrypt, Count}
-use Rattle.des_commands.specs.declared.fault.Kind.{Kind}
-use Rattle.des_commands.specs.declared.fault.Kind.TheVariants.{Usage}
+use Rattle.des_commands.specs.declared.fault.FaultKind.{FaultKind}
+use Rattle.des_commands.specs.declared.fault.FaultKind.TheVariants.{Usage}
 
 -- a text writes a number of 32 bits in decimal digits, where a plus may stand first
 abbrev pub IsCount : List ℕ → ℕ → Type 0
@@ -39,7 +39,7 @@ is_to_encrypt (Pbkdf2Sha256 count) = true
 is_to_encrypt _ = false
 
 -- encryption takes one alone; there is an iteration at least, and no more than ten million unless any count is taken
-abbrev pub derivation_fault : Derivation → (encrypts takes_any_count : Bool) → Option Kind
+abbrev pub derivation_fault : Derivation → (encrypts takes_any_count : Bool) → Option FaultKind
 derivation_fault derivation encrypts takes_any_count =
     if encrypts && not (is_to_encrypt derivation) then Some (Usage DerivationToEncrypt)
     else if count_of derivation == 0 then Some (Usage OtherDerivation)

@@ -6,8 +6,8 @@ use Rattle.des_passwords.specs.Derivations.{derived, IsDerivable}
 use Rattle.des_commands.specs.declared.fault.Misuse.TheVariants.{Derivation as OtherDerivation}
 use Rattle.des_commands.specs.declared.fault.FileFault.TheVariants.{NotSalted, SaltCut}
 use Rattle.des_commands.specs.declared.fault.Reason.{Reason}
-use Rattle.des_commands.specs.declared.fault.Kind.{Kind}
-use Rattle.des_commands.specs.declared.fault.Kind.TheVariants.{Usage, Read, File, EmptyPassword}
+use Rattle.des_commands.specs.declared.fault.FaultKind.{FaultKind}
+use Rattle.des_commands.specs.declared.fault.FaultKind.TheVariants.{Usage, Read, File, EmptyPassword}
 use Rattle.des_commands.specs.declared.streams.Job.{Job}
 use Rattle.des_commands.specs.declared.password_streams.PasswordJob.{PasswordJob}
 use Rattle.des_commands.specs.declared.keys.Verdict.{Verdict}
@@ -20,7 +20,7 @@ use Rattle.des_commands.specs.StreamRequests.{IsJobOf}
 use Rattle.des_commands.specs.JobFaults.{IsUntouched, HasStopped}
 
 -- what encrypts is not empty
-abbrev pub password_fault : (encrypts : Bool) → List ℕ → Option Kind
+abbrev pub password_fault : (encrypts : Bool) → List ℕ → Option FaultKind
 password_fault encrypts password = if encrypts && (length password == 0) then Some EmptyPassword else None
 
 -- ---- the salt
@@ -42,7 +42,7 @@ abbrev pub IsToHaveSalt : PasswordJob → Type 0
 IsToHaveSalt job = (job.request.now.encrypts ≡ false) × (job.by.is_salted ≡ true)
 
 -- no salt is read: the input begins otherwise, or ends within it, or can't be read
-abbrev pub FailsToReadSalt : Option (List ℕ) → Option (List ℕ) → Kind → Type 0
+abbrev pub FailsToReadSalt : Option (List ℕ) → Option (List ℕ) → FaultKind → Type 0
 FailsToReadSalt read_from read_to kind =
     ((bytes : List ℕ) × (Consumes read_from read_to bytes × (length bytes < 16 → IsAtEnd read_to)
     × (take 8 bytes ≢ codes "Salted__") × (kind ≡ File NotSalted)))
@@ -68,7 +68,7 @@ pub record IsStreamOf (job : PasswordJob) (salt : Option (List ℕ)) (stream : J
   pub by_key : IsJobOf job.request.now key vector (codes "Salted__" ++ job.salt) job.skipped stream
 
 -- what the weak key test and `--weak-keys` say of the key
-abbrev pub IsRuled : PasswordJob → List ℕ → Result (Option Notice) Kind → Type 0
+abbrev pub IsRuled : PasswordJob → List ℕ → Result (Option Notice) FaultKind → Type 0
 IsRuled job key ruling =
     (verdict : Verdict) × IsVerdict verdict key
     × (ruling ≡ ruling_of job.request.now.weak_keys job.request.now.encrypts verdict)
@@ -85,7 +85,7 @@ pub record IsDoneByPassword (job : PasswordJob) (passage : Passage) : Type 0 whe
   pub stream : Job
   pub reads : ReadsSalt job salt passage.read_from begun
   pub by_password : IsStreamOf job salt stream
-  pub ruling : Result (Option Notice) Kind
+  pub ruling : Result (Option Notice) FaultKind
   pub ruled : IsRuled job stream.key.now ruling
   pub taken : IsOk ruling
   pub done : IsDone stream (passage_of begun passage.read_to passage.written_from passage.written_to)
@@ -93,19 +93,19 @@ pub record IsDoneByPassword (job : PasswordJob) (passage : Passage) : Type 0 whe
 -- ---- a stream that ended before its time
 
 -- there is no iteration
-abbrev pub HasNoKey : Kind → PasswordJob → Type 0
+abbrev pub HasNoKey : FaultKind → PasswordJob → Type 0
 HasNoKey kind job =
     (kind ≡ Usage OtherDerivation) × (¬ IsDerivable job.by.derivation (key_size_of job.request.now.cipher + 8))
 
 -- after the salt there is no key, or it is refused, and nothing more was read or written; or the stream has stopped
-abbrev pub StopsAfterSalt : Kind → PasswordJob → (salt : Option (List ℕ)) → Passage → Type 0
+abbrev pub StopsAfterSalt : FaultKind → PasswordJob → (salt : Option (List ℕ)) → Passage → Type 0
 StopsAfterSalt kind job salt passage =
     (HasNoKey kind job × IsUntouched passage)
     ⊎ ((stream : Job) × IsStreamOf job salt stream
     × ((IsRuled job stream.key.now (Err kind) × IsUntouched passage) ⊎ HasStopped kind stream passage))
 
 -- no salt was read where there is to be one, and nothing was written; or the stream has stopped after it
-abbrev pub StopsByPassword : Kind → PasswordJob → Passage → Type 0
+abbrev pub StopsByPassword : FaultKind → PasswordJob → Passage → Type 0
 StopsByPassword kind job passage =
     (IsToHaveSalt job × FailsToReadSalt passage.read_from passage.read_to kind
     × (passage.written_to ≡ passage.written_from))

@@ -15,8 +15,8 @@ use Rattle.des_commands.specs.declared.command.Inputs.{Inputs}
 use Rattle.des_commands.specs.declared.command.NaturalPins.{NaturalPins}
 use Rattle.des_commands.specs.declared.command.PinCalculation.{PinCalculation}
 use Rattle.des_commands.specs.declared.command.PinCalculation.TheVariants.{Translate, TranslateFormat1, MakePvv, VerifyPvv, Natural, MakeOffset, VerifyOffset}
-use Rattle.des_commands.specs.declared.fault.Kind.{Kind}
-use Rattle.des_commands.specs.declared.fault.Kind.TheVariants.{KeyLength, KeyText, ToKeyLength, ToKeyText, Value, Offset, Validation, BlockLength, BlockText, FillLength, FillText, Pin as PinFault, Translation as TranslationFault, Verification as VerificationFault}
+use Rattle.des_commands.specs.declared.fault.FaultKind.{FaultKind}
+use Rattle.des_commands.specs.declared.fault.FaultKind.TheVariants.{KeyLength, KeyText, ToKeyLength, ToKeyText, Value, Offset, Validation, BlockLength, BlockText, FillLength, FillText, Pin as PinFault, Translation as TranslationFault, Verification as VerificationFault}
 use Rattle.des_commands.specs.Faults.{FailsBy}
 use Rattle.des_commands.specs.Keys.{any_key_fault, pair_fault}
 use Rattle.des_commands.specs.Texts.{bytes_of, digits_fault, fill_of, hex_line, text_line}
@@ -30,7 +30,7 @@ fill_for Format1 fill = replicate 10 15
 fill_for Format2 fill = replicate 10 15
 fill_for Format3 fill = fill_of fill
 
-abbrev pub fill_text_fault : Format → List ℕ → Option Kind
+abbrev pub fill_text_fault : Format → List ℕ → Option FaultKind
 fill_text_fault Format0 fill = None
 fill_text_fault Format1 fill = None
 fill_text_fault Format2 fill = None
@@ -44,7 +44,7 @@ IsTranslated from to fill inputs block =
 
 -- the first fault: of the digits of the key, of the outgoing key, of the block and of the fill digits, and then those of
 -- the translation
-abbrev pub translated_fault : Format → Format → List ℕ → Inputs → Option Kind
+abbrev pub translated_fault : Format → Format → List ℕ → Inputs → Option FaultKind
 translated_fault from to fill inputs =
     option_or (any_key_fault (KeyLength None) KeyText inputs.key.now)
     (option_or (any_key_fault ToKeyLength ToKeyText inputs.to_key.now)
@@ -58,7 +58,7 @@ translated_fault from to fill inputs =
 abbrev pub rekeyed_by : Inputs → List ℕ
 rekeyed_by inputs = rekeyed (bytes_of inputs.key.now) (bytes_of inputs.to_key.now) (bytes_of inputs.text.now)
 
-abbrev pub rekeyed_fault : Inputs → Option Kind
+abbrev pub rekeyed_fault : Inputs → Option FaultKind
 rekeyed_fault inputs =
     option_or (any_key_fault (KeyLength None) KeyText inputs.key.now)
     (option_or (any_key_fault ToKeyLength ToKeyText inputs.to_key.now)
@@ -73,7 +73,7 @@ abbrev pub IsVerdictLine : Type 0 → List ℕ → Type 0
 IsVerdictLine Holds line = (Holds × (line ≡ codes "right\n")) ⊎ ((¬ Holds) × (line ≡ codes "wrong\n"))
 
 -- the line of a verification, unless memory is refused, or its fault
-abbrev pub TellsOutcome : Result (Unit {0}) VerificationError → Result (Vec ℕ Global) Kind → Type 0
+abbrev pub TellsOutcome : Result (Unit {0}) VerificationError → Result (Vec ℕ Global) FaultKind → Type 0
 TellsOutcome (Ok right) result = FailsBy None result × IfOk result (λ line. line.items ≡ codes "right\n")
 TellsOutcome (Err WrongPin) result = FailsBy None result × IfOk result (λ line. line.items ≡ codes "wrong\n")
 TellsOutcome (Err error) result = result ≡ Err (VerificationFault error)
@@ -84,7 +84,7 @@ TellsOutcome (Err error) result = result ≡ Err (VerificationFault error)
 abbrev pub pvv_of : ℕ → Inputs → List ℕ
 pvv_of index inputs = pvv (bytes_of inputs.key.now) inputs.account.now index inputs.text.now
 
-abbrev pub pvv_fault : ℕ → Inputs → Option Kind
+abbrev pub pvv_fault : ℕ → Inputs → Option FaultKind
 pvv_fault index inputs =
     option_or (pair_fault inputs.key.now)
     (option_or (option_map PinFault (pin_fault inputs.text.now))
@@ -94,7 +94,7 @@ pvv_fault index inputs =
 abbrev pub HasPvv : ℕ → List ℕ → Inputs → Type 0
 HasPvv index value inputs = value ≡ pvv_of index inputs
 
-abbrev pub pvv_verdict_fault : ℕ → List ℕ → Inputs → Option Kind
+abbrev pub pvv_verdict_fault : ℕ → List ℕ → Inputs → Option FaultKind
 pvv_verdict_fault index value inputs =
     option_or (pair_fault inputs.key.now)
     (option_or (option_map PinFault (pin_fault inputs.text.now))
@@ -108,10 +108,10 @@ abbrev pub least_variety : (takes_any_table : Bool) → ℕ
 least_variety true = 0
 least_variety false = 8
 
-abbrev pub table_text_fault : NaturalPins → Option Kind
+abbrev pub table_text_fault : NaturalPins → Option FaultKind
 table_text_fault by = option_map VerificationFault (table_fault (least_variety by.takes_any_table) by.table.now)
 
-abbrev pub validation_fault : NaturalPins → Option Kind
+abbrev pub validation_fault : NaturalPins → Option FaultKind
 validation_fault by = digits_fault 8 Validation Validation by.validation.now
 
 -- the natural PIN of a number of digits
@@ -119,7 +119,7 @@ abbrev pub natural_pin_by : NaturalPins → ℕ → List ℕ → List ℕ
 natural_pin_by by count digits =
     natural_pin (bytes_of digits) (values by.table.now) (bytes_of by.validation.now) count
 
-abbrev pub natural_fault : NaturalPins → ℕ → List ℕ → Option Kind
+abbrev pub natural_fault : NaturalPins → ℕ → List ℕ → Option FaultKind
 natural_fault by count digits =
     option_or (any_key_fault (KeyLength None) KeyText digits)
     (option_or (validation_fault by)
@@ -130,7 +130,7 @@ abbrev pub offset_by : NaturalPins → Inputs → List ℕ
 offset_by by inputs =
     pin_offset (bytes_of inputs.key.now) (values by.table.now) (bytes_of by.validation.now) inputs.text.now
 
-abbrev pub offset_fault : NaturalPins → Inputs → Option Kind
+abbrev pub offset_fault : NaturalPins → Inputs → Option FaultKind
 offset_fault by inputs =
     option_or (any_key_fault (KeyLength None) KeyText inputs.key.now)
     (option_or (option_map PinFault (pin_fault inputs.text.now))
@@ -142,7 +142,7 @@ abbrev pub HasOffset : NaturalPins → List ℕ → Inputs → Type 0
 HasOffset by offset inputs =
     IsRight (bytes_of inputs.key.now) (values by.table.now) (bytes_of by.validation.now) offset inputs.text.now
 
-abbrev pub offset_verdict_fault : NaturalPins → List ℕ → Inputs → Option Kind
+abbrev pub offset_verdict_fault : NaturalPins → List ℕ → Inputs → Option FaultKind
 offset_verdict_fault by offset inputs =
     option_or (any_key_fault (KeyLength None) KeyText inputs.key.now)
     (option_or (option_map PinFault (pin_fault inputs.text.now))
@@ -164,7 +164,7 @@ IsPinLine (MakeOffset by) inputs line = line ≡ text_line (offset_by by inputs)
 IsPinLine (VerifyOffset by offset) inputs line = IsVerdictLine (HasOffset by offset.now inputs) line
 
 -- the first fault
-abbrev pub pin_line_fault : PinCalculation → Inputs → Option Kind
+abbrev pub pin_line_fault : PinCalculation → Inputs → Option FaultKind
 pin_line_fault (Translate from to fill) inputs = translated_fault from to fill.now inputs
 pin_line_fault TranslateFormat1 inputs = rekeyed_fault inputs
 pin_line_fault (MakePvv index) inputs = pvv_fault index inputs

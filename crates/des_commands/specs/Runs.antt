@@ -3,13 +3,13 @@ use Rattle.std.specs.Prelude.{◌≡◌, ◌↔◌, ◌&&◌, ℕ, Bool, false, 
 use Rattle.std.specs.declared.vec.Vec.{Vec}
 use Rattle.std.specs.declared.alloc.Global.{Global}
 use Rattle.des_commands.specs.declared.fault.Fault.{Fault}
-use Rattle.des_commands.specs.declared.fault.Kind.{Kind}
-use Rattle.des_commands.specs.declared.fault.Kind.TheVariants.{CheckDigit}
+use Rattle.des_commands.specs.declared.fault.FaultKind.{FaultKind}
+use Rattle.des_commands.specs.declared.fault.FaultKind.TheVariants.{CheckDigit}
 use Rattle.des_commands.specs.declared.command.Calculation.{Calculation}
 use Rattle.des_commands.specs.declared.command.Calculation.TheVariants.{Pin, Weak}
 use Rattle.des_commands.specs.declared.command.CalculationRequest.{CalculationRequest}
 use Rattle.des_commands.specs.declared.command.Inputs.{Inputs}
-use Rattle.des_commands.specs.Answers.{status_after}
+use Rattle.des_commands.specs.Tags.{status_after}
 use Rattle.des_commands.specs.CheckDigits.{lacks_check_digit}
 use Rattle.des_commands.specs.Lines.{IsLine, FailsAs}
 use Rattle.des_commands.specs.Names.{IsSubject}
@@ -17,25 +17,25 @@ use Rattle.des_commands.specs.PinLines.{is_question}
 use Rattle.des_commands.specs.Written.{Saying, AppendsLinePrefix, IsShown}
 
 -- the fault of a kind, with what it is about
-abbrev pub IsFaultOf : CalculationRequest → Kind → Fault → Type 0
+abbrev pub IsFaultOf : CalculationRequest → FaultKind → Fault → Type 0
 IsFaultOf request kind fault = (fault.kind ≡ kind) × IsSubject request fault.about.now
 
 -- the account number is refused, or else the calculation fails by its first fault, where it has one
-abbrev pub FailsAsAsked : CalculationRequest → Inputs → Result (Vec ℕ Global) Kind → Type 0
+abbrev pub FailsAsAsked : CalculationRequest → Inputs → Result (Vec ℕ Global) FaultKind → Type 0
 FailsAsAsked request inputs result =
     (IsTrue (request.refuses_wrong_check_digit && lacks_check_digit inputs.account.now) → result ≡ Err CheckDigit)
     × (request.refuses_wrong_check_digit && lacks_check_digit inputs.account.now ≡ false
     → FailsAs request.calculation inputs result)
 
 -- a result with what its fault is about
-abbrev pub IsAbout : CalculationRequest → Result (Vec ℕ Global) Kind → Result (Vec ℕ Global) Fault → Type 0
+abbrev pub IsAbout : CalculationRequest → Result (Vec ℕ Global) FaultKind → Result (Vec ℕ Global) Fault → Type 0
 IsAbout request (Ok line) outcome = outcome ≡ Ok line
 IsAbout request (Err kind) outcome = (fault : Fault) × (IsFaultOf request kind fault × (outcome ≡ Err fault))
 
 -- the line, or the fault
 pub record IsOutcome (request : CalculationRequest) (inputs : Inputs) (outcome : Result (Vec ℕ Global) Fault)
     : Type 0 where
-  pub result : Result (Vec ℕ Global) Kind
+  pub result : Result (Vec ℕ Global) FaultKind
   pub fault : FailsAsAsked request inputs result
   pub line : IfOk result (λ line. IsLine request.calculation inputs line.items)
   pub about : IsAbout request result outcome

@@ -4,10 +4,10 @@ use Rattle.std.specs.List.{list_any}
 use Rattle.std.specs.Char.{is_ascii_digit, is_ascii_hexdigit}
 use Rattle.std.specs.Io.KnownBytes.{Consumes, IsAtEnd}
 use Rattle.des_commands.specs.declared.fault.Reason.{Reason}
-use Rattle.des_commands.specs.declared.fault.Kind.{Kind}
-use Rattle.des_commands.specs.declared.fault.Kind.TheVariants.{InputLength, Memory, Read, Source}
-use Rattle.des_commands.specs.declared.source.Source.{Source as Place}
-use Rattle.des_commands.specs.declared.source.Source.TheVariants.{StandardInput, File, Descriptor, Variable}
+use Rattle.des_commands.specs.declared.fault.FaultKind.{FaultKind}
+use Rattle.des_commands.specs.declared.fault.FaultKind.TheVariants.{InputLength, Memory, Read, Source}
+use Rattle.des_commands.specs.declared.text_source.Source.{Source as Place}
+use Rattle.des_commands.specs.declared.text_source.Source.TheVariants.{StandardInput, File, Descriptor, Variable}
 use Rattle.des_passwords.specs.HexStreams.{is_space}
 
 -- what somebody writes between the digits of a secret or around them, as in 0x13:34 and "13-34": white space, marks and
@@ -53,14 +53,14 @@ name_of_source (Descriptor number) = codes "--key-fd"
 name_of_source (Variable name) = codes "--key-env"
 
 -- an input can't be read, or memory was refused
-abbrev pub FailsToRead : Kind → Type 0
+abbrev pub FailsToRead : FaultKind → Type 0
 FailsToRead kind = (kind ≡ Memory) ⊎ ((reason : Reason) × (kind ≡ Read reason))
 
 -- the same of the source of random bytes
-abbrev pub FailsAsSource : Kind → Type 0
+abbrev pub FailsAsSource : FaultKind → Type 0
 FailsAsSource kind = (kind ≡ Memory) ⊎ ((reason : Reason) × (kind ≡ Source reason))
 
-abbrev pub of_source : Kind → Kind
+abbrev pub of_source : FaultKind → FaultKind
 of_source (Read reason) = Source reason
 of_source kind = kind
 
@@ -70,7 +70,7 @@ IsAllOf longest bytes read_from read_to =
     Consumes read_from read_to bytes × IsAtEnd read_to × (length bytes ≤ longest)
 
 -- nothing is given: the input is longer, the source can't be read, or memory was refused
-abbrev pub FailsToGive : ℕ → Option (List ℕ) → Option (List ℕ) → Kind → Type 0
+abbrev pub FailsToGive : ℕ → Option (List ℕ) → Option (List ℕ) → FaultKind → Type 0
 FailsToGive longest read_from read_to kind =
     ((kind ≡ InputLength) × ((bytes : List ℕ) × Consumes read_from read_to bytes × (longest < length bytes)))
     ⊎ ((reason : Reason) × (kind ≡ Read reason)) ⊎ (kind ≡ Memory)

@@ -4,10 +4,10 @@ use Rattle.std.specs.Borrow.{Bor}
 use Rattle.des_io.specs.declared.padding.Padding.{Padding}
 use Rattle.des_io.specs.declared.padding.Padding.TheVariants.{Pkcs7, Iso7816, Zeros, Unpadded}
 use Rattle.des_commands.specs.declared.fault.Misuse.TheVariants.{Arguments, StandardInputTwice, VectorNeeded, VectorOfEcb, VectorOfPassword, RandomToDecrypt, FirstBlockToEncrypt, PartToEncrypt}
-use Rattle.des_commands.specs.declared.fault.Kind.{Kind}
-use Rattle.des_commands.specs.declared.fault.Kind.TheVariants.{Usage, Vector as WrongVector}
-use Rattle.des_commands.specs.declared.source.Source.{Source}
-use Rattle.des_commands.specs.declared.source.Source.TheVariants.{StandardInput, File}
+use Rattle.des_commands.specs.declared.fault.FaultKind.{FaultKind}
+use Rattle.des_commands.specs.declared.fault.FaultKind.TheVariants.{Usage, Vector as WrongVector}
+use Rattle.des_commands.specs.declared.text_source.Source.{Source}
+use Rattle.des_commands.specs.declared.text_source.Source.TheVariants.{StandardInput, File}
 use Rattle.des_commands.specs.declared.stream_request.Cipher.{Cipher}
 use Rattle.des_commands.specs.declared.stream_request.Cipher.TheVariants.{Des, TdesEde2, TdesEde3}
 use Rattle.des_commands.specs.declared.stream_request.Vector.{Vector}
@@ -16,7 +16,7 @@ use Rattle.des_commands.specs.declared.stream_request.StreamMode.{StreamMode}
 use Rattle.des_commands.specs.declared.stream_request.StreamMode.TheVariants.{Ecb, Cbc}
 use Rattle.des_commands.specs.declared.stream_request.Secret.{Secret}
 use Rattle.des_commands.specs.declared.stream_request.Secret.TheVariants.{Key, Password}
-use Rattle.des_commands.specs.declared.stream_request.Part.{Part}
+use Rattle.des_commands.specs.declared.stream_request.BlockRange.{BlockRange}
 use Rattle.des_commands.specs.declared.stream_request.WeakKeys.{WeakKeys}
 use Rattle.des_commands.specs.declared.stream_request.WeakKeys.TheVariants.{Refuse, Warn, Accept}
 use Rattle.des_commands.specs.declared.stream_request.Output.{Output}
@@ -68,7 +68,7 @@ IsVector text encrypts (Bytes iv) = (digits_fault 8 WrongVector WrongVector text
 IsVector text encrypts _ = ⊥
 
 -- why a text is no vector: it is the word of the other direction, or neither a word nor 16 digits
-abbrev pub FailsAsVector : List ℕ → (encrypts : Bool) → Kind → Type 0
+abbrev pub FailsAsVector : List ℕ → (encrypts : Bool) → FaultKind → Type 0
 FailsAsVector text encrypts kind =
     ((encrypts ≡ false) × (text ≡ codes "random") × (kind ≡ Usage RandomToDecrypt))
     ⊎ ((encrypts ≡ true) × (text ≡ codes "first-block") × (kind ≡ Usage FirstBlockToEncrypt))
@@ -82,7 +82,7 @@ IsMode None (Password source by) true encrypts mode = mode ≡ Cbc OfPassword
 IsMode (Some text) (Key source) true encrypts (Cbc vector) = IsVector text.now encrypts vector
 IsMode _ _ _ encrypts mode = ⊥
 
-abbrev pub FailsAsMode : Option (Bor (List ℕ)) → Secret → (is_chained encrypts : Bool) → Kind → Type 0
+abbrev pub FailsAsMode : Option (Bor (List ℕ)) → Secret → (is_chained encrypts : Bool) → FaultKind → Type 0
 FailsAsMode None (Key source) true encrypts kind = kind ≡ Usage VectorNeeded
 FailsAsMode (Some text) (Key source) true encrypts kind = FailsAsVector text.now encrypts kind
 FailsAsMode (Some text) (Key source) false encrypts kind = kind ≡ Usage VectorOfEcb
@@ -92,13 +92,13 @@ FailsAsMode _ _ _ encrypts kind = ⊥
 -- ---- parts
 
 -- the part of two numbers: from a block on, the first being 0, and at most this number of them
-abbrev pub part_between : (from count : Option ℕ) → Option Part
+abbrev pub part_between : (from count : Option ℕ) → Option BlockRange
 part_between None None = None
 part_between (Some from) count = Some record { from = from; count = count }
 part_between None (Some count) = Some record { from = 0; count = Some count }
 
 -- a part is decrypted, and none is encrypted
-abbrev pub part_for : (encrypts : Bool) (from count : Option ℕ) → Result (Option Part) Kind
+abbrev pub part_for : (encrypts : Bool) (from count : Option ℕ) → Result (Option BlockRange) FaultKind
 part_for false from count = Ok (part_between from count)
 part_for true None None = Ok None
 part_for true from count = Err (Usage PartToEncrypt)
@@ -157,7 +157,7 @@ HasOtherWord words =
     → weak_keys_word choice ≢ text_or words.weak_keys (weak_keys_word (default_weak_keys words.encrypts)))
 
 -- why words ask for nothing
-abbrev pub FailsAsRequest : StreamWords → Kind → Type 0
+abbrev pub FailsAsRequest : StreamWords → FaultKind → Type 0
 FailsAsRequest words kind =
     (HasOtherWord words × (kind ≡ Usage Arguments))
     ⊎ (part_for words.encrypts words.from words.count ≡ Err kind)

@@ -3,11 +3,11 @@
 use Rattle.std.specs.Prelude.{◌≡◌, ℕ, ◌+◌, ◌-◌, ◌^◌, min, Bool, true, false, List, [], replicate, Option, Some, None}
 use Rattle.des_io.specs.declared.mode.Mode.{Mode}
 use Rattle.des_io.specs.declared.mode.Mode.TheVariants.{Ecb, Cbc}
-use Rattle.des_commands.specs.declared.source.Source.{Source}
+use Rattle.des_commands.specs.declared.text_source.Source.{Source}
 use Rattle.des_commands.specs.declared.stream_request.StreamMode.{StreamMode}
 use Rattle.des_commands.specs.declared.stream_request.StreamMode.TheVariants.{Ecb as InEcb, Cbc as InCbc}
 use Rattle.des_commands.specs.declared.stream_request.Vector.TheVariants.{Bytes, Random, FirstBlock}
-use Rattle.des_commands.specs.declared.stream_request.Part.{Part}
+use Rattle.des_commands.specs.declared.stream_request.BlockRange.{BlockRange}
 use Rattle.des_commands.specs.declared.stream_request.Secret.{Secret}
 use Rattle.des_commands.specs.declared.stream_request.Secret.TheVariants.{Key, Password}
 use Rattle.des_commands.specs.declared.stream_request.StreamRequest.{StreamRequest}
@@ -34,18 +34,18 @@ heading_of (InCbc Random) random = random
 heading_of _ random = []
 
 -- the blocks before a part, the first block being 0
-abbrev pub from_of : Option Part → ℕ
+abbrev pub from_of : Option BlockRange → ℕ
 from_of None = 0
 from_of (Some part) = part.from
 
 -- the blocks that are passed over: those before the part, and one more where the first is the vector. They are counted
 -- up to 2^64 - 1; no input has more
-abbrev pub blocks_before : StreamMode → Option Part → ℕ
+abbrev pub blocks_before : StreamMode → Option BlockRange → ℕ
 blocks_before (InCbc FirstBlock) part = min (from_of part + 1) (2 ^ 64 - 1)
 blocks_before mode part = from_of part
 
 -- the work of a direction
-abbrev pub IsWork : (encrypts : Bool) → (heading : List ℕ) → (skipped : ℕ) → Option Part → Work → Type 0
+abbrev pub IsWork : (encrypts : Bool) → (heading : List ℕ) → (skipped : ℕ) → Option BlockRange → Work → Type 0
 IsWork true heading skipped part (Encrypt written) = written.now ≡ heading
 IsWork false heading skipped part (Decrypt passed wanted) = (passed ≡ skipped) × (wanted ≡ part)
 IsWork _ heading skipped part work = ⊥

@@ -3,7 +3,7 @@ use Rattle.std.specs.Prelude.{ℕ, ◌*◌, ◌==◌, not, if◌then◌else◌, 
 use Rattle.std.specs.Result.{result_unwrap_or}
 use Rattle.hex.specs.Hex.{decode_of, encode_lower}
 use Rattle.des_payment.specs.Digits.{digits_of}
-use Rattle.des_commands.specs.declared.fault.Kind.{Kind}
+use Rattle.des_commands.specs.declared.fault.FaultKind.{FaultKind}
 
 -- the bytes that hexadecimal digits write
 abbrev pub bytes_of : List ℕ → List ℕ
@@ -14,11 +14,11 @@ abbrev pub fill_of : List ℕ → List ℕ
 fill_of text = digits_of (bytes_of text)
 
 -- the fault of a text that is to be hexadecimal digits, if it has one
-abbrev pub text_fault : Kind → List ℕ → Option Kind
+abbrev pub text_fault : FaultKind → List ℕ → Option FaultKind
 text_fault fault digits = if not (is_ok (decode_of digits)) then Some fault else None
 
 -- the fault of a text that is to be two hexadecimal digits for each of `size` bytes
-abbrev pub digits_fault : ℕ → Kind → Kind → List ℕ → Option Kind
+abbrev pub digits_fault : ℕ → FaultKind → FaultKind → List ℕ → Option FaultKind
 digits_fault size length_fault fault digits =
     if not (length digits == 2 * size) then Some length_fault else text_fault fault digits
 

@@ -5,8 +5,8 @@ use Rattle.std.specs.Io.KnownBytes.{Appends}
 use Rattle.std.specs.declared.vec.Vec.{Vec}
 use Rattle.std.specs.declared.alloc.Global.{Global}
 use Rattle.des_commands.specs.declared.fault.Reason.{Reason}
-use Rattle.des_commands.specs.declared.fault.Kind.{Kind}
-use Rattle.des_commands.specs.declared.fault.Kind.TheVariants.{Write}
+use Rattle.des_commands.specs.declared.fault.FaultKind.{FaultKind}
+use Rattle.des_commands.specs.declared.fault.FaultKind.TheVariants.{Write}
 use Rattle.des_commands.specs.declared.fault.Fault.{Fault}
 use Rattle.des_commands.specs.Faults.{status_of, line_with}
 
@@ -16,24 +16,24 @@ AppendsPrefix old new text = (count : ℕ) × Appends old new (take count text)
 
 -- what may be said of each fault: by which name, and by which sentence
 abbrev pub Saying : Type 1
-Saying = Kind → List ℕ → List ℕ → Type 0
+Saying = FaultKind → List ℕ → List ℕ → Type 0
 
 -- the line of a fault: a name of it, what it is about, and a sentence of it
-abbrev pub IsLineOf : Saying → Kind → List ℕ → List ℕ → Type 0
+abbrev pub IsLineOf : Saying → FaultKind → List ℕ → List ℕ → Type 0
 IsLineOf Says kind about line =
     (name : List ℕ) × ((sentence : List ℕ) × (Says kind name sentence × (line ≡ line_with name about sentence)))
 
 -- known bytes grow by the line of a fault, or by a prefix of it
-abbrev pub AppendsLine : Saying → Kind → List ℕ → Option (List ℕ) → Option (List ℕ) → Type 0
+abbrev pub AppendsLine : Saying → FaultKind → List ℕ → Option (List ℕ) → Option (List ℕ) → Type 0
 AppendsLine Says kind about old new = (line : List ℕ) × (IsLineOf Says kind about line × Appends old new line)
 
-abbrev pub AppendsLinePrefix : Saying → Kind → List ℕ → Option (List ℕ) → Option (List ℕ) → Type 0
+abbrev pub AppendsLinePrefix : Saying → FaultKind → List ℕ → Option (List ℕ) → Option (List ℕ) → Type 0
 AppendsLinePrefix Says kind about old new =
     (line : List ℕ) × (IsLineOf Says kind about line × AppendsPrefix old new line)
 
 -- the status is that of the fault, and the error writer took the fault's line or a prefix of it. No
 -- status tells how much of the line
-abbrev pub IsTold : {E : Type 0} → Saying → (E → Option (List ℕ)) → Kind → (about : List ℕ) → ℕ → E → E → Type 0
+abbrev pub IsTold : {E : Type 0} → Saying → (E → Option (List ℕ)) → FaultKind → (about : List ℕ) → ℕ → E → E → Type 0
 IsTold Says err_contents kind about status err_old err_new =
     (status ≡ status_of kind)
     × AppendsLinePrefix Says kind about (err_contents err_old) (err_contents err_new)

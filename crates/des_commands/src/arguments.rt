@@ -1,16 +1,16 @@
 //! The command line: what its words ask for.
 
+mod argument_values;
 mod grammar;
 mod key_blocks;
 mod passwords;
 mod payment;
 pub mod streams;
 mod table;
-mod typed;
 
 ghost use Rattle.std.specs.Prelude.{◌≡◌, ◌<◌, ◌≤◌, ℕ, List, Option, true, false, length, filter, IfOk, IfErr, Some};
 ghost use Rattle.clap.specs.Matches.{subcommand_name_of};
-ghost use Rattle.des_commands.specs.declared.fault.Kind.TheVariants.{Usage};
+ghost use Rattle.des_commands.specs.declared.fault.FaultKind.TheVariants.{Usage};
 ghost use Rattle.des_commands.specs.declared.fault.Misuse.TheVariants.{StandardInputTwice};
 ghost use Rattle.des_commands.specs.StreamArguments.{IsInput, IsReadTwice};
 ghost use Rattle.des_commands.specs.CommandArguments.{HasDirectionOf, is_standard_input as is_standard_input_of, source_of as source_of_account, standard_inputs};
@@ -18,17 +18,17 @@ ghost use Rattle.des_commands.specs.CommandArguments.{HasDirectionOf, is_standar
 use crate::command::{
     Account, Calculation, CalculationRequest, Command, MacRequest, Purpose, Question,
 };
-use crate::fault::{Fault, Kind, Misuse};
+use crate::fault::{Fault, FaultKind, Misuse};
 use crate::mac::{Method, PaddingMethod};
-use crate::source::Source;
+use crate::text_source::Source;
+use argument_values::{count_of, is_given, is_set, number_of, place_of, text_of, texts_of};
 use clap::ArgMatches;
-use des_payment::dukpt::Message;
+use des_payment::dukpt::MessageDirection;
 pub use grammar::{known_name, names_of, parse};
 use key_blocks::key_block_request;
 use passwords::private_key_request;
 use payment::{emv_request, offset_request, pin_request, pvv_request};
 use streams::{input_of, stream_request};
-use typed::{count_of, is_given, is_set, number_of, place_of, text_of, texts_of};
 
 /// The request of a calculation, or the fault of its words.
 pub(crate) type Requested<'a> = Result<CalculationRequest<'a>, Fault<'a>>;
@@ -41,7 +41,7 @@ fn misuse<'a>(misuse: Misuse, about: &'a str) -> Fault<'a>
     ensures { result.kind ≡ Usage misuse }
 {
     Fault {
-        kind: Kind::Usage(misuse),
+        kind: FaultKind::Usage(misuse),
         about,
     }
 }
@@ -259,9 +259,9 @@ fn combine_request<'m, 'a>(matches: &'m ArgMatches<'a>) -> Result<Command<'m, 'a
 
 fn purpose_of<'a>(name: &str, responds: bool) -> Result<Purpose, Fault<'a>> {
     let message = if responds {
-        Message::Response
+        MessageDirection::Response
     } else {
-        Message::Request
+        MessageDirection::Request
     };
     match name {
         "mac" => Ok(Purpose::Mac(message)),

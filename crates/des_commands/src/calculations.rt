@@ -6,15 +6,15 @@ ghost use Rattle.des_commands.specs.CheckDigits.{lacks_check_digit as lacks_chec
 ghost use Rattle.des_commands.specs.Lines.{IsLine};
 ghost use Rattle.des_commands.specs.Runs.{FailsAsAsked, IsOutcome, IsNoticed, IsNo, IsRun};
 
-use crate::answer::{WRONG, status_of};
 use crate::check_digit::{has_check_digit, is_account};
 use crate::command::{Calculation, CalculationRequest, Inputs, PinCalculation};
 use crate::digits::Lines;
-use crate::fault::{Fault, Kind};
+use crate::fault::{Fault, FaultKind};
 use crate::lines::{LONGEST_INPUT, WEAK, lines_of};
 use crate::names::{about_of, account_name};
 use crate::report::{show, tell};
 use crate::sentences::Sentences;
+use crate::tags::{WRONG, status_of};
 use std::alloc::Global;
 use std::io::Write;
 
@@ -32,7 +32,7 @@ fn line_by(alloc: Global, request: &CalculationRequest, inputs: Inputs) -> Lines
     ensures line { IfOk result (λ line. IsLine request.now.calculation inputs.entry line.items) }
 {
     if request.refuses_wrong_check_digit && lacks_check_digit(inputs.account) {
-        return Err(Kind::CheckDigit);
+        return Err(FaultKind::CheckDigit);
     }
     lines_of(alloc, request.calculation, inputs)
 }
@@ -67,7 +67,7 @@ fn tell_check_digit<S: Sentences, E: Write>(
     if !request.refuses_wrong_check_digit && lacks_check_digit(account) {
         let _ = tell::<S, E>(
             Fault {
-                kind: Kind::CheckDigit,
+                kind: FaultKind::CheckDigit,
                 about: account_name(request),
             },
             err,

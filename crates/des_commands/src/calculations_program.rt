@@ -7,13 +7,13 @@ use crate::calculations;
 use crate::command::{
     Account, Calculation, CalculationRequest, Inputs, KeyBlockCalculation, RANDOM, Wrapping,
 };
-use crate::fault::{Fault, Kind};
-use crate::inputs::{RANDOM_SOURCE, system_random};
+use crate::fault::{Fault, FaultKind};
+use crate::input_files::{RANDOM_SOURCE, system_random};
 use crate::lines::LONGEST_INPUT;
 use crate::names::{input_name, key_name, to_key_name};
-use crate::reading::{key_in, text_in};
+use crate::secrets::{key_in, text_in};
 use crate::sentences::English;
-use crate::source::{LONGEST_TEXT, Source, bytes_of, text_of};
+use crate::text_source::{LONGEST_TEXT, Source, bytes_of, text_of};
 
 // The most components that are in files: as many as `--count` takes of one source. Their digits are no
 // longer than the text of one.
@@ -136,7 +136,7 @@ pub fn parts_status<'a>(rt: &HostRuntime, paths: &[&'a str]) -> Result<u8, Fault
     let mut bytes = Vec::new(rt.alloc());
     let size = add_parts(rt, paths, &mut bytes)?.unwrap_or(0);
     if paths.len() > MOST_PARTS || bytes.len() > LONGEST_TEXT / 2 {
-        return Err(Fault::about(Kind::InputLength, "--part-file"));
+        return Err(Fault::about(FaultKind::InputLength, "--part-file"));
     }
     // Its faults are about `--part-file`, wherever the input is said to be.
     let request = by_input(Calculation::CombineBytes { size }, Source::StandardInput);

@@ -1,9 +1,9 @@
 //! What is asked of the program.
 
 use crate::mac::Method;
-use crate::source::Source;
 use crate::stream_request::{Output, StreamRequest};
-use des_payment::dukpt::Message;
+use crate::text_source::Source;
+use des_payment::dukpt::MessageDirection;
 use des_payment::key_block_header::Version;
 use des_payment::translation::Format;
 
@@ -156,11 +156,11 @@ pub enum Calculation<'a> {
 pub enum Purpose {
     Pin,
     /// The code that authenticates a message.
-    Mac(Message),
+    Mac(MessageDirection),
     /// The data of a message.
-    Data(Message),
+    Data(MessageDirection),
     /// The data of a message, if terminals leave out the last one-way step.
-    DataVariant(Message),
+    DataVariant(MessageDirection),
 }
 
 /// What natural PINs are made of beside a key: validation data and a decimalization table, in

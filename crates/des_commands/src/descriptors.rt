@@ -31,9 +31,9 @@ const READ_ONLY: u32 = 0;
 
 const WRITE_ONLY: u32 = 1;
 
-/// How a descriptor stands in its file.
+/// The state of a descriptor: its place in its file, and what it allows.
 #[derive(Clone, Copy)]
-pub struct Standing {
+pub struct DescriptorState {
     /// The byte that is read next: 0 in a pipe.
     pub place: u64,
     /// It may be written to.
@@ -185,7 +185,7 @@ fn value_of<'a>(text: &'a str, name: &str) -> Option<&'a str> {
 
 /// How a descriptor stands: std opens files by name alone, and a name has no position. The error is `NotFound` if it is closed, the system's, or
 /// `InvalidData` if its text has no position or no flags.
-pub fn standing_of(rt: &HostRuntime, number: u64) -> io::Result<Standing> {
+pub fn descriptor_state_of(rt: &HostRuntime, number: u64) -> io::Result<DescriptorState> {
     let path = format!(in rt.alloc(); "/proc/self/fdinfo/{number}")?;
     let text = fs::read_to_string(rt, path.as_str())?;
     let place = value_of(text.as_str(), "pos:").and_then(|digits| digits.parse().ok());
@@ -201,7 +201,7 @@ pub fn standing_of(rt: &HostRuntime, number: u64) -> io::Result<Standing> {
     if number == 0 && access == WRITE_ONLY || matches!(number, 1 | 2) && access == READ_ONLY {
         return Err(io::Error::from(ErrorKind::NotFound));
     }
-    Ok(Standing {
+    Ok(DescriptorState {
         place,
         writes: access != READ_ONLY,
     })

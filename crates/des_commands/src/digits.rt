@@ -7,7 +7,7 @@ ghost use Rattle.des_commands.specs.Texts.{bytes_of as bytes_of_text, text_fault
 ghost use Rattle.des_passwords.specs.HexStreams.{written_in};
 ghost use Rattle.des_commands.specs.Faults.{FailsOnlyBy};
 
-use crate::fault::Kind;
+use crate::fault::FaultKind;
 use des_passwords::hex_reader::is_space;
 use std::alloc::{AllocError, Global};
 
@@ -20,7 +20,7 @@ pub fn strip(input: &mut Vec<u8>)
 }
 
 /// Reads the bytes that hexadecimal digits write, two digits a byte.
-pub fn decode(digits: &[u8], bytes: &mut [u8], fault: Kind) -> Result<(), Kind>
+pub fn decode(digits: &[u8], bytes: &mut [u8], fault: FaultKind) -> Result<(), FaultKind>
     requires { length digits.now ≡ 2 * length bytes.old }
     ensures fault { FailsOnlyBy (text_fault fault digits.now) result }
     ensures bytes { OnOk result (bytes.new ≡ bytes_of_text digits.now) }
@@ -31,9 +31,9 @@ pub fn decode(digits: &[u8], bytes: &mut [u8], fault: Kind) -> Result<(), Kind>
 /// The bytes that hexadecimal digits write, if there are two for each of them.
 pub fn bytes_of<const N: usize>(
     digits: &[u8],
-    length_fault: Kind,
-    text_fault: Kind,
-) -> Result<[u8; N], Kind>
+    length_fault: FaultKind,
+    text_fault: FaultKind,
+) -> Result<[u8; N], FaultKind>
     requires { N ≤ 1000 }
     ensures fault { FailsOnlyBy (digits_fault N length_fault text_fault digits.now) result }
     ensures bytes { IfOk result (λ bytes. bytes ≡ bytes_of_text digits.now) }
@@ -59,17 +59,17 @@ fn halves(bytes: &[u8; 5]) -> [u8; 10]
 }
 
 /// The values of ten transaction or fill digits, hexadecimal ones.
-pub fn fill_of(text: &str) -> Result<[u8; 10], Kind>
+pub fn fill_of(text: &str) -> Result<[u8; 10], FaultKind>
     ensures fault { FailsOnlyBy
-        (digits_fault 5 Kind.FillLength Kind.FillText text.now) result }
+        (digits_fault 5 FaultKind.FillLength FaultKind.FillText text.now) result }
     ensures digits { IfOk result (λ digits. digits ≡ digits_of (bytes_of_text text.now)) }
 {
-    let bytes = bytes_of::<5>(text.as_bytes(), Kind::FillLength, Kind::FillText)?;
+    let bytes = bytes_of::<5>(text.as_bytes(), FaultKind::FillLength, FaultKind::FillText)?;
     Ok(halves(&bytes))
 }
 
 /// The lines that are written, or the fault.
-pub type Lines = Result<Vec<u8>, Kind>;
+pub type Lines = Result<Vec<u8>, FaultKind>;
 
 /// The text and a newline.
 pub fn line_of(alloc: Global, text: &[u8]) -> Result<Vec<u8>, AllocError>

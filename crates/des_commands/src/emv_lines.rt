@@ -9,7 +9,7 @@ ghost use Rattle.des_commands.specs.EmvLines.{card_key_by, cryptogram_of, crypto
 
 use crate::command::{CardKeyOption, EmvCalculation, Inputs};
 use crate::digits::{Lines, bytes_of, decode, hex_line};
-use crate::fault::Kind;
+use crate::fault::FaultKind;
 use crate::keys::pair_of;
 use crate::lines::LONGEST_INPUT;
 use des_payment::emv;
@@ -32,19 +32,35 @@ pub fn emv_line(alloc: Global, calculation: EmvCalculation, inputs: Inputs) -> L
         }
         EmvCalculation::ApplicationKey { counter } => {
             let card = pair_of(inputs.text)?;
-            let counter = bytes_of::<2>(counter.as_bytes(), Kind::Counter, Kind::Counter)?;
+            let counter = bytes_of::<2>(
+                counter.as_bytes(),
+                FaultKind::Counter,
+                FaultKind::Counter,
+            )?;
             Ok(hex_line(alloc, &emv::application_key(&card, &counter))?)
         }
         EmvCalculation::SessionKey { cryptogram } => {
             let card = pair_of(inputs.text)?;
-            let block = bytes_of::<8>(cryptogram.as_bytes(), Kind::Cryptogram, Kind::Cryptogram)?;
+            let block = bytes_of::<8>(
+                cryptogram.as_bytes(),
+                FaultKind::Cryptogram,
+                FaultKind::Cryptogram,
+            )?;
             Ok(hex_line(alloc, &emv::session_key(&card, &block))?)
         }
         EmvCalculation::Cryptogram => cryptogram_line(alloc, inputs),
         EmvCalculation::Response1 { cryptogram, code } => {
             let session = pair_of(inputs.text)?;
-            let block = bytes_of::<8>(cryptogram.as_bytes(), Kind::Cryptogram, Kind::Cryptogram)?;
-            let code = bytes_of::<2>(code.as_bytes(), Kind::ResponseCode, Kind::ResponseCode)?;
+            let block = bytes_of::<8>(
+                cryptogram.as_bytes(),
+                FaultKind::Cryptogram,
+                FaultKind::Cryptogram,
+            )?;
+            let code = bytes_of::<2>(
+                code.as_bytes(),
+                FaultKind::ResponseCode,
+                FaultKind::ResponseCode,
+            )?;
             Ok(hex_line(alloc, &emv::response_1(&session, &block, &code))?)
         }
         EmvCalculation::Response2 {
@@ -53,8 +69,16 @@ pub fn emv_line(alloc: Global, calculation: EmvCalculation, inputs: Inputs) -> L
             issued,
         } => {
             let session = pair_of(inputs.text)?;
-            let block = bytes_of::<8>(cryptogram.as_bytes(), Kind::Cryptogram, Kind::Cryptogram)?;
-            let status = bytes_of::<4>(status.as_bytes(), Kind::CardStatus, Kind::CardStatus)?;
+            let block = bytes_of::<8>(
+                cryptogram.as_bytes(),
+                FaultKind::Cryptogram,
+                FaultKind::Cryptogram,
+            )?;
+            let status = bytes_of::<4>(
+                status.as_bytes(),
+                FaultKind::CardStatus,
+                FaultKind::CardStatus,
+            )?;
             let mut bytes = [0u8; 8];
             let size = read_data(issued, &mut bytes)?;
             let response = emv::response_2(&session, &block, &status, &bytes[..size])?;
@@ -89,26 +113,26 @@ fn cryptogram_line(alloc: Global, inputs: Inputs) -> Lines
     let session = pair_of(inputs.key)?;
     let digits = inputs.text;
     if digits.is_empty() || digits.len() % 2 != 0 {
-        return Err(Kind::CryptogramData);
+        return Err(FaultKind::CryptogramData);
     }
     let mut buffer = [0u8; LONGEST_INPUT / 2];
     let bytes = &mut buffer[..digits.len() / 2];
-    decode(digits, bytes, Kind::CryptogramData)?;
+    decode(digits, bytes, FaultKind::CryptogramData)?;
     Ok(hex_line(alloc, &emv::application_cryptogram(&session, bytes))?)
 }
 
 // Reads the issuer's data, at most eight bytes, into the first bytes of a block, and gives their
 // number.
-fn read_data(text: &str, block: &mut [u8; 8]) -> Result<usize, Kind>
+fn read_data(text: &str, block: &mut [u8; 8]) -> Result<usize, FaultKind>
     ensures fault { FailsOnlyBy (issuer_data_fault text.now) result }
     ensures size { IfOk result (λ size. size ≤ 8) }
     ensures bytes { IfOk result (λ size. take size block.new ≡ bytes_of_text text.now) }
 {
     let digits = text.as_bytes();
     if digits.len() > 16 || digits.len() % 2 != 0 {
-        return Err(Kind::IssuerData);
+        return Err(FaultKind::IssuerData);
     }
     let size = digits.len() / 2;
-    decode(digits, &mut block[..size], Kind::IssuerData)?;
+    decode(digits, &mut block[..size], FaultKind::IssuerData)?;
     Ok(size)
 }

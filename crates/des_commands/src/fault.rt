@@ -2,7 +2,7 @@
 
 ghost use Rattle.std.specs.Prelude.{◌≡◌};
 ghost use Rattle.des_commands.specs.Faults.{about_of, status_of, IsOfStream};
-ghost use Rattle.des_commands.specs.declared.fault.Kind.TheVariants.{Pin, Cvv, Translation, Verification, Emv, KeyBlock, WeakKey, Memory};
+ghost use Rattle.des_commands.specs.declared.fault.FaultKind.TheVariants.{Pin, Cvv, Translation, Verification, Emv, KeyBlock, WeakKey, Memory};
 
 use des::WeakKeyError;
 use des_io::StreamError;
@@ -123,7 +123,7 @@ pub enum FileFault {
 /// What is at fault. Each has a name, under which the documents list it, and a sentence in
 /// `sentences`. None has a place for a secret.
 #[derive(Clone, Copy)]
-pub enum Kind {
+pub enum FaultKind {
     /// The program takes no such command line.
     Usage(Misuse),
     /// The system's source of random bytes can't be read.
@@ -190,20 +190,20 @@ pub enum Kind {
 /// never a secret.
 #[derive(Clone, Copy)]
 pub struct Fault<'a> {
-    pub kind: Kind,
+    pub kind: FaultKind,
     pub about: &'a str,
 }
 
 impl<'a> Fault<'a> {
     /// The fault of a kind, and the name that it is about. Refused memory is about nothing.
-    pub fn about(kind: Kind, name: &'a str) -> Fault<'a>
+    pub fn about(kind: FaultKind, name: &'a str) -> Fault<'a>
         ensures kind { result.kind ≡ kind }
         ensures about { result.about.now ≡ about_of kind name.now }
     {
         Fault {
             kind,
             about: match kind {
-                Kind::Memory => "",
+                FaultKind::Memory => "",
                 _ => name,
             },
         }
@@ -267,51 +267,51 @@ fn key_block_name(error: KeyBlockError) -> &'static str {
     }
 }
 
-impl Kind {
+impl FaultKind {
     /// The fault's name.
     pub fn name(self) -> &'static str {
         match self {
-            Kind::Usage(_) => "Usage",
-            Kind::Variable => "Variable",
-            Kind::InputLength => "InputLength",
-            Kind::KeyLength(_) | Kind::ToKeyLength => "KeyLength",
-            Kind::KeyText | Kind::ToKeyText => "KeyText",
-            Kind::WeakKey => "WeakKey",
-            Kind::Components => "Components",
-            Kind::Vector => "Vector",
-            Kind::Tag => "Tag",
-            Kind::Value => "Value",
-            Kind::Offset => "Offset",
-            Kind::Validation => "Validation",
-            Kind::Counter => "Counter",
-            Kind::Cryptogram => "Cryptogram",
-            Kind::ResponseCode => "Code",
-            Kind::CardStatus => "Status",
-            Kind::IssuerData => "Data",
-            Kind::CryptogramData => "DataText",
-            Kind::BlockLength => "BlockLength",
-            Kind::BlockText => "BlockText",
-            Kind::SerialLength => "SerialLength",
-            Kind::SerialText => "SerialText",
-            Kind::SerialCounter => "SerialCounter",
-            Kind::FillLength => "FillLength",
-            Kind::FillText => "FillText",
-            Kind::CheckDigit => "CheckDigit",
-            Kind::Pin(error) => pin_error::name(error),
-            Kind::Cvv(error) => cvv_error::name(error),
-            Kind::Translation(error) => translation_error::name(error),
-            Kind::Verification(error) => verification_error::name(error),
-            Kind::Emv(error) => emv_error::name(error),
-            Kind::Field(_) => "Field",
-            Kind::KeyBlock(error) => key_block_name(error),
-            Kind::File(fault) => fault.name(),
-            Kind::EmptyPassword => "EmptyPassword",
-            Kind::Memory => "Memory",
-            Kind::Read(_) | Kind::Source(_) => "Read",
-            Kind::Write(_) => "Write",
-            Kind::Length => "Length",
-            Kind::Start => "Start",
-            Kind::Padding => "Padding",
+            FaultKind::Usage(_) => "Usage",
+            FaultKind::Variable => "Variable",
+            FaultKind::InputLength => "InputLength",
+            FaultKind::KeyLength(_) | FaultKind::ToKeyLength => "KeyLength",
+            FaultKind::KeyText | FaultKind::ToKeyText => "KeyText",
+            FaultKind::WeakKey => "WeakKey",
+            FaultKind::Components => "Components",
+            FaultKind::Vector => "Vector",
+            FaultKind::Tag => "Tag",
+            FaultKind::Value => "Value",
+            FaultKind::Offset => "Offset",
+            FaultKind::Validation => "Validation",
+            FaultKind::Counter => "Counter",
+            FaultKind::Cryptogram => "Cryptogram",
+            FaultKind::ResponseCode => "Code",
+            FaultKind::CardStatus => "Status",
+            FaultKind::IssuerData => "Data",
+            FaultKind::CryptogramData => "DataText",
+            FaultKind::BlockLength => "BlockLength",
+            FaultKind::BlockText => "BlockText",
+            FaultKind::SerialLength => "SerialLength",
+            FaultKind::SerialText => "SerialText",
+            FaultKind::SerialCounter => "SerialCounter",
+            FaultKind::FillLength => "FillLength",
+            FaultKind::FillText => "FillText",
+            FaultKind::CheckDigit => "CheckDigit",
+            FaultKind::Pin(error) => pin_error::name(error),
+            FaultKind::Cvv(error) => cvv_error::name(error),
+            FaultKind::Translation(error) => translation_error::name(error),
+            FaultKind::Verification(error) => verification_error::name(error),
+            FaultKind::Emv(error) => emv_error::name(error),
+            FaultKind::Field(_) => "Field",
+            FaultKind::KeyBlock(error) => key_block_name(error),
+            FaultKind::File(fault) => fault.name(),
+            FaultKind::EmptyPassword => "EmptyPassword",
+            FaultKind::Memory => "Memory",
+            FaultKind::Read(_) | FaultKind::Source(_) => "Read",
+            FaultKind::Write(_) => "Write",
+            FaultKind::Length => "Length",
+            FaultKind::Start => "Start",
+            FaultKind::Padding => "Padding",
         }
     }
 
@@ -321,89 +321,89 @@ impl Kind {
         ensures { result ≡ status_of self }
     {
         match self {
-            Kind::Memory => 3,
-            Kind::Read(_) | Kind::Source(_) | Kind::Write(_) => 4,
-            Kind::Length | Kind::Start | Kind::Padding | Kind::File(_) => 5,
+            FaultKind::Memory => 3,
+            FaultKind::Read(_) | FaultKind::Source(_) | FaultKind::Write(_) => 4,
+            FaultKind::Length | FaultKind::Start | FaultKind::Padding | FaultKind::File(_) => 5,
             _ => 2,
         }
     }
 }
 
-impl From<StreamError> for Kind {
+impl From<StreamError> for FaultKind {
     ghost from_gives = { λ error kind. IsOfStream error kind };
 
-    fn from(error: StreamError) -> Kind {
+    fn from(error: StreamError) -> FaultKind {
         match error {
-            StreamError::Read(error) => Kind::Read(Reason::of(&error)),
-            StreamError::Write(error) => Kind::Write(Reason::of(&error)),
-            StreamError::Length(_) => Kind::Length,
-            StreamError::Start => Kind::Start,
-            StreamError::Padding => Kind::Padding,
+            StreamError::Read(error) => FaultKind::Read(Reason::of(&error)),
+            StreamError::Write(error) => FaultKind::Write(Reason::of(&error)),
+            StreamError::Length(_) => FaultKind::Length,
+            StreamError::Start => FaultKind::Start,
+            StreamError::Padding => FaultKind::Padding,
         }
     }
 }
 
-impl From<PinError> for Kind {
+impl From<PinError> for FaultKind {
     ghost from_gives = { λ error kind. kind ≡ Pin error };
 
-    fn from(error: PinError) -> Kind {
-        Kind::Pin(error)
+    fn from(error: PinError) -> FaultKind {
+        FaultKind::Pin(error)
     }
 }
 
-impl From<CvvError> for Kind {
+impl From<CvvError> for FaultKind {
     ghost from_gives = { λ error kind. kind ≡ Cvv error };
 
-    fn from(error: CvvError) -> Kind {
-        Kind::Cvv(error)
+    fn from(error: CvvError) -> FaultKind {
+        FaultKind::Cvv(error)
     }
 }
 
-impl From<TranslationError> for Kind {
+impl From<TranslationError> for FaultKind {
     ghost from_gives = { λ error kind. kind ≡ Translation error };
 
-    fn from(error: TranslationError) -> Kind {
-        Kind::Translation(error)
+    fn from(error: TranslationError) -> FaultKind {
+        FaultKind::Translation(error)
     }
 }
 
-impl From<VerificationError> for Kind {
+impl From<VerificationError> for FaultKind {
     ghost from_gives = { λ error kind. kind ≡ Verification error };
 
-    fn from(error: VerificationError) -> Kind {
-        Kind::Verification(error)
+    fn from(error: VerificationError) -> FaultKind {
+        FaultKind::Verification(error)
     }
 }
 
-impl From<EmvError> for Kind {
+impl From<EmvError> for FaultKind {
     ghost from_gives = { λ error kind. kind ≡ Emv error };
 
-    fn from(error: EmvError) -> Kind {
-        Kind::Emv(error)
+    fn from(error: EmvError) -> FaultKind {
+        FaultKind::Emv(error)
     }
 }
 
-impl From<KeyBlockError> for Kind {
+impl From<KeyBlockError> for FaultKind {
     ghost from_gives = { λ error kind. kind ≡ KeyBlock error };
 
-    fn from(error: KeyBlockError) -> Kind {
-        Kind::KeyBlock(error)
+    fn from(error: KeyBlockError) -> FaultKind {
+        FaultKind::KeyBlock(error)
     }
 }
 
-impl From<WeakKeyError> for Kind {
+impl From<WeakKeyError> for FaultKind {
     ghost from_gives = { λ _ kind. kind ≡ WeakKey };
 
-    fn from(_refused: WeakKeyError) -> Kind {
-        Kind::WeakKey
+    fn from(_refused: WeakKeyError) -> FaultKind {
+        FaultKind::WeakKey
     }
 }
 
-impl From<AllocError> for Kind {
+impl From<AllocError> for FaultKind {
     ghost from_gives = { λ _ kind. kind ≡ Memory };
 
-    fn from(_refused: AllocError) -> Kind {
-        Kind::Memory
+    fn from(_refused: AllocError) -> FaultKind {
+        FaultKind::Memory
     }
 }
 
@@ -411,14 +411,14 @@ impl<'a> From<AllocError> for Fault<'a> {
     ghost from_gives = { λ _ fault. fault.kind ≡ Memory };
 
     fn from(_refused: AllocError) -> Fault<'a> {
-        Fault::about(Kind::Memory, "")
+        Fault::about(FaultKind::Memory, "")
     }
 }
 
-impl<T: Drop> From<AllocFailed<T>> for Kind {
+impl<T: Drop> From<AllocFailed<T>> for FaultKind {
     ghost from_gives = { λ _ kind. kind ≡ Memory };
 
-    fn from(_refused: AllocFailed<T>) -> Kind {
-        Kind::Memory
+    fn from(_refused: AllocFailed<T>) -> FaultKind {
+        FaultKind::Memory
     }
 }

@@ -13,7 +13,7 @@ ghost use Rattle.des_commands.specs.KeyBlockLines.{FailsAsKeyBlock, AnswersKeyBl
 
 use crate::command::{Inputs, KeyBlockCalculation, RANDOM, Wrapping};
 use crate::digits::{Lines, hex_line, line_of};
-use crate::fault::{Field, Kind};
+use crate::fault::{FaultKind, Field};
 use crate::keys::read_key;
 use des_payment::key_block_error::KeyBlockError;
 use des_payment::key_block_header::{
@@ -68,7 +68,7 @@ pub fn shown_name(alloc: Global, name: &[u8]) -> Result<String, AllocError>
     Ok(text)
 }
 
-fn add_shown(lines: &mut Vec<u8>, text: &[u8]) -> Result<(), Kind>
+fn add_shown(lines: &mut Vec<u8>, text: &[u8]) -> Result<(), FaultKind>
     ensures fault { FailsBy None result }
     ensures text { OnOk result (lines.new.items ≡ lines.old.items ++ shown_text text.now) }
 {
@@ -78,7 +78,7 @@ fn add_shown(lines: &mut Vec<u8>, text: &[u8]) -> Result<(), Kind>
     Ok(())
 }
 
-fn add_field(lines: &mut Vec<u8>, name: &str, value: &[u8]) -> Result<(), Kind>
+fn add_field(lines: &mut Vec<u8>, name: &str, value: &[u8]) -> Result<(), FaultKind>
     ensures fault { FailsBy None result }
     ensures line { OnOk result
         (lines.new.items ≡ lines.old.items ++ field_line name.now value.now) }
@@ -90,7 +90,7 @@ fn add_field(lines: &mut Vec<u8>, name: &str, value: &[u8]) -> Result<(), Kind>
     Ok(())
 }
 
-fn add_header(lines: &mut Vec<u8>, header: &Header) -> Result<(), Kind>
+fn add_header(lines: &mut Vec<u8>, header: &Header) -> Result<(), FaultKind>
     ensures fault { FailsBy None result }
     ensures lines { OnOk result
         (lines.new.items ≡ lines.old.items ++ header_lines_of header.now) }
@@ -104,7 +104,7 @@ fn add_header(lines: &mut Vec<u8>, header: &Header) -> Result<(), Kind>
 }
 
 // Adds the line of a key's context, if it is not storage and exchange.
-fn add_context(lines: &mut Vec<u8>, context: KeyContext) -> Result<(), Kind>
+fn add_context(lines: &mut Vec<u8>, context: KeyContext) -> Result<(), FaultKind>
     ensures fault { FailsBy None result }
     ensures line { OnOk result (lines.new.items ≡ lines.old.items ++ context_lines context) }
 {
@@ -114,7 +114,7 @@ fn add_context(lines: &mut Vec<u8>, context: KeyContext) -> Result<(), Kind>
     }
 }
 
-fn add_optional(lines: &mut Vec<u8>, block: OptionalBlock) -> Result<(), Kind>
+fn add_optional(lines: &mut Vec<u8>, block: OptionalBlock) -> Result<(), FaultKind>
     ensures fault { FailsBy None result }
     ensures line { OnOk result (lines.new.items ≡ lines.old.items
         ++ optional_line (block.entry.name, block.entry.content.now)) }
@@ -128,7 +128,7 @@ fn add_optional(lines: &mut Vec<u8>, block: OptionalBlock) -> Result<(), Kind>
 }
 
 // Adds the lines of the optional blocks of a block.
-fn add_optional_blocks(lines: &mut Vec<u8>, block: &[u8]) -> Result<(), Kind>
+fn add_optional_blocks(lines: &mut Vec<u8>, block: &[u8]) -> Result<(), FaultKind>
     ensures { (header : Header) (blocks : List (List ℕ × List ℕ)) → IsReadable header blocks block.now
         → FailsBy None result × OnOk result (lines.new.items
         ≡ lines.old.items ++ optional_lines blocks) }
@@ -162,16 +162,16 @@ fn header_lines(alloc: Global, block: &[u8]) -> Lines
 
 // Reads the digits of a key that protects blocks, of two parts or three, into the first bytes of a
 // buffer, and returns their number.
-fn read_protection(digits: &[u8], key: &mut [u8; 24]) -> Result<usize, Kind>
+fn read_protection(digits: &[u8], key: &mut [u8; 24]) -> Result<usize, FaultKind>
     ensures fault { FailsOnlyBy (protection_fault digits.now) result }
     ensures size { IfOk result (λ size. (size ≡ 16) ⊎ (size ≡ 24)) }
     ensures key { IfOk result (λ size. take size key.new ≡ bytes_of_text digits.now) }
 {
-    let length_fault = Kind::KeyBlock(KeyBlockError::ProtectionKeyLength);
+    let length_fault = FaultKind::KeyBlock(KeyBlockError::ProtectionKeyLength);
     if digits.len() == 16 {
         return Err(length_fault);
     }
-    read_key(digits, key, length_fault, Kind::KeyText)
+    read_key(digits, key, length_fault, FaultKind::KeyText)
 }
 
 // Adds the line of a key's check value, which keys of DES and triple DES have.
@@ -180,7 +180,7 @@ fn add_check_value(
     lines: &mut Vec<u8>,
     algorithm: Algorithm,
     key: &[u8],
-) -> Result<(), Kind>
+) -> Result<(), FaultKind>
     requires { IsTrue (is_key key.now) }
     ensures fault { FailsBy None result }
     ensures line { OnOk result
@@ -218,20 +218,20 @@ fn unwrap_lines(alloc: Global, shows_key: bool, protection: &[u8], block: &[u8])
 // ---- blocks that are made
 
 // The letters and digits of a field.
-fn field_of<const N: usize>(text: &str, field: Field) -> Result<[u8; N], Kind>
+fn field_of<const N: usize>(text: &str, field: Field) -> Result<[u8; N], FaultKind>
     requires { N ≤ 2 }
     ensures fault { FailsOnlyBy (field_fault N field text.now) result }
     ensures text { IfOk result (λ characters. characters ≡ text.now) }
 {
     let characters = text.as_bytes();
     if !are_alphanumeric(characters) {
-        return Err(Kind::Field(field));
+        return Err(FaultKind::Field(field));
     }
-    <[u8; N]>::try_from(characters).map_err(|_| Kind::Field(field))
+    <[u8; N]>::try_from(characters).map_err(|_| FaultKind::Field(field))
 }
 
 // The header that texts give.
-fn header_of(wrapping: &Wrapping) -> Result<Header, Kind>
+fn header_of(wrapping: &Wrapping) -> Result<Header, FaultKind>
     ensures fault { FailsOnlyBy (header_text_fault wrapping.now) result }
     ensures header { IfOk result (IsHeaderOf wrapping.now) }
 {
@@ -292,7 +292,12 @@ fn wrap_line(alloc: Global, wrapping: &Wrapping, inputs: Inputs) -> Lines
     let mut buffer = [0u8; 24];
     let size = read_protection(inputs.key, &mut buffer)?;
     let mut key = [0u8; 24];
-    let key_size = read_key(inputs.text, &mut key, Kind::ToKeyLength, Kind::ToKeyText)?;
+    let key_size = read_key(
+        inputs.text,
+        &mut key,
+        FaultKind::ToKeyLength,
+        FaultKind::ToKeyText,
+    )?;
     let header = header_of(wrapping)?;
     let optional = wrapping.optional.as_bytes();
     let (protection, key) = (&buffer[..size], &key[..key_size]);

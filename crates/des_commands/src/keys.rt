@@ -8,7 +8,7 @@ ghost use Rattle.des_commands.specs.Keys.{key_fault, any_key_fault, pair_fault, 
 ghost use Rattle.des_commands.specs.declared.keys.Verdict.TheVariants.{Good, DoubleLength, Weak};
 
 use crate::digits::{bytes_of, decode};
-use crate::fault::Kind;
+use crate::fault::FaultKind;
 use des::tdes::key_part;
 use des::weak_key::{equal_but_parity, weak_key_test};
 use std::alloc::Global;
@@ -39,27 +39,27 @@ fn is_key_length(count: usize, size: Option<u8>) -> bool
 /// The bytes of a key that hexadecimal digits write: of `size` bytes, 8, 16 or 24, or of one of these
 /// if no size is named. The fault is `KeyLength` if the number of digits is another, `KeyText`
 /// if a character is none, and else `Memory`.
-pub fn key_of_digits(alloc: Global, digits: &[u8], size: Option<u8>) -> Result<Vec<u8>, Kind>
+pub fn key_of_digits(alloc: Global, digits: &[u8], size: Option<u8>) -> Result<Vec<u8>, FaultKind>
     requires { IfSome size IsKeySize }
     ensures fault { FailsBy (key_fault size digits.now) result }
     ensures key { IfOk result (λ key. key.items ≡ bytes_of_text digits.now) }
     ensures size { IfOk result (λ key. IsKeySize (length key.items)) }
 {
     if !is_key_length(digits.len(), size) {
-        return Err(Kind::KeyLength(size));
+        return Err(FaultKind::KeyLength(size));
     }
     let mut buffer = [0u8; 24];
     let bytes = &mut buffer[..digits.len() / 2];
-    decode(digits, bytes, Kind::KeyText)?;
+    decode(digits, bytes, FaultKind::KeyText)?;
     Ok(Vec::from_slice(alloc, bytes)?)
 }
 
 /// The bytes of a key of two parts that hexadecimal digits write.
-pub fn pair_of(digits: &[u8]) -> Result<[u8; 16], Kind>
+pub fn pair_of(digits: &[u8]) -> Result<[u8; 16], FaultKind>
     ensures fault { FailsOnlyBy (pair_fault digits.now) result }
     ensures key { IfOk result (λ key. key ≡ bytes_of_text digits.now) }
 {
-    bytes_of::<16>(digits, Kind::KeyLength(Some(16)), Kind::KeyText)
+    bytes_of::<16>(digits, FaultKind::KeyLength(Some(16)), FaultKind::KeyText)
 }
 
 /// Reads a key of 8, 16 or 24 bytes that hexadecimal digits write into the first bytes of a buffer,
@@ -67,9 +67,9 @@ pub fn pair_of(digits: &[u8]) -> Result<[u8; 16], Kind>
 pub fn read_key(
     digits: &[u8],
     key: &mut [u8; 24],
-    length_fault: Kind,
-    text_fault: Kind,
-) -> Result<usize, Kind>
+    length_fault: FaultKind,
+    text_fault: FaultKind,
+) -> Result<usize, FaultKind>
     ensures fault { FailsOnlyBy (any_key_fault length_fault text_fault digits.now) result }
     ensures size { IfOk result IsKeySize }
     ensures key { IfOk result (λ size. take size key.new ≡ bytes_of_text digits.now) }

@@ -2,7 +2,6 @@
 //! formats. The program itself is one call of `run`.
 #![tactic(auto)]
 
-mod answer;
 mod arguments;
 mod calculations;
 mod calculations_program;
@@ -13,7 +12,7 @@ mod digits;
 mod emv_lines;
 mod fault;
 mod inodes;
-mod inputs;
+mod input_files;
 mod key_block_lines;
 mod keys;
 mod lines;
@@ -28,14 +27,15 @@ mod private_key_program;
 mod private_keys;
 mod program;
 mod progress;
-mod reading;
+mod progress_reader;
 mod report;
+mod secrets;
 mod sentences;
-mod source;
 mod stream_request;
 mod streams;
 mod streams_program;
+mod tags;
+mod text_source;
 mod usage;
-mod watched;
 
 pub use program::run;

@@ -12,7 +12,7 @@ ghost use Rattle.des_commands.specs.Lines.{FailsAs, IsLine, key_for, initial_key
 use crate::command::{Calculation, Inputs, Purpose};
 use crate::digits::{Lines, bytes_of, decode, fill_of, hex_line, line_of};
 use crate::emv_lines::emv_line;
-use crate::fault::Kind;
+use crate::fault::FaultKind;
 use crate::key_block_lines::key_block_lines;
 use crate::keys::{is_weak, key_of_digits, pair_of, read_key};
 use crate::pin_lines::pin_line;
@@ -51,7 +51,7 @@ pub fn lines_of(alloc: Global, calculation: Calculation, inputs: Inputs) -> Line
             Ok(hex_line(alloc, &block_of(format, fill, inputs.account, &pin)?)?)
         }
         Calculation::Decode { format } => {
-            let block = bytes_of::<8>(inputs.text, Kind::BlockLength, Kind::BlockText)?;
+            let block = bytes_of::<8>(inputs.text, FaultKind::BlockLength, FaultKind::BlockText)?;
             Ok(line_of(alloc, pin_of(format, inputs.account, &block)?.text())?)
         }
         Calculation::Transaction {
@@ -78,7 +78,12 @@ fn check_line(alloc: Global, bytes: u8, digits: &[u8]) -> Lines
     ensures line { IfOk result (λ line. line.items ≡ hex_line_of (check_value_of bytes digits.now)) }
 {
     let mut key = [0u8; 24];
-    let size = read_key(digits, &mut key, Kind::KeyLength(None), Kind::KeyText)?;
+    let size = read_key(
+        digits,
+        &mut key,
+        FaultKind::KeyLength(None),
+        FaultKind::KeyText,
+    )?;
     let value = key_check_value(&key[..size]).unwrap();
     let count = std::cmp::min(bytes as usize, 3);
     Ok(hex_line(alloc, &value[..count])?)
@@ -96,14 +101,19 @@ fn weak_line(alloc: Global, digits: &[u8]) -> Lines
     ensures line { IfOk result (λ line. IsWeakLine (bytes_of_text digits.now) line.items) }
 {
     let mut key = [0u8; 24];
-    let size = read_key(digits, &mut key, Kind::KeyLength(None), Kind::KeyText)?;
+    let size = read_key(
+        digits,
+        &mut key,
+        FaultKind::KeyLength(None),
+        FaultKind::KeyText,
+    )?;
     let text = weak_text(&key[..size]);
     Ok(Vec::from_slice(alloc, text.as_bytes())?)
 }
 
 // ---- components
 
-fn combine_all<const N: usize>(components: &[[u8; N]]) -> Result<[u8; N], Kind>
+fn combine_all<const N: usize>(components: &[[u8; N]]) -> Result<[u8; N], FaultKind>
     requires size { (N ≡ 8) ⊎ (N ≡ 16) ⊎ (N ≡ 24) }
     ensures fault { FailsOrRefuses (few_fault (length components.now))
         (IsRefused (combined components.now)) result }
@@ -111,12 +121,12 @@ fn combine_all<const N: usize>(components: &[[u8; N]]) -> Result<[u8; N], Kind>
 {
     match components {
         [first, second, others @ ..] => Ok(combine(first, second, others)?),
-        _ => Err(Kind::Components),
+        _ => Err(FaultKind::Components),
     }
 }
 
 // The key of the components, of N bytes each, one after another.
-fn combine_bytes<const N: usize>(bytes: &[u8]) -> Result<[u8; N], Kind>
+fn combine_bytes<const N: usize>(bytes: &[u8]) -> Result<[u8; N], FaultKind>
     requires size { (N ≡ 8) ⊎ (N ≡ 16) ⊎ (N ≡ 24) }
     ensures fault { FailsOrRefuses (few_fault (length bytes.now / N))
         (IsRefused (key_of_components N bytes.now)) result }
@@ -156,14 +166,14 @@ fn components_line<const N: usize>(alloc: Global, digits: &[u8]) -> Lines
     requires whole { length digits.now % (2 * N) ≡ 0 }
     requires two { 4 * N ≤ length digits.now }
     requires longest { length digits.now ≤ LONGEST_INPUT }
-    ensures fault { FailsOrRefuses (text_fault Kind.KeyText digits.now)
+    ensures fault { FailsOrRefuses (text_fault FaultKind.KeyText digits.now)
         (IsRefused (key_of_components N (bytes_of_text digits.now))) result }
     ensures line { IfOk result (λ line.
         line.items ≡ hex_line_of (key_of_components N (bytes_of_text digits.now))) }
 {
     let mut buffer = [0u8; LONGEST_INPUT / 2];
     let bytes = &mut buffer[..digits.len() / 2];
-    decode(digits, bytes, Kind::KeyText)?;
+    decode(digits, bytes, FaultKind::KeyText)?;
     combined_line::<N>(alloc, bytes)
 }
 
@@ -174,7 +184,7 @@ fn combine_line(alloc: Global, count: u8, digits: &[u8]) -> Lines
     ensures line { IfOk result (λ line. line.items ≡ hex_line_of (key_of_count count digits.now)) }
 {
     if count < 2 {
-        return Err(Kind::Components);
+        return Err(FaultKind::Components);
     }
     let count = count as usize;
     let length = digits.len();
@@ -185,13 +195,13 @@ fn combine_line(alloc: Global, count: u8, digits: &[u8]) -> Lines
     } else if length == 48 * count {
         components_line::<24>(alloc, digits)
     } else {
-        Err(Kind::KeyLength(None))
+        Err(FaultKind::KeyLength(None))
     }
 }
 
 // ---- PIN blocks
 
-fn block_of(format: Format, fill: &str, account: &[u8], pin: &Pin) -> Result<[u8; 8], Kind>
+fn block_of(format: Format, fill: &str, account: &[u8], pin: &Pin) -> Result<[u8; 8], FaultKind>
     ensures fault { FailsOnlyBy (encoding_fault format fill.now account.now) result }
     ensures block { IfOk result (IsEncoded format fill.now account.now pin.now) }
 {
@@ -204,7 +214,7 @@ fn block_of(format: Format, fill: &str, account: &[u8], pin: &Pin) -> Result<[u8
     Ok(block)
 }
 
-fn pin_of(format: Format, account: &[u8], block: &[u8; 8]) -> Result<Pin, Kind>
+fn pin_of(format: Format, account: &[u8], block: &[u8; 8]) -> Result<Pin, FaultKind>
     ensures fault { FailsOnlyBy (decoding_fault format account.now block.now) result }
     ensures pin { IfOk result (λ pin. IsDecoded format account.now pin block.now) }
 {
@@ -253,9 +263,13 @@ fn transaction_line(
         ≡ hex_line_of (key_for purpose (transaction_key_of is_initial serial.now digits.now))) }
 {
     let key = pair_of(digits)?;
-    let serial = bytes_of::<10>(serial.as_bytes(), Kind::SerialLength, Kind::SerialText)?;
+    let serial = bytes_of::<10>(
+        serial.as_bytes(),
+        FaultKind::SerialLength,
+        FaultKind::SerialText,
+    )?;
     if !dukpt::is_usable(&serial) {
-        return Err(Kind::SerialCounter);
+        return Err(FaultKind::SerialCounter);
     }
     let transaction = dukpt::transaction_key(&initial_key_of(is_initial, &key, &serial), &serial);
     Ok(hex_line(alloc, &key_of_purpose(purpose, &transaction))?)

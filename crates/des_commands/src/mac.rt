@@ -4,7 +4,7 @@ ghost use Rattle.std.specs.Prelude.{◌≡◌, ◌<◌, length, IfOk, IfErr};
 ghost use Rattle.des_commands.specs.Macs.{tag_over, tag_by, IsTagOfAll, FailsToAuthenticate, IsKeyOver, HasKeySize};
 
 use self::PaddingMethod::{One, Two};
-use crate::fault::{Kind, Reason};
+use crate::fault::{FaultKind, Reason};
 use des::cipher::KeyedCipher;
 use des_fast::{Des, TdesEde2, TdesEde3};
 use des_io::pieces::fill;
@@ -36,14 +36,14 @@ fn tag_of_reader<M: Mac + Drop, R: Read>(
     key: &[u8],
     reader: &mut R,
     buffer: &mut [u8],
-) -> Result<[u8; 8], Kind>
+) -> Result<[u8; 8], FaultKind>
     requires { 0 < length buffer.old }
     ensures tag { IfOk result (IsTagOfAll (M.tag_of key.now)
         (R.remaining reader.old) (R.remaining reader.new)) }
     ensures fault { IfErr result (FailsToAuthenticate (length key.now ≡ M.key_size)) }
 {
     let Ok(mut state) = M::new_from_slice(key) else {
-        return Err(Kind::KeyLength(None));
+        return Err(FaultKind::KeyLength(None));
     };
     for _ in 0..u64::MAX {
         let n = fill(reader, buffer)?;
@@ -52,7 +52,7 @@ fn tag_of_reader<M: Mac + Drop, R: Read>(
             return Ok(state.finalize());
         }
     }
-    Err(Kind::Read(Reason::Other))
+    Err(FaultKind::Read(Reason::Other))
 }
 
 // The tag by a method over the cipher `C`.
@@ -61,7 +61,7 @@ fn tag_over<C: KeyedCipher + Drop, R: Read>(
     key: &[u8],
     reader: &mut R,
     buffer: &mut [u8],
-) -> Result<[u8; 8], Kind>
+) -> Result<[u8; 8], FaultKind>
     requires { 0 < length buffer.old }
     ensures tag { IfOk result (IsTagOfAll (tag_over (C.encryption key.now) method key.now)
         (R.remaining reader.old) (R.remaining reader.new)) }
@@ -84,7 +84,7 @@ pub fn tag_of<R: Read>(
     key: &[u8],
     reader: &mut R,
     buffer: &mut [u8],
-) -> Result<[u8; 8], Kind>
+) -> Result<[u8; 8], FaultKind>
     requires { 0 < length buffer.old }
     ensures tag { IfOk result (IsTagOfAll (tag_by method key.now)
         (R.remaining reader.old) (R.remaining reader.new)) }

@@ -4,17 +4,17 @@ ghost use Rattle.std.specs.Prelude.{IfOk, IfSome};
 ghost use Rattle.des_commands.specs.Keys.{IsKeySize};
 ghost use Rattle.des_commands.specs.Macs.{IsTagOfDigits, tag_by};
 
-use crate::answer::{status_of, tag_line, tag_of_digits, verification};
 use crate::command::{MacRequest, Question};
-use crate::fault::{Fault, Kind};
-use crate::inputs;
+use crate::fault::{Fault, FaultKind};
+use crate::input_files;
 use crate::mac::{Method, tag_of};
 use crate::notices::{self, Notice};
-use crate::reading::key_in;
 use crate::report::show;
+use crate::secrets::key_in;
 use crate::sentences::English;
-use crate::source::Source;
 use crate::streams_program::tell_hex;
+use crate::tags::{status_of, tag_line, tag_of_digits, verification};
+use crate::text_source::Source;
 use des_passwords::{HexReader, HexTextReader};
 use std::io::Read;
 
@@ -40,7 +40,7 @@ fn tag_of_text<R: Read + Drop>(
     request: &MacRequest,
     key: &[u8],
     reader: R,
-) -> Result<Tagged, Kind>
+) -> Result<Tagged, FaultKind>
     ensures { IfOk result (λ tagged. IfOk tagged
         (IsTagOfDigits (tag_by request.now.method key.now) (R.remaining reader))) }
 {
@@ -59,7 +59,7 @@ fn tag_of_bytes<R: Read + Drop>(
     request: &MacRequest,
     key: &[u8],
     reader: R,
-) -> Result<Tagged, Kind> {
+) -> Result<Tagged, FaultKind> {
     let mut buffer = vec![in rt.alloc(); 0u8; BYTES_AT_A_TIME]?;
     let mut reader = HexTextReader::new(reader);
     let tag = tag_of(request.method, key, &mut reader, &mut buffer)?;
@@ -78,7 +78,7 @@ fn tag_of_reader<R: Read + Drop>(
     request: &MacRequest,
     key: &[u8],
     reader: R,
-) -> Result<Tagged, Kind> {
+) -> Result<Tagged, FaultKind> {
     if request.is_hexadecimal {
         tag_of_text(rt, request, key, reader)
     } else {
@@ -87,9 +87,9 @@ fn tag_of_reader<R: Read + Drop>(
 }
 
 // The tag of a message.
-fn tag_of_message(rt: &HostRuntime, request: &MacRequest, key: &[u8]) -> Result<Tagged, Kind> {
+fn tag_of_message(rt: &HostRuntime, request: &MacRequest, key: &[u8]) -> Result<Tagged, FaultKind> {
     match request.message {
-        Source::File(path) => tag_of_reader(rt, request, key, inputs::open(rt, path)?.file),
+        Source::File(path) => tag_of_reader(rt, request, key, input_files::open(rt, path)?.file),
         _ => tag_of_reader(rt, request, key, rt.stdin()),
     }
 }

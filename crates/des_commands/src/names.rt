@@ -5,8 +5,8 @@ ghost use Rattle.std.specs.Prelude.{IsTrue};
 ghost use Rattle.des_commands.specs.Names.{is_place, IsSubject};
 
 use crate::command::{Account, Calculation, CalculationRequest, KeyBlockCalculation};
-use crate::fault::{Field, Kind};
-use crate::source::Source;
+use crate::fault::{FaultKind, Field};
+use crate::text_source::Source;
 use des_payment::emv_error::EmvError;
 use des_payment::key_block_error::KeyBlockError;
 use des_payment::{CvvError, PinError, TranslationError, VerificationError};
@@ -130,39 +130,39 @@ fn fill_name<'a>(request: &CalculationRequest<'a>) -> &'a str
 }
 
 /// What a fault of a calculation is about.
-pub fn about_of<'a>(kind: Kind, request: &CalculationRequest<'a>) -> &'a str
+pub fn about_of<'a>(kind: FaultKind, request: &CalculationRequest<'a>) -> &'a str
     ensures { IsSubject request.now result.now }
 {
     match kind {
-        Kind::Components => "--count",
-        Kind::SerialLength | Kind::SerialText | Kind::SerialCounter => "SERIAL",
-        Kind::FillLength | Kind::FillText => "--fill",
-        Kind::CheckDigit
-        | Kind::Pin(PinError::AccountLength | PinError::AccountDigit)
-        | Kind::Cvv(CvvError::AccountLength | CvvError::AccountDigit)
-        | Kind::Translation(TranslationError::AccountLength | TranslationError::AccountDigit) => {
-            account_name(request)
-        }
-        Kind::Pin(PinError::Fill) | Kind::Translation(TranslationError::Fill) => {
+        FaultKind::Components => "--count",
+        FaultKind::SerialLength | FaultKind::SerialText | FaultKind::SerialCounter => "SERIAL",
+        FaultKind::FillLength | FaultKind::FillText => "--fill",
+        FaultKind::CheckDigit
+        | FaultKind::Pin(PinError::AccountLength | PinError::AccountDigit)
+        | FaultKind::Cvv(CvvError::AccountLength | CvvError::AccountDigit)
+        | FaultKind::Translation(
+            TranslationError::AccountLength | TranslationError::AccountDigit,
+        ) => { account_name(request) }
+        FaultKind::Pin(PinError::Fill) | FaultKind::Translation(TranslationError::Fill) => {
             fill_name(request)
         }
-        Kind::Cvv(CvvError::ExpiryLength | CvvError::ExpiryDigit) => "--expiry",
-        Kind::Cvv(CvvError::ServiceLength | CvvError::ServiceDigit) => "--service",
-        Kind::Verification(error) => about_of_verification(error, request),
-        Kind::Emv(error) => about_of_emv(error, request),
-        Kind::KeyLength(_) | Kind::KeyText => key_name(request),
-        Kind::ToKeyLength | Kind::ToKeyText => to_key_name(request),
-        Kind::Value => "--value",
-        Kind::Offset => "--offset",
-        Kind::Validation => "--validation",
-        Kind::Counter => "--counter",
-        Kind::Cryptogram => "--cryptogram",
-        Kind::ResponseCode => "--code",
-        Kind::CardStatus => "--status",
-        Kind::IssuerData => "--data",
-        Kind::Field(field) => option_of(field),
-        Kind::KeyBlock(error) => about_of_key_block(error, request),
-        Kind::Memory => "",
+        FaultKind::Cvv(CvvError::ExpiryLength | CvvError::ExpiryDigit) => "--expiry",
+        FaultKind::Cvv(CvvError::ServiceLength | CvvError::ServiceDigit) => "--service",
+        FaultKind::Verification(error) => about_of_verification(error, request),
+        FaultKind::Emv(error) => about_of_emv(error, request),
+        FaultKind::KeyLength(_) | FaultKind::KeyText => key_name(request),
+        FaultKind::ToKeyLength | FaultKind::ToKeyText => to_key_name(request),
+        FaultKind::Value => "--value",
+        FaultKind::Offset => "--offset",
+        FaultKind::Validation => "--validation",
+        FaultKind::Counter => "--counter",
+        FaultKind::Cryptogram => "--cryptogram",
+        FaultKind::ResponseCode => "--code",
+        FaultKind::CardStatus => "--status",
+        FaultKind::IssuerData => "--data",
+        FaultKind::Field(field) => option_of(field),
+        FaultKind::KeyBlock(error) => about_of_key_block(error, request),
+        FaultKind::Memory => "",
         _ => input_name(request),
     }
 }

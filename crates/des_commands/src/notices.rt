@@ -6,7 +6,7 @@ ghost use Rattle.des_commands.specs.Notices.{notice_line, ruling_of as ruling_by
 ghost use Rattle.des_commands.specs.Written.{AppendsPrefix};
 ghost use Rattle.std.specs.Io.KnownBytes.{Appends};
 
-use crate::fault::Kind;
+use crate::fault::FaultKind;
 use crate::keys::{Verdict, verdict_of};
 use crate::report::write_line;
 use crate::stream_request::{StreamRequest, WeakKeys};
@@ -74,14 +74,14 @@ pub fn ruling_of(
     weak_keys: WeakKeys,
     encrypts: bool,
     verdict: Verdict,
-) -> Result<Option<Notice>, Kind>
+) -> Result<Option<Notice>, FaultKind>
     ensures { result ≡ ruling_by weak_keys encrypts verdict }
 {
     match (weak_keys, verdict) {
         (_, Verdict::Good) | (WeakKeys::Accept, _) => Ok(None),
         (_, Verdict::DoubleLength) if encrypts => Ok(Some(Notice::DoubleLength)),
         (_, Verdict::DoubleLength) => Ok(None),
-        (WeakKeys::Refuse, Verdict::Weak) => Err(Kind::WeakKey),
+        (WeakKeys::Refuse, Verdict::Weak) => Err(FaultKind::WeakKey),
         (WeakKeys::Warn, Verdict::Weak) => Ok(Some(Notice::WeakKey)),
     }
 }
@@ -93,7 +93,7 @@ pub fn accept_key<E: Write>(
     key: &[u8],
     about: &str,
     err: &mut E,
-) -> Result<(), Kind>
+) -> Result<(), FaultKind>
     requires { IsKeySize (length key.now) }
     ensures { IsAccepted request.now.weak_keys request.now.encrypts key.now about.now result
         (E.contents err.old) (E.contents err.new) }

@@ -3,12 +3,12 @@
 ghost use Rattle.std.specs.Prelude.{◌≡◌, ◌⊎◌, ◌↔◌};
 ghost use Rattle.std.specs.IoError.{error_kind};
 
-use crate::descriptors::{Followed, folder_of, follow, has_shared, if_there, standing_of};
-use crate::fault::{Fault, Kind, Misuse, Reason};
+use crate::descriptors::{Followed, descriptor_state_of, folder_of, follow, has_shared, if_there};
+use crate::fault::{Fault, FaultKind, Misuse, Reason};
 use crate::inodes::{has_other_users, inode_of, is_refused_in_sticky};
-use crate::inputs::system_random;
-use crate::source::{Source, shown};
+use crate::input_files::system_random;
 use crate::stream_request::Output;
+use crate::text_source::{Source, shown};
 use std::fs::{self, File, Metadata, OpenOptions, Permissions};
 use std::io::{self, ErrorKind, IsTerminal};
 use std::os::unix::fs::{MetadataExt, OpenOptionsExt, PermissionsExt, fchown};
@@ -50,7 +50,7 @@ pub struct PrivateFile {
 
 /// Who may read what is written to a file.
 #[derive(Clone, Copy, PartialEq, Eq)]
-pub enum Readers {
+pub enum Access {
     /// Who may read a new file of the folder. If a file is replaced, its owner alone: what others
     /// could do may stand in an access list, which std neither tells of nor sets.
     OfFolder,
@@ -70,13 +70,13 @@ pub enum Target {
 }
 
 /// The fault of an error that says why an output can't be written.
-pub fn write_fault(error: io::Error) -> Kind
-    ensures fault { (result ≡ Kind.Memory) ⊎ ((reason : Reason) × (result ≡ Kind.Write reason)) }
-    ensures memory { (result ≡ Kind.Memory) ↔ (error_kind error ≡ ErrorKind.OutOfMemory) }
+pub fn write_fault(error: io::Error) -> FaultKind
+    ensures fault { (result ≡ FaultKind.Memory) ⊎ ((reason : Reason) × (result ≡ FaultKind.Write reason)) }
+    ensures memory { (result ≡ FaultKind.Memory) ↔ (error_kind error ≡ ErrorKind.OutOfMemory) }
 {
     match error.kind() {
-        ErrorKind::OutOfMemory => Kind::Memory,
-        _ => Kind::Write(Reason::of(&error)),
+        ErrorKind::OutOfMemory => FaultKind::Memory,
+        _ => FaultKind::Write(Reason::of(&error)),
     }
 }
 
@@ -93,7 +93,7 @@ pub fn output_name<'a>(output: Output<'a>) -> &'a str {
 pub fn refuse_terminal<'a>(rt: &HostRuntime, output: Output) -> Result<(), Fault<'a>> {
     match output {
         Output::Unnamed if rt.stdout().is_terminal() => {
-            Err(Fault::about(Kind::Usage(Misuse::Terminal), ""))
+            Err(Fault::about(FaultKind::Usage(Misuse::Terminal), ""))
         }
         _ => Ok(()),
     }
@@ -104,9 +104,9 @@ pub fn refuse_terminal<'a>(rt: &HostRuntime, output: Output) -> Result<(), Fault
 pub fn open(
     rt: &HostRuntime,
     output: Output,
-    readers: Readers,
+    readers: Access,
     secret: Source,
-) -> Result<Target, Kind> {
+) -> Result<Target, FaultKind> {
     let path = match output {
         Output::File(path) => path,
         _ => STANDARD_OUTPUT,
@@ -114,7 +114,7 @@ pub fn open(
     refuse_file(rt, path, secret, Reason::IsSecret)?;
     match follow(rt, path).map_err(write_fault)? {
         Followed::Descriptor(number) => open_descriptor(rt, number),
-        Followed::OtherDescriptor => Err(Kind::Write(Reason::Descriptor)),
+        Followed::OtherDescriptor => Err(FaultKind::Write(Reason::Descriptor)),
         Followed::Path { name, folders } => {
             open_path(rt, path, name, has_shared(folders.as_slice()), readers)
         }
@@ -129,19 +129,19 @@ fn open_path(
     path: &str,
     name: String,
     is_shared: bool,
-    readers: Readers,
-) -> Result<Target, Kind> {
+    readers: Access,
+) -> Result<Target, FaultKind> {
     match if_there(fs::metadata(rt, path)).map_err(write_fault)? {
         Some(old) => open_old(rt, name, old),
-        None if is_shared => Err(Kind::Write(Reason::Permission)),
+        None if is_shared => Err(FaultKind::Write(Reason::Permission)),
         None => open_new(rt, name, readers),
     }
 }
 
 // The fault of a file that was there, and can't be opened.
-fn open_fault(error: io::Error) -> Kind {
+fn open_fault(error: io::Error) -> FaultKind {
     match error.kind() {
-        ErrorKind::NotFound => Kind::Write(Reason::Changed),
+        ErrorKind::NotFound => FaultKind::Write(Reason::Changed),
         _ => write_fault(error),
     }
 }
@@ -154,11 +154,11 @@ fn own_user(rt: &HostRuntime) -> Option<u32> {
 // Opens the file that was looked up, under a name that is no link. A shell opens with `O_CREAT`, so that
 // the system refuses what another user has put into a folder where many may write. That would make a
 // file wherever a link leads that takes the name meanwhile: so it is refused here, by the same rule.
-fn open_looked_up(rt: &HostRuntime, name: &str, old: &Metadata) -> Result<File, Kind> {
+fn open_looked_up(rt: &HostRuntime, name: &str, old: &Metadata) -> Result<File, FaultKind> {
     let folder = fs::metadata(rt, folder_of(name)).map_err(open_fault)?;
     let user = own_user(rt).unwrap_or(folder.uid());
     if is_refused_in_sticky(inode_of(&folder), inode_of(old), user) {
-        return Err(Kind::Write(Reason::Permission));
+        return Err(FaultKind::Write(Reason::Permission));
     }
     let file = OpenOptions::new()
         .write(true)
@@ -167,16 +167,16 @@ fn open_looked_up(rt: &HostRuntime, name: &str, old: &Metadata) -> Result<File, 
     let found = file.metadata().map_err(write_fault)?;
     let named = fs::symlink_metadata(rt, name).map_err(open_fault)?;
     if !are_same(&found, old) || !are_same(&named, old) {
-        return Err(Kind::Write(Reason::Changed));
+        return Err(FaultKind::Write(Reason::Changed));
     }
     Ok(file)
 }
 
 // A folder is refused, a regular file is replaced, and anything else is written to as it is. A file
 // that may not be written to is not replaced, although the system would let it be.
-fn open_old(rt: &HostRuntime, name: String, old: Metadata) -> Result<Target, Kind> {
+fn open_old(rt: &HostRuntime, name: String, old: Metadata) -> Result<Target, FaultKind> {
     if old.is_dir() {
-        return Err(Kind::Write(Reason::IsFolder));
+        return Err(FaultKind::Write(Reason::IsFolder));
     }
     let file = open_looked_up(rt, name.as_str(), &old)?;
     if !old.is_file() {
@@ -189,8 +189,8 @@ fn open_old(rt: &HostRuntime, name: String, old: Metadata) -> Result<Target, Kin
 
 // The permissions of a new file beside a target: those that the system gives one, by the umask or the
 // folder's own list, unless it is to be its owner's. An empty file is made, looked at, and removed.
-fn mode_of(rt: &HostRuntime, target: &str, readers: Readers) -> Result<u32, Kind> {
-    if readers == Readers::Owner {
+fn mode_of(rt: &HostRuntime, target: &str, readers: Access) -> Result<u32, FaultKind> {
+    if readers == Access::Owner {
         return Ok(MODE_IN_WRITING);
     }
     let (path, file) = create_beside(rt, target, MODE_OF_NEW_FILES)?;
@@ -200,12 +200,12 @@ fn mode_of(rt: &HostRuntime, target: &str, readers: Readers) -> Result<u32, Kind
 }
 
 // A name that ends with a slash, and an empty one, are no file's.
-fn open_new(rt: &HostRuntime, name: String, readers: Readers) -> Result<Target, Kind> {
+fn open_new(rt: &HostRuntime, name: String, readers: Access) -> Result<Target, FaultKind> {
     if name.is_empty() {
-        return Err(Kind::Write(Reason::NotFound));
+        return Err(FaultKind::Write(Reason::NotFound));
     }
     if name.as_str().ends_with("/") {
-        return Err(Kind::Write(Reason::NotFolder));
+        return Err(FaultKind::Write(Reason::NotFolder));
     }
     let mode = mode_of(rt, name.as_str(), readers)?;
     create_private(rt, name, None, mode, false)
@@ -214,12 +214,12 @@ fn open_new(rt: &HostRuntime, name: String, readers: Readers) -> Result<Target, 
 // Standard output itself is written to: other programs may share its place. The system opens the
 // file of another descriptor anew. So a regular file is refused: what the descriptor's owner writes
 // next would go over the output. So is a descriptor that was opened for reading alone.
-fn open_descriptor(rt: &HostRuntime, number: u64) -> Result<Target, Kind> {
+fn open_descriptor(rt: &HostRuntime, number: u64) -> Result<Target, FaultKind> {
     if number == 1 {
         return Ok(Target::StandardOutput);
     }
-    if !standing_of(rt, number).map_err(write_fault)?.writes {
-        return Err(Kind::Write(Reason::Permission));
+    if !descriptor_state_of(rt, number).map_err(write_fault)?.writes {
+        return Err(FaultKind::Write(Reason::Permission));
     }
     let path = format!(in rt.alloc(); "/dev/fd/{number}")?;
     let file = OpenOptions::new()
@@ -227,7 +227,7 @@ fn open_descriptor(rt: &HostRuntime, number: u64) -> Result<Target, Kind> {
         .open(rt, path.as_str())
         .map_err(write_fault)?;
     if file.metadata().map_err(write_fault)?.is_file() {
-        return Err(Kind::Write(Reason::Reopened));
+        return Err(FaultKind::Write(Reason::Reopened));
     }
     Ok(Target::AsItIs(file))
 }
@@ -239,7 +239,12 @@ fn are_same(one: &Metadata, other: &Metadata) -> bool {
 }
 
 // Refuses an output that is the regular file of a source, for a reason.
-fn refuse_file(rt: &HostRuntime, path: &str, source: Source, reason: Reason) -> Result<(), Kind> {
+fn refuse_file(
+    rt: &HostRuntime,
+    path: &str,
+    source: Source,
+    reason: Reason,
+) -> Result<(), FaultKind> {
     let name = match source {
         Source::StandardInput => String::from_str(rt.alloc(), "/proc/self/fd/0")?,
         Source::File(name) => String::from_str(rt.alloc(), name)?,
@@ -250,7 +255,7 @@ fn refuse_file(rt: &HostRuntime, path: &str, source: Source, reason: Reason) -> 
     let other = if_there(fs::metadata(rt, name.as_str())).map_err(write_fault)?;
     match (output, other) {
         (Some(output), Some(other)) if output.is_file() && are_same(&output, &other) => {
-            Err(Kind::Write(reason))
+            Err(FaultKind::Write(reason))
         }
         _ => Ok(()),
     }
@@ -258,7 +263,7 @@ fn refuse_file(rt: &HostRuntime, path: &str, source: Source, reason: Reason) -> 
 
 /// Refuses an input that is the regular file of standard output, as `cat` does: it would grow for as
 /// long as it is read. The fault is `Write` or `Memory`.
-pub fn refuse_input(rt: &HostRuntime, input: Source) -> Result<(), Kind> {
+pub fn refuse_input(rt: &HostRuntime, input: Source) -> Result<(), FaultKind> {
     refuse_file(rt, STANDARD_OUTPUT, input, Reason::IsInput)
 }
 
@@ -266,7 +271,7 @@ pub fn refuse_input(rt: &HostRuntime, input: Source) -> Result<(), Kind> {
 
 // A path in the folder of a target, with a name that nobody foresees. It has 26 characters, so it
 // fits beside a target whose name is as long as names may be.
-fn random_path(rt: &HostRuntime, target: &str) -> Result<String, Kind> {
+fn random_path(rt: &HostRuntime, target: &str) -> Result<String, FaultKind> {
     let number = u64::from_be_bytes(system_random(rt)?);
     let name = format!(in rt.alloc(); ".cukvashe-{number:016x}")?;
     let path = Path::new(target).with_file_name(rt.alloc(), name.as_str())?;
@@ -275,7 +280,7 @@ fn random_path(rt: &HostRuntime, target: &str) -> Result<String, Kind> {
 
 // A new file beside a target, and its path. The umask or the folder's own list takes bits of the mode
 // away. A file that stands already, or a link, is never opened: another name is tried.
-fn create_beside(rt: &HostRuntime, target: &str, mode: u32) -> Result<(String, File), Kind> {
+fn create_beside(rt: &HostRuntime, target: &str, mode: u32) -> Result<(String, File), FaultKind> {
     for _ in 0..NAMES_AT_MOST {
         let path = random_path(rt, target)?;
         let created = OpenOptions::new()
@@ -287,12 +292,12 @@ fn create_beside(rt: &HostRuntime, target: &str, mode: u32) -> Result<(String, F
             Ok(file) => return Ok((path, file)),
             Err(error) => match error.kind() {
                 ErrorKind::AlreadyExists => {}
-                ErrorKind::PermissionDenied => return Err(Kind::Write(Reason::Folder)),
+                ErrorKind::PermissionDenied => return Err(FaultKind::Write(Reason::Folder)),
                 _ => return Err(write_fault(error)),
             },
         }
     }
-    Err(Kind::Write(Reason::Exists))
+    Err(FaultKind::Write(Reason::Exists))
 }
 
 // The file that takes the place of a target, which was a file or nothing, and has a mode then.
@@ -302,7 +307,7 @@ fn create_private(
     old: Option<File>,
     mode: u32,
     narrows: bool,
-) -> Result<Target, Kind> {
+) -> Result<Target, FaultKind> {
     let (beside, file) = create_beside(rt, target.as_str(), MODE_IN_WRITING)?;
     Ok(Target::Replaced(PrivateFile {
         target,
@@ -316,21 +321,21 @@ fn create_private(
 
 // Refuses what took a name after it was looked up, or left it: it is not replaced, unless that comes
 // between this look and the renaming.
-fn refuse_changed(rt: &HostRuntime, name: &str, old: &Option<Metadata>) -> Result<(), Kind> {
+fn refuse_changed(rt: &HostRuntime, name: &str, old: &Option<Metadata>) -> Result<(), FaultKind> {
     match (
         old,
         if_there(fs::symlink_metadata(rt, name)).map_err(write_fault)?,
     ) {
         (Some(old), Some(found)) if are_same(old, &found) => Ok(()),
         (None, None) => Ok(()),
-        _ => Err(Kind::Write(Reason::Changed)),
+        _ => Err(FaultKind::Write(Reason::Changed)),
     }
 }
 
 // The fault of a file that can't take the target's name.
-fn replace_fault(error: io::Error) -> Kind {
+fn replace_fault(error: io::Error) -> FaultKind {
     match error.kind() {
-        ErrorKind::ResourceBusy => Kind::Write(Reason::Busy),
+        ErrorKind::ResourceBusy => FaultKind::Write(Reason::Busy),
         _ => write_fault(error),
     }
 }
@@ -338,7 +343,7 @@ fn replace_fault(error: io::Error) -> Kind {
 impl PrivateFile {
     /// Ends the file. If all went well it is flushed to the disk and takes the target's name.
     /// If anything failed it is removed, and the target is unchanged.
-    pub fn end(self, rt: &HostRuntime, outcome: Result<(), Kind>) -> Result<(), Kind> {
+    pub fn end(self, rt: &HostRuntime, outcome: Result<(), FaultKind>) -> Result<(), FaultKind> {
         let outcome = outcome.and_then(|()| self.replace_target(rt));
         if outcome.is_err() {
             // If it can't be removed, at least only its owner may read it.
@@ -353,7 +358,7 @@ impl PrivateFile {
     // Flushes the file, gives it its group and permissions if the system lets it, and renames it: a
     // signal on the way leaves its owner's file. Then the folder is flushed if the system lets it.
     // One that may not be read can't be: that is no fault, since the file stands whole under its name.
-    fn replace_target(&self, rt: &HostRuntime) -> Result<(), Kind> {
+    fn replace_target(&self, rt: &HostRuntime) -> Result<(), FaultKind> {
         self.file.sync_all().map_err(write_fault)?;
         let old = match &self.old {
             Some(old) => Some(old.metadata().map_err(write_fault)?),

@@ -11,7 +11,7 @@ ghost use Rattle.des_commands.specs.PasswordStreams.{IsToHaveSalt, ReadsSalt, Fa
 ghost use Rattle.des_commands.specs.PasswordStreams.{IsDoneByPassword, StopsByPassword, TellsOfKey};
 ghost use Rattle.des_commands.specs.Faults.{FailsOnlyBy};
 
-use crate::fault::{FileFault, Kind, Misuse};
+use crate::fault::{FaultKind, FileFault, Misuse};
 use crate::notices::accept_key;
 use crate::stream_request::{Cipher, Password, StreamRequest, job_of};
 use crate::streams;
@@ -36,11 +36,11 @@ pub struct PasswordJob<'a> {
 }
 
 /// The fault of a password, if it has one: what encrypts is not empty.
-pub fn check_password(encrypts: bool, password: &[u8]) -> Result<(), Kind>
+pub fn check_password(encrypts: bool, password: &[u8]) -> Result<(), FaultKind>
     ensures { FailsOnlyBy (password_fault encrypts password.now) result }
 {
     if encrypts && password.is_empty() {
-        Err(Kind::EmptyPassword)
+        Err(FaultKind::EmptyPassword)
     } else {
         Ok(())
     }
@@ -49,7 +49,7 @@ pub fn check_password(encrypts: bool, password: &[u8]) -> Result<(), Kind>
 // ---- the salt
 
 // Reads `Salted__` and the salt.
-fn read_salt<R: Read>(reader: &mut R) -> Result<[u8; 8], Kind>
+fn read_salt<R: Read>(reader: &mut R) -> Result<[u8; 8], FaultKind>
     ensures salt { IfOk result (λ salt.
         Consumes (R.remaining reader.old) (R.remaining reader.new) (codes "Salted__" ++ salt)) }
     ensures fault { IfErr result (FailsToReadSalt (R.remaining reader.old)
@@ -59,13 +59,13 @@ fn read_salt<R: Read>(reader: &mut R) -> Result<[u8; 8], Kind>
     let count = fill(reader, &mut bytes)?;
     match read_salted(&bytes[..count]) {
         Ok(read) => Ok(*read.salt),
-        Err(SaltedError::NotSalted) => Err(Kind::File(FileFault::NotSalted)),
-        Err(SaltedError::SaltCut) => Err(Kind::File(FileFault::SaltCut)),
+        Err(SaltedError::NotSalted) => Err(FaultKind::File(FileFault::NotSalted)),
+        Err(SaltedError::SaltCut) => Err(FaultKind::File(FileFault::SaltCut)),
     }
 }
 
 // The salt: that of what is encrypted, or what a file to be decrypted begins with, if it has one.
-fn salt_of<R: Read>(job: &PasswordJob, reader: &mut R) -> Result<Option<[u8; 8]>, Kind>
+fn salt_of<R: Read>(job: &PasswordJob, reader: &mut R) -> Result<Option<[u8; 8]>, FaultKind>
     ensures salt { IfOk result (λ salt. ReadsSalt job.now salt (R.remaining reader.old)
         (R.remaining reader.new)) }
     ensures fault { IfErr result (λ kind. IsToHaveSalt job.now
@@ -99,7 +99,7 @@ fn run_by_key<const N: usize, R: Read, W: Write, E: Write>(
     reader: &mut R,
     writer: &mut W,
     err: &mut E,
-) -> Result<(), Kind>
+) -> Result<(), FaultKind>
     requires one { IsKeySize N }
     requires size { N ≡ key_size_of job.now.request.now.cipher }
     ensures done { IfOk result (λ _. IsDoneByPassword job.now (passage_of (R.remaining reader.old)
@@ -112,7 +112,7 @@ fn run_by_key<const N: usize, R: Read, W: Write, E: Write>(
     let salt = salt_of(job, reader)?;
     let derivation = job.by.derivation;
     let Ok(secret) = derivation.key_and_vector::<N>(job.password, bytes_of(&salt)) else {
-        return Err(Kind::Usage(Misuse::Derivation));
+        return Err(FaultKind::Usage(Misuse::Derivation));
     };
     let heading = [PREFIX, job.salt];
     let heading = heading.as_flattened();
@@ -135,7 +135,7 @@ pub fn run_by_password<R: Read, W: Write, E: Write>(
     reader: &mut R,
     writer: &mut W,
     err: &mut E,
-) -> Result<(), Kind>
+) -> Result<(), FaultKind>
     ensures done { IfOk result (λ _. IsDoneByPassword job.now (passage_of (R.remaining reader.old)
         (R.remaining reader.new) (W.contents writer.old) (W.contents writer.new))) }
     ensures fault { IfErr result (λ kind. StopsByPassword kind job.now (passage_of (R.remaining reader.old)

@@ -10,12 +10,12 @@ ghost use Rattle.des_commands.specs.PinLines.{pvv_of, pvv_fault, HasPvv, pvv_ver
 ghost use Rattle.des_commands.specs.PinLines.{offset_by, offset_fault, HasOffset, offset_verdict_fault, IsVerdictLine, TellsOutcome};
 ghost use Rattle.des_commands.specs.PinLines.{pin_line_fault, IsPinLine, validation_fault};
 
-use crate::answer::{RIGHT, WRONG};
 use crate::check_digit::are_digits;
 use crate::command::{Inputs, NaturalPins, PinCalculation};
 use crate::digits::{Lines, bytes_of, fill_of, hex_line, line_of};
-use crate::fault::Kind;
+use crate::fault::FaultKind;
 use crate::keys::{pair_of, read_key};
+use crate::tags::{RIGHT, WRONG};
 use des_payment::pin_verification::{natural_pin, pin_offset, pvv, verify_offset, verify_pvv};
 use des_payment::translation::{Format, translate, translate_format_1};
 use des_payment::{DecimalTable, Pin, VerificationError};
@@ -43,7 +43,7 @@ pub fn pin_line(alloc: Global, calculation: PinCalculation, inputs: Inputs) -> L
 
 // ---- PIN blocks
 
-fn fill_for(to: Format, fill: &str) -> Result<[u8; 10], Kind>
+fn fill_for(to: Format, fill: &str) -> Result<[u8; 10], FaultKind>
     ensures fault { FailsOnlyBy (fill_text_fault to fill.now) result }
     ensures digits { IfOk result (λ digits. digits ≡ fill_by to fill.now) }
 {
@@ -59,15 +59,20 @@ fn translated_line(alloc: Global, from: Format, to: Format, fill: &str, inputs: 
         IsPinLine (PinCalculation.Translate from to fill.entry) inputs.entry line.items) }
 {
     let mut key = [0u8; 24];
-    let size = read_key(inputs.key, &mut key, Kind::KeyLength(None), Kind::KeyText)?;
+    let size = read_key(
+        inputs.key,
+        &mut key,
+        FaultKind::KeyLength(None),
+        FaultKind::KeyText,
+    )?;
     let mut outgoing = [0u8; 24];
     let to_size = read_key(
         inputs.to_key,
         &mut outgoing,
-        Kind::ToKeyLength,
-        Kind::ToKeyText,
+        FaultKind::ToKeyLength,
+        FaultKind::ToKeyText,
     )?;
-    let block = bytes_of::<8>(inputs.text, Kind::BlockLength, Kind::BlockText)?;
+    let block = bytes_of::<8>(inputs.text, FaultKind::BlockLength, FaultKind::BlockText)?;
     let fill = fill_for(to, fill)?;
     let answer = translate(
         &key[..size],
@@ -86,15 +91,20 @@ fn rekeyed_line(alloc: Global, inputs: Inputs) -> Lines
     ensures line { IfOk result (λ line. line.items ≡ hex_line_of (rekeyed_by inputs.entry)) }
 {
     let mut key = [0u8; 24];
-    let size = read_key(inputs.key, &mut key, Kind::KeyLength(None), Kind::KeyText)?;
+    let size = read_key(
+        inputs.key,
+        &mut key,
+        FaultKind::KeyLength(None),
+        FaultKind::KeyText,
+    )?;
     let mut outgoing = [0u8; 24];
     let to_size = read_key(
         inputs.to_key,
         &mut outgoing,
-        Kind::ToKeyLength,
-        Kind::ToKeyText,
+        FaultKind::ToKeyLength,
+        FaultKind::ToKeyText,
     )?;
-    let block = bytes_of::<8>(inputs.text, Kind::BlockLength, Kind::BlockText)?;
+    let block = bytes_of::<8>(inputs.text, FaultKind::BlockLength, FaultKind::BlockText)?;
     let answer = translate_format_1(&key[..size], &outgoing[..to_size], &block)?;
     Ok(hex_line(alloc, &answer)?)
 }
@@ -108,18 +118,18 @@ fn verdict(alloc: Global, outcome: Result<(), VerificationError>) -> Lines
     match outcome {
         Ok(()) => Ok(Vec::from_slice(alloc, RIGHT.as_bytes())?),
         Err(VerificationError::WrongPin) => Ok(Vec::from_slice(alloc, WRONG.as_bytes())?),
-        Err(error) => Err(Kind::Verification(error)),
+        Err(error) => Err(FaultKind::Verification(error)),
     }
 }
 
-fn value_of(text: &str) -> Result<[u8; 4], Kind>
-    ensures fault { FailsOnlyBy (number_fault 4 4 Kind.Value Kind.Value text.now) result }
+fn value_of(text: &str) -> Result<[u8; 4], FaultKind>
+    ensures fault { FailsOnlyBy (number_fault 4 4 FaultKind.Value FaultKind.Value text.now) result }
     ensures value { IfOk result (λ value. value ≡ text.now) }
 {
     if !are_digits(text.as_bytes()) {
-        return Err(Kind::Value);
+        return Err(FaultKind::Value);
     }
-    <[u8; 4]>::try_from(text.as_bytes()).map_err(|_| Kind::Value)
+    <[u8; 4]>::try_from(text.as_bytes()).map_err(|_| FaultKind::Value)
 }
 
 fn pvv_line(alloc: Global, index: u8, inputs: Inputs) -> Lines
@@ -147,15 +157,19 @@ fn pvv_verdict(alloc: Global, index: u8, value: &str, inputs: Inputs) -> Lines
 // ---- natural PINs and offsets
 
 // The validation data that digits write.
-fn validation_of(by: NaturalPins) -> Result<[u8; 8], Kind>
+fn validation_of(by: NaturalPins) -> Result<[u8; 8], FaultKind>
     ensures fault { FailsOnlyBy (validation_fault by.entry) result }
     ensures bytes { IfOk result (λ bytes. bytes ≡ bytes_of_text by.entry.validation.now) }
 {
-    bytes_of::<8>(by.validation.as_bytes(), Kind::Validation, Kind::Validation)
+    bytes_of::<8>(
+        by.validation.as_bytes(),
+        FaultKind::Validation,
+        FaultKind::Validation,
+    )
 }
 
 // The decimalization table of digits.
-fn table_of(by: NaturalPins) -> Result<DecimalTable, Kind>
+fn table_of(by: NaturalPins) -> Result<DecimalTable, FaultKind>
     ensures fault { FailsOnlyBy (table_text_fault by.entry) result }
     ensures table { IfOk result (λ table. table ≡ values by.entry.table.now) }
 {
@@ -175,7 +189,12 @@ fn natural_line(alloc: Global, by: NaturalPins, count: u8, digits: &[u8]) -> Lin
         line.items ≡ text_line (natural_pin_by by.entry count digits.now)) }
 {
     let mut key = [0u8; 24];
-    let size = read_key(digits, &mut key, Kind::KeyLength(None), Kind::KeyText)?;
+    let size = read_key(
+        digits,
+        &mut key,
+        FaultKind::KeyLength(None),
+        FaultKind::KeyText,
+    )?;
     let validation = validation_of(by)?;
     let table = table_of(by)?;
     let pin = natural_pin(&key[..size], &table, &validation, count as usize)?;
@@ -187,7 +206,12 @@ fn offset_line(alloc: Global, by: NaturalPins, inputs: Inputs) -> Lines
     ensures line { IfOk result (λ line. line.items ≡ text_line (offset_by by.entry inputs.entry)) }
 {
     let mut key = [0u8; 24];
-    let size = read_key(inputs.key, &mut key, Kind::KeyLength(None), Kind::KeyText)?;
+    let size = read_key(
+        inputs.key,
+        &mut key,
+        FaultKind::KeyLength(None),
+        FaultKind::KeyText,
+    )?;
     let pin = Pin::new(inputs.text)?;
     let validation = validation_of(by)?;
     let table = table_of(by)?;
@@ -196,11 +220,11 @@ fn offset_line(alloc: Global, by: NaturalPins, inputs: Inputs) -> Lines
 }
 
 // The offset that a text writes, which has a PIN's form.
-fn given_offset(text: &str) -> Result<Pin, Kind>
-    ensures fault { FailsOnlyBy (number_fault 4 12 Kind.Offset Kind.Offset text.now) result }
+fn given_offset(text: &str) -> Result<Pin, FaultKind>
+    ensures fault { FailsOnlyBy (number_fault 4 12 FaultKind.Offset FaultKind.Offset text.now) result }
     ensures offset { IfOk result (λ offset. offset ≡ text.now) }
 {
-    Pin::new(text.as_bytes()).map_err(|_| Kind::Offset)
+    Pin::new(text.as_bytes()).map_err(|_| FaultKind::Offset)
 }
 
 fn offset_verdict(alloc: Global, by: NaturalPins, offset: &str, inputs: Inputs) -> Lines
@@ -209,7 +233,12 @@ fn offset_verdict(alloc: Global, by: NaturalPins, offset: &str, inputs: Inputs) 
         IsVerdictLine (HasOffset by.entry offset.now inputs.entry) line.items) }
 {
     let mut key = [0u8; 24];
-    let size = read_key(inputs.key, &mut key, Kind::KeyLength(None), Kind::KeyText)?;
+    let size = read_key(
+        inputs.key,
+        &mut key,
+        FaultKind::KeyLength(None),
+        FaultKind::KeyText,
+    )?;
     let pin = Pin::new(inputs.text)?;
     let validation = validation_of(by)?;
     let table = table_of(by)?;

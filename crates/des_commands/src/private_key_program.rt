@@ -1,14 +1,14 @@
 //! The run of `decrypt-pem`: the password, the private key, and what is written.
 
 use crate::command::{KeyForm, PrivateKeyRequest};
-use crate::fault::{Fault, FileFault, Kind};
+use crate::fault::{Fault, FaultKind, FileFault};
 use crate::key_block_lines::shown_name;
-use crate::output::{self, Readers, Target, output_name, refuse_terminal};
+use crate::output::{self, Access, Target, output_name, refuse_terminal};
 use crate::private_keys::{decrypted_key, is_der, object_identifier, pem_text};
-use crate::reading::password_in;
 use crate::report::send;
-use crate::source::bytes_of;
+use crate::secrets::password_in;
 use crate::streams_program::tell_in;
+use crate::text_source::bytes_of;
 use des_passwords::{
     KeyAndVector, KeyFileError, Label, PemError, read_encrypted_key_of_many, read_pem,
 };
@@ -27,26 +27,26 @@ struct PrivateKeyJob<'a> {
 
 // ---- faults
 
-fn tell_pem(rt: &HostRuntime, error: PemError, input: &str) -> Result<u8, Kind> {
+fn tell_pem(rt: &HostRuntime, error: PemError, input: &str) -> Result<u8, FaultKind> {
     let (fault, detail) = match error {
         PemError::Base64(line) => (FileFault::Base64, format!(in rt.alloc(); "line {line}")?),
         PemError::Cipher(name) => (FileFault::Cipher, shown_name(rt.alloc(), name)?),
-        PemError::OutOfMemory => return Err(Kind::Memory),
-        PemError::Begin => return Err(Kind::File(FileFault::Begin)),
-        PemError::End => return Err(Kind::File(FileFault::End)),
-        PemError::NotEncrypted => return Err(Kind::File(FileFault::NotEncrypted)),
-        PemError::NoDekInfo => return Err(Kind::File(FileFault::NoDekInfo)),
-        PemError::Vector => return Err(Kind::File(FileFault::DekVector)),
-        PemError::EmptyLine => return Err(Kind::File(FileFault::EmptyLine)),
+        PemError::OutOfMemory => return Err(FaultKind::Memory),
+        PemError::Begin => return Err(FaultKind::File(FileFault::Begin)),
+        PemError::End => return Err(FaultKind::File(FileFault::End)),
+        PemError::NotEncrypted => return Err(FaultKind::File(FileFault::NotEncrypted)),
+        PemError::NoDekInfo => return Err(FaultKind::File(FileFault::NoDekInfo)),
+        PemError::Vector => return Err(FaultKind::File(FileFault::DekVector)),
+        PemError::EmptyLine => return Err(FaultKind::File(FileFault::EmptyLine)),
     };
     tell_in(rt, fault, input, detail.as_str())
 }
 
-fn tell_der(rt: &HostRuntime, error: KeyFileError, input: &str) -> Result<u8, Kind> {
+fn tell_der(rt: &HostRuntime, error: KeyFileError, input: &str) -> Result<u8, FaultKind> {
     let (fault, object) = match error {
-        KeyFileError::Structure => return Err(Kind::File(FileFault::Structure)),
-        KeyFileError::Iterations => return Err(Kind::File(FileFault::Iterations)),
-        KeyFileError::KeyLength => return Err(Kind::File(FileFault::KeySize)),
+        KeyFileError::Structure => return Err(FaultKind::File(FileFault::Structure)),
+        KeyFileError::Iterations => return Err(FaultKind::File(FileFault::Iterations)),
+        KeyFileError::KeyLength => return Err(FaultKind::File(FileFault::KeySize)),
         KeyFileError::Algorithm(object) => (FileFault::Algorithm, object),
         KeyFileError::KeyDerivation(object) => (FileFault::KeyDerivation, object),
         KeyFileError::Prf(object) => (FileFault::Prf, object),
@@ -60,8 +60,12 @@ fn tell_der(rt: &HostRuntime, error: KeyFileError, input: &str) -> Result<u8, Ki
 
 // Writes a key where the request says. A file is replaced when all of it is written, and is then its
 // owner's alone. The file of the password is not written.
-fn write_bytes(rt: &HostRuntime, request: &PrivateKeyRequest, bytes: &[u8]) -> Result<(), Kind> {
-    match output::open(rt, request.output, Readers::Owner, request.password)? {
+fn write_bytes(
+    rt: &HostRuntime,
+    request: &PrivateKeyRequest,
+    bytes: &[u8],
+) -> Result<(), FaultKind> {
+    match output::open(rt, request.output, Access::Owner, request.password)? {
         Target::StandardOutput => send(&mut rt.stdout(), bytes),
         Target::AsItIs(mut file) => send(&mut file, bytes),
         Target::Replaced(mut file) => {
@@ -78,7 +82,7 @@ fn write_key(
     label: Label,
     both: &KeyAndVector<24>,
     encrypted: &[u8],
-) -> Result<u8, Kind> {
+) -> Result<u8, FaultKind> {
     let mut text = decrypted_key(rt.alloc(), both, encrypted)?;
     if job.is_pem {
         text = pem_text(rt.alloc(), label, text.as_slice())?;
@@ -88,17 +92,17 @@ fn write_key(
 }
 
 // Decrypts a key whose DER says how.
-fn run_der(rt: &HostRuntime, job: &PrivateKeyJob, bytes: &[u8]) -> Result<u8, Kind> {
+fn run_der(rt: &HostRuntime, job: &PrivateKeyJob, bytes: &[u8]) -> Result<u8, FaultKind> {
     match read_encrypted_key_of_many(bytes, job.request.most_iterations) {
         Ok(read) => match read.parameters.key_and_vector(job.password) {
             Ok(both) => write_key(rt, job, Label::Encrypted, &both, read.encrypted),
-            Err(_) => Err(Kind::File(FileFault::Iterations)),
+            Err(_) => Err(FaultKind::File(FileFault::Iterations)),
         },
         Err(error) => tell_der(rt, error, job.request.input.name()),
     }
 }
 
-fn run_pem(rt: &HostRuntime, job: &PrivateKeyJob, text: &[u8]) -> Result<u8, Kind> {
+fn run_pem(rt: &HostRuntime, job: &PrivateKeyJob, text: &[u8]) -> Result<u8, FaultKind> {
     match read_pem(rt.alloc(), text) {
         Ok(key) => match key.dek_info {
             Some(info) => {
@@ -116,7 +120,7 @@ fn run_text(
     request: &PrivateKeyRequest,
     password: &[u8],
     text: &[u8],
-) -> Result<u8, Kind> {
+) -> Result<u8, FaultKind> {
     let is_der = is_der(text);
     let job = PrivateKeyJob {
         request,
@@ -145,7 +149,7 @@ pub fn private_key_status<'a>(
     bytes_of(rt, request.input, LONGEST_FILE)
         .and_then(|text| run_text(rt, request, password.as_slice(), text.as_slice()))
         .map_err(|kind| match kind {
-            Kind::Write(_) => Fault::about(kind, output_name(request.output)),
+            FaultKind::Write(_) => Fault::about(kind, output_name(request.output)),
             _ => Fault::about(kind, request.input.name()),
         })
 }

@@ -5,7 +5,7 @@ ghost use Rattle.des_commands.specs.PrivateKeys.{extent_of as extent_by, is_sequ
 ghost use Rattle.des_passwords.specs.TextLines.{are_blanks as are_blanks_of};
 ghost use Rattle.des_commands.specs.DecryptedKeys.{IsPlain, IsDecryptedKey, FailsAsPrivateKey, private_key_fault};
 
-use crate::fault::{FileFault, Kind};
+use crate::fault::{FaultKind, FileFault};
 use crate::streams::cipher_of;
 use base64::engine::general_purpose::STANDARD;
 use des_fast::TdesEde3;
@@ -80,18 +80,18 @@ pub fn is_der(bytes: &[u8]) -> bool
 
 // The fault of a private key, of one of its bytes: a list of bytes fails to grow only if memory is
 // refused.
-fn fault_of(error: StreamError) -> Kind
+fn fault_of(error: StreamError) -> FaultKind
     ensures { result ≡ private_key_fault error }
 {
     match error {
-        StreamError::Length(_) | StreamError::Start => Kind::Length,
-        StreamError::Padding => Kind::File(FileFault::KeyPadding),
-        StreamError::Read(_) | StreamError::Write(_) => Kind::Memory,
+        StreamError::Length(_) | StreamError::Start => FaultKind::Length,
+        StreamError::Padding => FaultKind::File(FileFault::KeyPadding),
+        StreamError::Read(_) | StreamError::Write(_) => FaultKind::Memory,
     }
 }
 
 // Decrypts what is padded as PKCS#7 says.
-fn plain_of(alloc: Global, both: &KeyAndVector<24>, encrypted: &[u8]) -> Result<Vec<u8>, Kind>
+fn plain_of(alloc: Global, both: &KeyAndVector<24>, encrypted: &[u8]) -> Result<Vec<u8>, FaultKind>
     ensures plain { IfOk result (λ plain.
         IsPlain both.now.key both.now.vector encrypted.now plain.items) }
     ensures fault { IfErr result (FailsAsPrivateKey both.now.key both.now.vector encrypted.now) }
@@ -116,7 +116,7 @@ pub fn decrypted_key(
     alloc: Global,
     both: &KeyAndVector<24>,
     encrypted: &[u8],
-) -> Result<Vec<u8>, Kind>
+) -> Result<Vec<u8>, FaultKind>
     ensures key { IfOk result (λ key.
         IsDecryptedKey both.now.key both.now.vector encrypted.now key.items) }
     ensures fault { IfErr result (FailsAsPrivateKey both.now.key both.now.vector encrypted.now) }
@@ -125,7 +125,7 @@ pub fn decrypted_key(
     if is_sequence(plain.as_slice()) {
         Ok(plain)
     } else {
-        Err(Kind::File(FileFault::Password))
+        Err(FaultKind::File(FileFault::Password))
     }
 }
 

@@ -4,7 +4,7 @@ use crate::arguments::{command_of, parse};
 use crate::calculations_program::{calculation_status, parts_status};
 use crate::command::Command;
 use crate::descriptors::{NULL_DEVICE, hold_closed};
-use crate::fault::{Fault, Kind, Misuse};
+use crate::fault::{Fault, FaultKind, Misuse};
 use crate::mac_program::mac_status;
 use crate::output::write_fault;
 use crate::private_key_program::private_key_status;
@@ -55,9 +55,9 @@ fn run_held(rt: &HostRuntime) -> u8 {
     match run_arguments(rt) {
         Ok(status) => status,
         Err(error) if error.kind() == io::ErrorKind::OutOfMemory => {
-            tell_on(rt, Fault::about(Kind::Memory, ""))
+            tell_on(rt, Fault::about(FaultKind::Memory, ""))
         }
-        Err(_) => tell_on(rt, Fault::about(Kind::Usage(Misuse::NoText), "")),
+        Err(_) => tell_on(rt, Fault::about(FaultKind::Usage(Misuse::NoText), "")),
     }
 }
 

@@ -6,7 +6,7 @@ ghost use Rattle.std.specs.Io.KnownBytes.{Appends};
 ghost use Rattle.des_commands.specs.Faults.{is_unseen as is_unseen_of, line_with, separator_of, shown_character, shown_text};
 ghost use Rattle.des_commands.specs.Written.{AppendsPrefix, AppendsLine, AppendsLinePrefix, IsTold, IsShown};
 
-use crate::fault::{Fault, Kind, Reason};
+use crate::fault::{Fault, FaultKind, Reason};
 use crate::sentences::Sentences;
 use des_io::StreamError;
 use des_io::pieces::write_whole;
@@ -50,13 +50,14 @@ impl Write for Line {
 
 /// Writes the bytes and flushes. If that fails, a prefix of them is written, and the fault is
 /// `Write`.
-pub fn send<W: Write>(out: &mut W, bytes: &[u8]) -> Result<(), Kind>
+pub fn send<W: Write>(out: &mut W, bytes: &[u8]) -> Result<(), FaultKind>
     ensures part { AppendsPrefix (W.contents out.old) (W.contents out.new) bytes.now }
     ensures whole { OnOk result (Appends (W.contents out.old) (W.contents out.new) bytes.now) }
-    ensures fault { IfErr result (λ kind. (reason : Reason) × (kind ≡ Kind.Write reason)) }
+    ensures fault { IfErr result (λ kind. (reason : Reason) × (kind ≡ FaultKind.Write reason)) }
 {
     write_whole(out, bytes)?;
-    out.flush().map_err(|error| Kind::Write(Reason::of(&error)))
+    out.flush()
+        .map_err(|error| FaultKind::Write(Reason::of(&error)))
 }
 
 // The separator between a fault's subject and its sentence.

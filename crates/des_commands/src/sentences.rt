@@ -2,9 +2,9 @@
 //! program compare each that a command line reaches.
 
 ghost use Rattle.std.specs.Prelude.{ℕ, List, ⊤};
-ghost use Rattle.des_commands.specs.declared.fault.Kind.{Kind};
+ghost use Rattle.des_commands.specs.declared.fault.FaultKind.{FaultKind};
 
-use crate::fault::{Field, FileFault, Kind, Misuse, Reason};
+use crate::fault::{FaultKind, Field, FileFault, Misuse, Reason};
 use des_payment::emv_error::EmvError;
 use des_payment::key_block_error::KeyBlockError;
 use des_payment::{CvvError, PinError, TranslationError, VerificationError};
@@ -22,9 +22,9 @@ pub struct Words {
 /// the fault is about: nothing else that the caller knows, as a key or a PIN.
 pub trait Sentences {
     /// Which name and which sentence a fault may have.
-    ghost says: { Kind → List ℕ → List ℕ → Type 0 };
+    ghost says: { FaultKind → List ℕ → List ℕ → Type 0 };
 
-    fn words(kind: Kind) -> Words
+    fn words(kind: FaultKind) -> Words
         ensures { says kind result.name.now result.sentence.now };
 }
 
@@ -34,7 +34,7 @@ pub struct English;
 impl Sentences for English {
     ghost says = { λ _ _ _. ⊤ };
 
-    fn words(kind: Kind) -> Words {
+    fn words(kind: FaultKind) -> Words {
         Words {
             name: kind.name(),
             sentence: sentence_of(kind),
@@ -42,53 +42,55 @@ impl Sentences for English {
     }
 }
 
-fn sentence_of(kind: Kind) -> &'static str {
+fn sentence_of(kind: FaultKind) -> &'static str {
     match kind {
-        Kind::Usage(misuse) => misuse_words(misuse),
-        Kind::Source(reason) | Kind::Read(reason) | Kind::Write(reason) => reason_words(reason),
-        Kind::Variable => "the environment has no such variable of text",
-        Kind::InputLength => "the input is too long",
-        Kind::KeyLength(size) => key_words(size),
-        Kind::ToKeyLength => key_words(None),
-        Kind::KeyText | Kind::ToKeyText => {
+        FaultKind::Usage(misuse) => misuse_words(misuse),
+        FaultKind::Source(reason) | FaultKind::Read(reason) | FaultKind::Write(reason) =>
+            reason_words(reason),
+        FaultKind::Variable => "the environment has no such variable of text",
+        FaultKind::InputLength => "the input is too long",
+        FaultKind::KeyLength(size) => key_words(size),
+        FaultKind::ToKeyLength => key_words(None),
+        FaultKind::KeyText | FaultKind::ToKeyText => {
             "the key has a character that is no hexadecimal digit"
         }
-        Kind::WeakKey => "the key is weak",
-        Kind::Components => "a key has two components at least",
-        Kind::Vector =>
+        FaultKind::WeakKey => "the key is weak",
+        FaultKind::Components => "a key has two components at least",
+        FaultKind::Vector =>
             "random (to encrypt), first-block (to decrypt) or 16 hexadecimal digits are needed",
-        Kind::Validation | Kind::Cryptogram => "16 hexadecimal digits are needed",
-        Kind::Tag => "8, 10, 12, 14 or 16 hexadecimal digits are needed",
-        Kind::Value => "4 digits are needed",
-        Kind::Offset => "4 to 12 digits are needed",
-        Kind::Counter | Kind::ResponseCode => "4 hexadecimal digits are needed",
-        Kind::CardStatus => "8 hexadecimal digits are needed",
-        Kind::IssuerData => "at most 16 hexadecimal digits are needed, two for each byte",
-        Kind::CryptogramData => "hexadecimal digits are needed, two for each byte",
-        Kind::BlockLength => "a block of 16 hexadecimal digits is needed",
-        Kind::BlockText => "the block has a character that is no hexadecimal digit",
-        Kind::SerialLength =>
+        FaultKind::Validation | FaultKind::Cryptogram => "16 hexadecimal digits are needed",
+        FaultKind::Tag => "8, 10, 12, 14 or 16 hexadecimal digits are needed",
+        FaultKind::Value => "4 digits are needed",
+        FaultKind::Offset => "4 to 12 digits are needed",
+        FaultKind::Counter | FaultKind::ResponseCode => "4 hexadecimal digits are needed",
+        FaultKind::CardStatus => "8 hexadecimal digits are needed",
+        FaultKind::IssuerData => "at most 16 hexadecimal digits are needed, two for each byte",
+        FaultKind::CryptogramData => "hexadecimal digits are needed, two for each byte",
+        FaultKind::BlockLength => "a block of 16 hexadecimal digits is needed",
+        FaultKind::BlockText => "the block has a character that is no hexadecimal digit",
+        FaultKind::SerialLength =>
             "a key serial number has 20 hexadecimal digits: put FFFF before one of 16",
-        Kind::SerialText => "the key serial number has a character that is no hexadecimal digit",
-        Kind::SerialCounter =>
+        FaultKind::SerialText =>
+            "the key serial number has a character that is no hexadecimal digit",
+        FaultKind::SerialCounter =>
             "the key serial number's counter is 0, or has more than ten one bits",
-        Kind::FillLength => "ten digits are needed",
-        Kind::FillText => "a character is no hexadecimal digit",
-        Kind::CheckDigit => "the account number's last digit is not its check digit",
-        Kind::Pin(error) => pin_words(error),
-        Kind::Cvv(error) => cvv_words(error),
-        Kind::Translation(error) => translation_words(error),
-        Kind::Verification(error) => verification_words(error),
-        Kind::Emv(error) => emv_words(error),
-        Kind::Field(Field::Usage | Field::KeyVersion) => "two letters or digits are needed",
-        Kind::Field(_) => "a letter or digit is needed",
-        Kind::KeyBlock(error) => key_block_words(error),
-        Kind::File(fault) => file_words(fault),
-        Kind::EmptyPassword => "the password is empty",
-        Kind::Memory => "a request for memory was refused",
-        Kind::Length => "the input ends within a block of 8 bytes",
-        Kind::Start => "the input ends within the vector or before the part begins",
-        Kind::Padding => "wrong key, vector or padding",
+        FaultKind::FillLength => "ten digits are needed",
+        FaultKind::FillText => "a character is no hexadecimal digit",
+        FaultKind::CheckDigit => "the account number's last digit is not its check digit",
+        FaultKind::Pin(error) => pin_words(error),
+        FaultKind::Cvv(error) => cvv_words(error),
+        FaultKind::Translation(error) => translation_words(error),
+        FaultKind::Verification(error) => verification_words(error),
+        FaultKind::Emv(error) => emv_words(error),
+        FaultKind::Field(Field::Usage | Field::KeyVersion) => "two letters or digits are needed",
+        FaultKind::Field(_) => "a letter or digit is needed",
+        FaultKind::KeyBlock(error) => key_block_words(error),
+        FaultKind::File(fault) => file_words(fault),
+        FaultKind::EmptyPassword => "the password is empty",
+        FaultKind::Memory => "a request for memory was refused",
+        FaultKind::Length => "the input ends within a block of 8 bytes",
+        FaultKind::Start => "the input ends within the vector or before the part begins",
+        FaultKind::Padding => "wrong key, vector or padding",
     }
 }
 

@@ -5,8 +5,8 @@ ghost use Rattle.des_commands.specs.Keys.{IsKeySize};
 ghost use Rattle.des_commands.specs.StreamRequests.{blocks_before as blocks_before_of, source_of, mode_of as mode_by, heading_of as heading_by, IsJobOf};
 ghost use Rattle.des_commands.specs.Jobs.{key_size_of};
 
-use crate::source::Source;
 use crate::streams::{Job, Work};
+use crate::text_source::Source;
 use des_io::{Mode, Padding};
 use des_passwords::Derivation;
 
@@ -57,7 +57,7 @@ pub enum Vector {
 
 /// A part of the ciphertext.
 #[derive(Clone, Copy)]
-pub struct Part {
+pub struct BlockRange {
     /// The block that it begins with, the first being 0.
     pub from: u64,
     /// The number of its blocks; up to the end if there is none.
@@ -132,7 +132,7 @@ pub struct StreamRequest<'a> {
     pub cipher: Cipher,
     pub mode: StreamMode,
     pub padding: Padding,
-    pub part: Option<Part>,
+    pub part: Option<BlockRange>,
     pub weak_keys: WeakKeys,
     pub secret: Secret<'a>,
     pub coding: Coding,

@@ -6,8 +6,8 @@ ghost use Rattle.des_io.specs.Streams.{passage_of};
 ghost use Rattle.des_commands.specs.Jobs.{GoesOnFromBlock, IsNamed, Does, IsDone};
 ghost use Rattle.des_commands.specs.JobFaults.{Stops, HasStopped};
 
-use crate::fault::Kind;
-use crate::stream_request::{Cipher, Part};
+use crate::fault::FaultKind;
+use crate::stream_request::{BlockRange, Cipher};
 use des::cipher::{KeyBytes, KeyedCipher, are_bytes};
 use des_fast::many::ManyBlocks;
 use des_fast::{Des, TdesEde2, TdesEde3};
@@ -38,9 +38,14 @@ pub struct Job<'a> {
 #[derive(Clone, Copy)]
 pub enum Work<'a> {
     /// Encrypts. These bytes are written first: a random vector, or `Salted__` and a salt.
-    Encrypt { heading: &'a [u8] },
+    Encrypt {
+        heading: &'a [u8],
+    },
     /// Decrypts, after so many blocks that are read and passed over, the whole or a part.
-    Decrypt { skipped: u64, part: Option<Part> },
+    Decrypt {
+        skipped: u64,
+        part: Option<BlockRange>,
+    },
 }
 
 // Does a job by a cipher.
@@ -51,7 +56,7 @@ fn run_in<C: ManyBlocks, R: Read, W: Write>(
     writer: &mut W,
     buffer: &mut [[u8; 8]],
 ) -> Result<(), StreamError>
-    requires room { 0 < length buffer.old }
+    requires capacity { 0 < length buffer.old }
     ensures done { IfOk result (λ _. Does (C.encrypted cipher.now) (C.decrypted cipher.now) job.now
         (passage_of (R.remaining reader.old) (R.remaining reader.new)
         (W.contents writer.old) (W.contents writer.new))) }
@@ -104,8 +109,8 @@ fn run_cipher<C: KeyedCipher + ManyBlocks + Drop, R: Read, W: Write>(
     reader: &mut R,
     writer: &mut W,
     count: usize,
-) -> Result<(), Kind>
-    requires room { 0 < count }
+) -> Result<(), FaultKind>
+    requires capacity { 0 < count }
     requires named { IsNamed job.now.cipher C.KEY_SIZE C.encryption C.decryption }
     ensures done { IfOk result (λ _. IsDone job.now (passage_of (R.remaining reader.old)
         (R.remaining reader.new) (W.contents writer.old) (W.contents writer.new))) }
@@ -113,7 +118,7 @@ fn run_cipher<C: KeyedCipher + ManyBlocks + Drop, R: Read, W: Write>(
         (R.remaining reader.new) (W.contents writer.old) (W.contents writer.new))) }
 {
     let Some(key) = C::Key::from_bytes(job.key) else {
-        return Err(Kind::KeyLength(Some(job.cipher.key_size())));
+        return Err(FaultKind::KeyLength(Some(job.cipher.key_size())));
     };
     goes_on_from_block(job.mode);
     let cipher = cipher_of::<C>(&key);
@@ -133,7 +138,7 @@ pub fn run<R: Read, W: Write>(
     job: &Job,
     reader: &mut R,
     writer: &mut W,
-) -> Result<(), Kind>
+) -> Result<(), FaultKind>
     ensures done { IfOk result (λ _. IsDone job.now (passage_of (R.remaining reader.old)
         (R.remaining reader.new) (W.contents writer.old) (W.contents writer.new))) }
     ensures fault { IfErr result (λ kind. HasStopped kind job.now (passage_of (R.remaining reader.old)

@@ -1,20 +1,20 @@
 //! The run of `encrypt` and `decrypt`: the key or the password, random bytes, the input, and the
 //! output.
 
-use crate::fault::{Fault, FileFault, Kind};
-use crate::inputs::{self, RANDOM_SOURCE, system_random};
+use crate::fault::{Fault, FaultKind, FileFault};
+use crate::input_files::{self, RANDOM_SOURCE, system_random};
 use crate::notices::{self, Notice, accept_key};
-use crate::output::{self, Readers, Target, output_name, refuse_terminal};
+use crate::output::{self, Access, Target, output_name, refuse_terminal};
 use crate::password_streams::{PasswordJob, check_password, run_by_password};
-use crate::reading::{key_in, password_in, password_name};
+use crate::progress_reader::ProgressReader;
 use crate::report::{send, tell};
+use crate::secrets::{key_in, password_in, password_name};
 use crate::sentences::English;
-use crate::source::Source;
 use crate::stream_request::{
     Coding, Secret, StreamMode, StreamRequest, Vector, blocks_before, heading_of, job_of,
 };
 use crate::streams;
-use crate::watched::Watched;
+use crate::text_source::Source;
 use base64::engine::general_purpose::STANDARD;
 use des_io::pieces::{fill, write_whole};
 use des_passwords::salted::PREFIX;
@@ -40,7 +40,7 @@ impl<'a> Task<'a> {
         rt: &HostRuntime,
         reader: &mut R,
         writer: &mut W,
-    ) -> Result<(), Kind> {
+    ) -> Result<(), FaultKind> {
         match self.request.coding {
             Coding::Hexadecimal => {
                 self.run_to_bytes(rt, reader, &mut HexWriter::new(&mut *writer))?;
@@ -55,7 +55,7 @@ impl<'a> Task<'a> {
         rt: &HostRuntime,
         reader: &mut R,
         writer: &mut W,
-    ) -> Result<(), Kind> {
+    ) -> Result<(), FaultKind> {
         let request = self.request;
         match request.secret {
             Secret::Key(_) => {
@@ -81,12 +81,12 @@ impl<'a> Task<'a> {
 // ---- the output
 
 // Writes where the request says.
-fn run_to_output<R: Read>(rt: &HostRuntime, task: Task, reader: &mut R) -> Result<(), Kind> {
+fn run_to_output<R: Read>(rt: &HostRuntime, task: Task, reader: &mut R) -> Result<(), FaultKind> {
     let request = task.request;
     match output::open(
         rt,
         request.output,
-        Readers::OfFolder,
+        Access::OfFolder,
         request.secret.source(),
     )? {
         Target::StandardOutput => {
@@ -115,10 +115,10 @@ fn run_reader<R: Read + Drop>(
     task: Task,
     reader: R,
     total: Option<u64>,
-) -> Result<(), Kind> {
+) -> Result<(), FaultKind> {
     let request = task.request;
     let mut text = HexTextReader::new(reader);
-    let mut reader = Watched::new(rt, &mut text, request, total);
+    let mut reader = ProgressReader::new(rt, &mut text, request, total);
     let outcome = run_to_output(rt, task, &mut reader);
     reader.end();
     let is_text = request.encrypts && matches!(request.coding, Coding::Bytes);
@@ -138,7 +138,7 @@ fn run_from_start<R: Read + Drop>(
     task: Task,
     reader: R,
     total: Option<u64>,
-) -> Result<(), Kind> {
+) -> Result<(), FaultKind> {
     if task.request.encrypts {
         return run_reader(rt, task, reader, total);
     }
@@ -147,17 +147,17 @@ fn run_from_start<R: Read + Drop>(
     let count = fill(&mut reader, &mut first)?;
     let takes_salt = matches!(task.request.secret, Secret::Password(_, by) if by.is_salted);
     if first == PREFIX && !takes_salt {
-        return Err(Kind::File(FileFault::Salted));
+        return Err(FaultKind::File(FileFault::Salted));
     }
     if first == PREFIX_IN_BASE64 {
-        return Err(Kind::File(FileFault::SaltedText));
+        return Err(FaultKind::File(FileFault::SaltedText));
     }
     run_reader(rt, task, (&first[..count]).chain(reader), total)
 }
 
 // Reads a file. By a key it is sought to a part, and then its beginning is not looked at.
-fn run_file(rt: &HostRuntime, task: Task, path: &str) -> Result<(), Kind> {
-    let mut input = inputs::open(rt, path)?;
+fn run_file(rt: &HostRuntime, task: Task, path: &str) -> Result<(), FaultKind> {
+    let mut input = input_files::open(rt, path)?;
     let skipped = match task.request.secret {
         Secret::Key(_) => input.seek_to_last(task.skipped),
         Secret::Password(_, _) => task.skipped,
@@ -174,28 +174,33 @@ fn run_file(rt: &HostRuntime, task: Task, path: &str) -> Result<(), Kind> {
 // ---- Base64 and hexadecimal digits
 
 /// Tells a fault of a file, and of what stands in it, and returns its status.
-pub fn tell_in(rt: &HostRuntime, fault: FileFault, input: &str, detail: &str) -> Result<u8, Kind> {
+pub fn tell_in(
+    rt: &HostRuntime,
+    fault: FileFault,
+    input: &str,
+    detail: &str,
+) -> Result<u8, FaultKind> {
     let about = format!(in rt.alloc(); "{input}: {detail}")?;
-    let fault = Fault::about(Kind::File(fault), about.as_str());
+    let fault = Fault::about(FaultKind::File(fault), about.as_str());
     Ok(tell::<English, _>(fault, &mut rt.stderr()))
 }
 
 // Tells a fault of a line of a file, and returns its status.
-fn tell_line(rt: &HostRuntime, fault: FileFault, input: &str, line: u64) -> Result<u8, Kind> {
+fn tell_line(rt: &HostRuntime, fault: FileFault, input: &str, line: u64) -> Result<u8, FaultKind> {
     let line = format!(in rt.alloc(); "line {line}")?;
     tell_in(rt, fault, input, line.as_str())
 }
 
 /// Tells why an input is no text of hexadecimal digits, and returns the status.
-pub fn tell_hex(rt: &HostRuntime, fault: HexFault, input: &str) -> Result<u8, Kind> {
+pub fn tell_hex(rt: &HostRuntime, fault: HexFault, input: &str) -> Result<u8, FaultKind> {
     match fault {
         HexFault::Line(line) => tell_line(rt, FileFault::HexText, input, line),
-        HexFault::Odd => Err(Kind::File(FileFault::HexLength)),
+        HexFault::Odd => Err(FaultKind::File(FileFault::HexLength)),
     }
 }
 
 // Does the work with the bytes that a reader gives as Base64. A text that is none is told by its line.
-fn run_encoded<R: Read + Drop>(rt: &HostRuntime, task: Task, reader: R) -> Result<u8, Kind> {
+fn run_encoded<R: Read + Drop>(rt: &HostRuntime, task: Task, reader: R) -> Result<u8, FaultKind> {
     let mut reader = Base64Reader::new(reader, &STANDARD);
     let outcome = run_from_start(rt, task, &mut reader, None);
     match reader.line_of_fault() {
@@ -205,15 +210,15 @@ fn run_encoded<R: Read + Drop>(rt: &HostRuntime, task: Task, reader: R) -> Resul
 }
 
 // Reads Base64, and does the work with its bytes.
-fn run_base64(rt: &HostRuntime, task: Task) -> Result<u8, Kind> {
+fn run_base64(rt: &HostRuntime, task: Task) -> Result<u8, FaultKind> {
     match task.request.input {
-        Source::File(path) => run_encoded(rt, task, inputs::open(rt, path)?.file),
+        Source::File(path) => run_encoded(rt, task, input_files::open(rt, path)?.file),
         _ => run_encoded(rt, task, rt.stdin()),
     }
 }
 
 // Does the work with the bytes whose digits a reader gives. A text that has others is told.
-fn run_digits<R: Read + Drop>(rt: &HostRuntime, task: Task, reader: R) -> Result<u8, Kind> {
+fn run_digits<R: Read + Drop>(rt: &HostRuntime, task: Task, reader: R) -> Result<u8, FaultKind> {
     let mut reader = HexReader::new(reader);
     let outcome = run_from_start(rt, task, &mut reader, None);
     match reader.fault() {
@@ -223,9 +228,9 @@ fn run_digits<R: Read + Drop>(rt: &HostRuntime, task: Task, reader: R) -> Result
 }
 
 // Reads hexadecimal digits, and does the work with their bytes.
-fn run_hexadecimal(rt: &HostRuntime, task: Task) -> Result<u8, Kind> {
+fn run_hexadecimal(rt: &HostRuntime, task: Task) -> Result<u8, FaultKind> {
     match task.request.input {
-        Source::File(path) => run_digits(rt, task, inputs::open(rt, path)?.file),
+        Source::File(path) => run_digits(rt, task, input_files::open(rt, path)?.file),
         _ => run_digits(rt, task, rt.stdin()),
     }
 }
@@ -254,7 +259,7 @@ fn secret_in<'a>(rt: &HostRuntime, request: &StreamRequest<'a>) -> Result<Vec<u8
 }
 
 // Eight random bytes, if a vector or a salt is to be random.
-fn random_for(rt: &HostRuntime, request: &StreamRequest) -> Result<[u8; 8], Kind> {
+fn random_for(rt: &HostRuntime, request: &StreamRequest) -> Result<[u8; 8], FaultKind> {
     match (request.secret, request.mode) {
         (Secret::Password(_, _), _) if request.encrypts => system_random(rt),
         (_, StreamMode::Cbc(Vector::Random)) => system_random(rt),
@@ -264,20 +269,23 @@ fn random_for(rt: &HostRuntime, request: &StreamRequest) -> Result<[u8; 8], Kind
 
 // A fault of a stream, with what it is about. A padding that is another is mostly told of a wrong
 // password.
-fn fault_of<'a>(kind: Kind, request: &StreamRequest<'a>) -> Fault<'a> {
+fn fault_of<'a>(kind: FaultKind, request: &StreamRequest<'a>) -> Fault<'a> {
     match (kind, request.secret) {
-        (Kind::WeakKey, Secret::Password(source, _)) => Fault::about(kind, password_name(source)),
-        (Kind::Padding, Secret::Password(_, _)) => {
-            Fault::about(Kind::File(FileFault::Unpadded), request.input.name())
+        (FaultKind::WeakKey, Secret::Password(source, _)) => Fault::about(
+            kind,
+            password_name(source),
+        ),
+        (FaultKind::Padding, Secret::Password(_, _)) => {
+            Fault::about(FaultKind::File(FileFault::Unpadded), request.input.name())
         }
-        (Kind::Source(_), _) => Fault::about(kind, RANDOM_SOURCE),
-        (Kind::Write(_), _) => Fault::about(kind, output_name(request.output)),
+        (FaultKind::Source(_), _) => Fault::about(kind, RANDOM_SOURCE),
+        (FaultKind::Write(_), _) => Fault::about(kind, output_name(request.output)),
         _ => Fault::about(kind, request.input.name()),
     }
 }
 
 // Encrypts or decrypts by a secret that is taken. Returns 0, or the status of a fault that was told.
-fn run_taken(rt: &HostRuntime, request: &StreamRequest, secret: &[u8]) -> Result<u8, Kind> {
+fn run_taken(rt: &HostRuntime, request: &StreamRequest, secret: &[u8]) -> Result<u8, FaultKind> {
     let task = Task {
         request,
         secret,

@@ -2,7 +2,7 @@
 //! that were typed is shown if it may be a key.
 
 use crate::arguments::{known_name, names_of, parse};
-use crate::fault::{Fault, Kind, Misuse};
+use crate::fault::{Fault, FaultKind, Misuse};
 use crate::report::{send, show, tell};
 use crate::sentences::English;
 use clap::error::ErrorKind;
@@ -206,7 +206,7 @@ fn tell_hidden(
         None => Misuse::Arguments,
     };
     let fault = Fault {
-        kind: Kind::Usage(misuse),
+        kind: FaultKind::Usage(misuse),
         about: about.unwrap_or(""),
     };
     // The words that the argument takes, if it takes some words alone.

@@ -1,4 +1,4 @@
-mod FormOfWords
+mod CipherTypeOfWords
 mod JoinedParts
 mod KeysOfBytes
 mod MacCases

@@ -3,28 +3,28 @@ use Rattle.std.proofs.Common.{◌≡◌, ◌≢◌, ℕ, inl, inr, refl, List, �
 use Rattle.std.proofs.lemmas.Bool.{ne_eqb}
 use Rattle.des.specs.Blocks.{IsKey}
 use Rattle.des_mac.specs.IsProgress.{IsProgressOf}
-use Rattle.des_context.specs.declared.macs.Message.{Message}
-use Rattle.des_context.specs.declared.ciphers.Form.TheVariants.{Des}
-use Rattle.des_context.specs.Contexts.{AreWordsOf, HasForm, IsContextOf}
-use Rattle.des_context.specs.Forms.{encryption_of, form_of_length}
+use Rattle.des_context.specs.declared.macs.MessageState.{MessageState}
+use Rattle.des_context.specs.declared.ciphers.CipherType.TheVariants.{Des}
+use Rattle.des_context.specs.Contexts.{AreWordsOf, HasCipherType, IsContextOf}
+use Rattle.des_context.specs.CipherTypes.{encryption_of, cipher_type_of_length}
 use Rattle.des_context.specs.MacContexts.{AreMacWordsOf, IsMacOf}
 
 -- but for algorithm 3 the words are the context of the key
-pub chain-alone : (algorithm : ℕ) (words : List ℕ) (message : Message) (padding : ℕ) (key m : List ℕ) → algorithm ≢ 3
+pub chain-alone : (algorithm : ℕ) (words : List ℕ) (message : MessageState) (padding : ℕ) (key m : List ℕ) → algorithm ≢ 3
     → IsMacOf algorithm words message padding key m
     → IsContextOf words key × IsProgressOf (encryption_of key) message.progress m
 chain-alone algorithm words message padding key m one is =
     let other = ne_eqb algorithm 3 one in (rw other at is.made.chain, rw other at is.progress)
 
 -- a key of 8 bytes has the words of a context of DES
-pub single-words : (words key : List ℕ) → length key ≡ 8 → IsContextOf words key → IsKey 8 key × HasForm Des words
+pub single-words : (words key : List ℕ) → length key ≡ 8 → IsContextOf words key → IsKey 8 key × HasCipherType Des words
 single-words words key count made =
-    let of : AreWordsOf Des words key = subst (λ n. AreWordsOf (form_of_length n) words key) count made in (of.0, of.1)
+    let of : AreWordsOf Des words key = subst (λ n. AreWordsOf (cipher_type_of_length n) words key) count made in (of.0, of.1)
 
 -- of algorithm 3 the words are the contexts of two keys of DES, one after the other
 pub two-contexts : (algorithm : ℕ) (words key : List ℕ) → algorithm ≡ 3 → AreMacWordsOf algorithm words key
-    → (IsContextOf (take 17 words) (take 8 key) × IsKey 8 (take 8 key) × HasForm Des (take 17 words))
-    × (IsContextOf (drop 17 words) (drop 8 key) × IsKey 8 (drop 8 key) × HasForm Des (drop 17 words))
+    → (IsContextOf (take 17 words) (take 8 key) × IsKey 8 (take 8 key) × HasCipherType Des (take 17 words))
+    × (IsContextOf (drop 17 words) (drop 8 key) × IsKey 8 (drop 8 key) × HasCipherType Des (drop 17 words))
 two-contexts algorithm words key three made =
     let second = made.second three in
     let chain = rw three at made.chain in

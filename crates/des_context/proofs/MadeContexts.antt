@@ -3,22 +3,22 @@ use Rattle.std.proofs.Common.{◌≡◌, ℕ, ◌+◌, ◌*◌, ◌≤◌, List,
 use Rattle.std.proofs.lemmas.List.{length-set, take-set-le}
 use Rattle.des.specs.Blocks.{IsKey, part}
 use Rattle.des_fast.specs.Words.{AreRoundKeysOf}
-use Rattle.des_context.specs.declared.ciphers.Form.{Form}
-use Rattle.des_context.specs.Forms.{parts_of}
-use Rattle.des_context.specs.FormLaws.{form-of_key}
+use Rattle.des_context.specs.declared.ciphers.CipherType.{CipherType}
+use Rattle.des_context.specs.CipherTypes.{parts_of}
+use Rattle.des_context.specs.CipherTypeLaws.{cipher_type-of_key}
 use Rattle.des_context.specs.Contexts.{words_of_part, AreWordsOf, IsContextOf}
 use Rattle.des_context.proofs.PartWords.{words-kept}
 
-pub IsContextOf-written : (form : Form) (words key : List ℕ) (word : ℕ) → IsKey (8 * parts_of form) key
-    → length words ≡ 16 * parts_of form + 1
+pub IsContextOf-written : (cipher_type : CipherType) (words key : List ℕ) (word : ℕ) → IsKey (8 * parts_of cipher_type) key
+    → length words ≡ 16 * parts_of cipher_type + 1
     → ((n : ℕ) → 1 ≤ n → 8 * n ≤ length key → AreRoundKeysOf (words_of_part n words) (part n key))
     → IsContextOf (slice_set words (2 * length key) word) key
-IsContextOf-written form words key word is_key count made =
+IsContextOf-written cipher_type words key word is_key count made =
     let written : List ℕ = slice_set words (2 * length key) word in
-    let holds : (n : ℕ) → 1 ≤ n → n ≤ parts_of form → AreRoundKeysOf (words_of_part n written) (part n key) =
+    let holds : (n : ℕ) → 1 ≤ n → n ≤ parts_of cipher_type → AreRoundKeysOf (words_of_part n written) (part n key) =
     λ n from to.
     let before : 16 * n ≤ 2 * length key = omega (arith, to, is_key.0) in
     rw (words-kept n written words (take-set-le (16 * n) words (2 * length key) word before))
     (made n from (omega (arith, to, is_key.0))) in
-    subst (λ form. AreWordsOf form written key) (sym (form-of_key form key is_key.0))
+    subst (λ cipher_type. AreWordsOf cipher_type written key) (sym (cipher_type-of_key cipher_type key is_key.0))
     (is_key, length-set words (2 * length key) word ∙ count, holds)

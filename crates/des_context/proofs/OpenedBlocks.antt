@@ -20,26 +20,26 @@ use Rattle.des_io.specs.declared.padding.Padding.TheVariants.{Pkcs7, Unpadded}
 use Rattle.des_io.proofs.EncryptedPieces.{joined-append}
 use Rattle.des_io.proofs.PaddedLists.{length-padded, padded-append, padded-injective}
 use Rattle.des_payment.proofs.JoinedBlocks.{IsEight, length-joined}
-use Rattle.des_context.specs.declared.ciphers.Form.{Form}
-use Rattle.des_context.specs.declared.ciphers.Form.TheVariants.{Des, Ede2, Ede3}
+use Rattle.des_context.specs.declared.ciphers.CipherType.{CipherType}
+use Rattle.des_context.specs.declared.ciphers.CipherType.TheVariants.{Des, Ede2, Ede3}
 use Rattle.des_context.specs.declared.status.TheConstants.{OK}
 use Rattle.des_context.specs.Bytes.{AreWhole, blocks_of}
-use Rattle.des_context.specs.Forms.{parts_of, relation_by, encryption_by, decryption_by}
+use Rattle.des_context.specs.CipherTypes.{parts_of, relation_by, encryption_by, decryption_by}
 use Rattle.des_context.specs.Salted.{EndsWith, IsOpened, IsPlainOf, Opens}
 use Rattle.des_context.proofs.PaddedCounts.{last_padded}
 use borrow.Rule.Slice.PartMut.{put_mid}
 use lib.Seq.{take-add}
 
 -- a key answers by its relation
-pub AnswerBy-form : (form : Form) (key : List ℕ) → IsKey (8 * parts_of form) key
-    → AnswerBy (encryption_by form key) (decryption_by form key) (λ x y. relation_by form key x y)
-AnswerBy-form Des key is = record {
+pub AnswerBy-cipher_type : (cipher_type : CipherType) (key : List ℕ) → IsKey (8 * parts_of cipher_type) key
+    → AnswerBy (encryption_by cipher_type key) (decryption_by cipher_type key) (λ x y. relation_by cipher_type key x y)
+AnswerBy-cipher_type Des key is = record {
   one_answer_each_way = HasOneAnswerEachWay-key key is;
   encryption = IsGraphOf-encryption key is;
   decryption = IsGraphOf-decryption key is;
 }
-AnswerBy-form Ede2 key is = AnswerBy-Triple false true key is
-AnswerBy-form Ede3 key is = AnswerBy-Triple true true key is
+AnswerBy-cipher_type Ede2 key is = AnswerBy-Triple false true key is
+AnswerBy-cipher_type Ede3 key is = AnswerBy-Triple true true key is
 
 -- ---- the plaintext of blocks
 

@@ -2,7 +2,7 @@
 use Rattle.std.proofs.Common.{◌≡◌, inl, inr, ℕ, ◌+◌, List, ◌++◌, length, take, drop, Option, sym, ap, ap₂, ◌∙◌, subst, arith, take_at, drop_at, length-append}
 use Rattle.std.specs.Prelude.{ℤ}
 use Rattle.std.proofs.lemmas.Option.{same_Some}
-use Rattle.des_context.specs.Forms.{relation_of}
+use Rattle.des_context.specs.CipherTypes.{relation_of}
 use Rattle.des_context.specs.Salted.{HoldsPlain, IsOpened, IsOpeningFault, IsPartsFault, IsSaltedFault, IsUnder, Opens}
 use Rattle.des_passwords.specs.Derivations.{derived, IsDerivable, HasNoIteration}
 use Rattle.des_passwords.specs.declared.derivation.Derivation.{Derivation}

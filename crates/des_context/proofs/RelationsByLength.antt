@@ -3,8 +3,8 @@ use Rattle.std.proofs.Common.{ℕ, List, [], ◌∷◌}
 use Rattle.std.specs.Prelude.{◌↔◌}
 use Rattle.des.specs.Blocks.{AnswersEach}
 use Rattle.des.specs.Relations.{IsGraphOf}
-use Rattle.des_context.specs.Forms.{relation_of}
-use Rattle.des_context.specs.FormLaws.{AnswersByLength}
+use Rattle.des_context.specs.CipherTypes.{relation_of}
+use Rattle.des_context.specs.CipherTypeLaws.{AnswersByLength}
 
 module _ (P Q : List ℕ → List ℕ → Type 0) (same : (x y : List ℕ) → P x y ↔ Q x y) where
   pub AnswersEach-same : (blocks answers : List (List ℕ)) → AnswersEach P blocks answers ↔ AnswersEach Q blocks answers

@@ -3,39 +3,39 @@
 use Rattle.std.specs.Prelude.{◌≡◌, ◌⊎◌, ℕ, ◌+◌, ◌*◌, ◌-◌, ◌/◌, ◌≤◌, List, length, slice_range, slice_index_or, Bool, true, false, if◌then◌else◌}
 use Rattle.des.specs.Blocks.{IsKey, part}
 use Rattle.des_fast.specs.Words.{AreRoundKeysOf}
-use Rattle.des_context.specs.declared.ciphers.Form.{Form}
+use Rattle.des_context.specs.declared.ciphers.CipherType.{CipherType}
 use Rattle.des_context.specs.declared.contexts.TheConstants.{MARK, NO_MAC}
-use Rattle.des_context.specs.Forms.{parts_of, form_of_length}
+use Rattle.des_context.specs.CipherTypes.{parts_of, cipher_type_of_length}
 
 -- the words of part n of a key, from 1
 abbrev pub words_of_part : ℕ → List ℕ → List ℕ
 words_of_part n words = slice_range words (16 * (n - 1)) (16 * n)
 
--- there are as many words as in a context of this form
-abbrev pub HasForm : Form → List ℕ → Type 0
-HasForm form words = length words ≡ 16 * parts_of form + 1
+-- there are as many words as in a context of this type of cipher
+abbrev pub HasCipherType : CipherType → List ℕ → Type 0
+HasCipherType cipher_type words = length words ≡ 16 * parts_of cipher_type + 1
 
--- the words are the context of a key of the form
-abbrev pub AreWordsOf : Form → List ℕ → List ℕ → Type 0
-AreWordsOf form words key =
-    IsKey (8 * parts_of form) key × HasForm form words
-    × ((n : ℕ) → 1 ≤ n → n ≤ parts_of form → AreRoundKeysOf (words_of_part n words) (part n key))
+-- the words are the context of a key of the type
+abbrev pub AreWordsOf : CipherType → List ℕ → List ℕ → Type 0
+AreWordsOf cipher_type words key =
+    IsKey (8 * parts_of cipher_type) key × HasCipherType cipher_type words
+    × ((n : ℕ) → 1 ≤ n → n ≤ parts_of cipher_type → AreRoundKeysOf (words_of_part n words) (part n key))
 
 -- the context is one of the key
 abbrev pub IsContextOf : List ℕ → List ℕ → Type 0
-IsContextOf context key = AreWordsOf (form_of_length (length key)) context key
+IsContextOf context key = AreWordsOf (cipher_type_of_length (length key)) context key
 
 -- the mark of so many words: it says the algorithm of a MAC, or that there is none, whether the calls are to read no
 -- table, and the parts of the key; it is no secret
 abbrev pub mark_of : ℕ → Bool → ℕ → ℕ
-mark_of algorithm quiet words = MARK + 0x10000 * algorithm + (if quiet then 0x100 else 0) + words / 16
+mark_of algorithm no_tables words = MARK + 0x10000 * algorithm + (if no_tables then 0x100 else 0) + words / 16
 
 -- the last word is this mark
 abbrev pub IsMarked : ℕ → Bool → List ℕ → Type 0
-IsMarked algorithm quiet context =
-    slice_index_or context (length context - 1) 0 ≡ mark_of algorithm quiet (length context)
+IsMarked algorithm no_tables context =
+    slice_index_or context (length context - 1) 0 ≡ mark_of algorithm no_tables (length context)
 
--- the last word is a mark of the algorithm, of quiet words or of quick ones
+-- the last word is a mark of the algorithm, without tables or with them
 abbrev pub HasMark : ℕ → List ℕ → Type 0
 HasMark algorithm context = IsMarked algorithm true context ⊎ IsMarked algorithm false context
 
@@ -43,6 +43,6 @@ HasMark algorithm context = IsMarked algorithm true context ⊎ IsMarked algorit
 abbrev pub IsSoundIfMarked : List ℕ → Type 0
 IsSoundIfMarked context = HasMark NO_MAC context → (key : List ℕ) × IsContextOf context key
 
--- there are as many words as in the context of a key of some form
-abbrev pub HasAForm : List ℕ → Type 0
-HasAForm words = (form : Form) × HasForm form words
+-- there are as many words as in the context of a key of some type of cipher
+abbrev pub HasSomeCipherType : List ℕ → Type 0
+HasSomeCipherType words = (cipher_type : CipherType) × HasCipherType cipher_type words

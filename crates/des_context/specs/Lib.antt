@@ -1,6 +1,6 @@
 pub mod Bytes
-pub mod Forms
-pub mod FormLaws
+pub mod CipherTypes
+pub mod CipherTypeLaws
 pub mod Contexts
 pub mod Keys
 pub mod Records

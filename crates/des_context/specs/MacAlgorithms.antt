@@ -6,7 +6,7 @@ use Rattle.des_mac.specs.CbcMac.{cbc_mac}
 use Rattle.des_mac.specs.Cmac.{cmac}
 use Rattle.des_mac.specs.Padding.{padded}
 use Rattle.des_mac.specs.RetailMac.{retail_mac_of}
-use Rattle.des_context.specs.Forms.{encryption_of}
+use Rattle.des_context.specs.CipherTypes.{encryption_of}
 use Rattle.des_context.specs.Keys.{IsKeyLength}
 use Rattle.des_context.specs.PaddingMethods.{padding_by}
 

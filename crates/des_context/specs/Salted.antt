@@ -3,7 +3,7 @@ use Rattle.std.specs.Prelude.{◌≡◌, ◌≢◌, ◌⊎◌, ◌<◌, ◌≤�
 use Rattle.des.specs.Cbc.{Chains}
 use Rattle.des.specs.Relations.{IsTheOne}
 use Rattle.des_context.specs.Bytes.{AreWhole, blocks_of}
-use Rattle.des_context.specs.Forms.{relation_of}
+use Rattle.des_context.specs.CipherTypes.{relation_of}
 use Rattle.des_context.specs.declared.status.TheConstants.{OK, ERR_HASH, ERR_ITERATIONS, ERR_NOT_SALTED, ERR_SALT_LENGTH, ERR_BLOCKS, ERR_PADDING, ERR_CAPACITY}
 use Rattle.des_io.specs.PaddedBytes.{padded}
 use Rattle.des_io.specs.Streams.{joined}

@@ -3,22 +3,22 @@
 ghost use Rattle.std.specs.Prelude.{◌≡◌, ◌≤◌, ◌<◌, ◌*◌, ℕ, List, length, map};
 ghost use Rattle.des.specs.Blocks.{part};
 ghost use Rattle.des_fast.specs.Des.{IsDesMadeFrom};
-ghost use Rattle.des_context.specs.declared.ciphers.Form.{Form as FormOfKeys};
-ghost use Rattle.des_context.specs.declared.ciphers.Form.TheVariants as forms;
-ghost use Rattle.des_context.specs.Contexts.{HasForm, IsContextOf};
-ghost use Rattle.des_context.specs.Forms.{decryption_of, encryption_of};
+ghost use Rattle.des_context.specs.declared.ciphers.CipherType.{CipherType as CipherTypeOfKeys};
+ghost use Rattle.des_context.specs.declared.ciphers.CipherType.TheVariants as cipher_types;
+ghost use Rattle.des_context.specs.Contexts.{HasCipherType, IsContextOf};
+ghost use Rattle.des_context.specs.CipherTypes.{decryption_of, encryption_of};
 ghost use Rattle.des_context.specs.Keys.{keys_of};
-ghost use Rattle.des_context.specs.FormLaws.{AnswersByLength, AnswersByLength-form, by_length-form};
+ghost use Rattle.des_context.specs.CipherTypeLaws.{AnswersByLength, AnswersByLength-cipher_type, by_length-cipher_type};
 
 use des::cipher::Relating;
 use des::tdes::{Ede2, Ede3, joined};
+use des_fast::box_lookup::BoxLookup;
 use des_fast::single::Des;
-use des_fast::ways::Way;
 use des_fast::words::from_round_key_words;
 
-/// The form of a cipher: DES, or triple DES in the EDE form.
+/// A type of cipher: DES, or triple DES in the EDE form.
 #[derive(Clone, Copy)]
-pub enum Form {
+pub enum CipherType {
     /// DES, with a key of 8 bytes.
     Des,
     /// Triple DES in the EDE form, with a key of 16 bytes, two parts.
@@ -27,13 +27,13 @@ pub enum Form {
     Ede3,
 }
 
-/// A cipher that the contexts of its form make.
-pub trait OfContext: Relating + Drop {
-    ghost FORM: { FormOfKeys };
+/// A cipher that the contexts of its type make.
+pub trait ContextCipher: Relating + Drop {
+    ghost CIPHER_TYPE: { CipherTypeOfKeys };
 
     /// The cipher of a context.
     fn of(context: &[u64]) -> Self
-        requires form { HasForm FORM context.now }
+        requires cipher_type { HasCipherType CIPHER_TYPE context.now }
         requires made { (key : List ℕ) × IsContextOf context.now key }
         ensures { (key : List ℕ) → IsContextOf context.now key → Self.is_made_from result key };
 
@@ -52,7 +52,7 @@ pub trait OfContext: Relating + Drop {
 
 // The single DES of a part of the key of a context, numbered from 1.
 #[inline(always)]
-fn single<W: Way>(context: &[u64], number: usize) -> Des<W>
+fn single<W: BoxLookup>(context: &[u64], number: usize) -> Des<W>
     requires from { 1 ≤ number }
     requires to { 16 * number < length context.now }
     requires made { (key : List ℕ) × IsContextOf context.now key }
@@ -62,51 +62,51 @@ fn single<W: Way>(context: &[u64], number: usize) -> Des<W>
     from_round_key_words(words.unwrap())
 }
 
-impl<W: Way> OfContext for Des<W> {
-    ghost FORM = { forms.Des };
+impl<W: BoxLookup> ContextCipher for Des<W> {
+    ghost CIPHER_TYPE = { cipher_types.Des };
 
     #[inline(always)]
     fn of(context: &[u64]) -> Des<W> {
         single(context, 1)
     }
 
-    ghost answers_by_length = { λ _ key made. AnswersByLength-form forms.Des key made.0.0 };
+    ghost answers_by_length = { λ _ key made. AnswersByLength-cipher_type cipher_types.Des key made.0.0 };
 
-    ghost by_length = { by_length-form forms.Des };
+    ghost by_length = { by_length-cipher_type cipher_types.Des };
 
     fn keys_in(bytes: &[u8]) -> &[[u8; 8]] {
         bytes.as_chunks().0
     }
 }
 
-impl<W: Way> OfContext for Ede2<Des<W>> {
-    ghost FORM = { forms.Ede2 };
+impl<W: BoxLookup> ContextCipher for Ede2<Des<W>> {
+    ghost CIPHER_TYPE = { cipher_types.Ede2 };
 
     #[inline(always)]
     fn of(context: &[u64]) -> Ede2<Des<W>> {
         joined::of_two(single(context, 1), single(context, 2))
     }
 
-    ghost answers_by_length = { λ _ key made. AnswersByLength-form forms.Ede2 key made.0.0 };
+    ghost answers_by_length = { λ _ key made. AnswersByLength-cipher_type cipher_types.Ede2 key made.0.0 };
 
-    ghost by_length = { by_length-form forms.Ede2 };
+    ghost by_length = { by_length-cipher_type cipher_types.Ede2 };
 
     fn keys_in(bytes: &[u8]) -> &[[u8; 16]] {
         bytes.as_chunks().0
     }
 }
 
-impl<W: Way> OfContext for Ede3<Des<W>> {
-    ghost FORM = { forms.Ede3 };
+impl<W: BoxLookup> ContextCipher for Ede3<Des<W>> {
+    ghost CIPHER_TYPE = { cipher_types.Ede3 };
 
     #[inline(always)]
     fn of(context: &[u64]) -> Ede3<Des<W>> {
         joined::of_three(single(context, 1), single(context, 2), single(context, 3))
     }
 
-    ghost answers_by_length = { λ _ key made. AnswersByLength-form forms.Ede3 key made.0.0 };
+    ghost answers_by_length = { λ _ key made. AnswersByLength-cipher_type cipher_types.Ede3 key made.0.0 };
 
-    ghost by_length = { by_length-form forms.Ede3 };
+    ghost by_length = { by_length-cipher_type cipher_types.Ede3 };
 
     fn keys_in(bytes: &[u8]) -> &[[u8; 24]] {
         bytes.as_chunks().0
@@ -115,20 +115,20 @@ impl<W: Way> OfContext for Ede3<Des<W>> {
 
 /// Calls a generic function with the cipher type that the words of a context say, over a way. What
 /// it calls is not inlined: else each call would take the stack of the largest cipher.
-macro_rules! by_form {
+macro_rules! dispatch_cipher {
     ($call:ident::<$way:ident $(, $slice:ident)?>($context:expr $(, $argument:expr)*)) => {
-        match $crate::contexts::form($context) {
-            $crate::ciphers::Form::Des => {
+        match $crate::contexts::cipher_type($context) {
+            $crate::ciphers::CipherType::Des => {
                 $call::<des_fast::single::Des<$way> $(, $slice)?>($context $(, $argument)*)
             }
-            $crate::ciphers::Form::Ede2 => {
+            $crate::ciphers::CipherType::Ede2 => {
                 $call::<des::tdes::Ede2<des_fast::single::Des<$way>> $(, $slice)?>($context $(, $argument)*)
             }
-            $crate::ciphers::Form::Ede3 => {
+            $crate::ciphers::CipherType::Ede3 => {
                 $call::<des::tdes::Ede3<des_fast::single::Des<$way>> $(, $slice)?>($context $(, $argument)*)
             }
         }
     };
 }
 
-pub(crate) use by_form;
+pub(crate) use dispatch_cipher;

@@ -7,9 +7,9 @@
 ghost use Rattle.std.specs.Prelude.{◌≡◌, ◌≢◌, ◌↔◌, ◌≤◌, ◌<◌, ◌+◌, ◌*◌, ℕ, List, length, IsTrue, true};
 ghost use Rattle.des.specs.Blocks.{part};
 ghost use Rattle.des_fast.specs.Words.{AreRoundKeysOf};
-ghost use Rattle.des_context.specs.Contexts.{HasAForm, HasForm, HasMark, IsContextOf, IsMarked, mark_of, words_of_part};
+ghost use Rattle.des_context.specs.Contexts.{HasSomeCipherType, HasCipherType, HasMark, IsContextOf, IsMarked, mark_of, words_of_part};
 
-use crate::ciphers::Form;
+use crate::ciphers::CipherType;
 use crate::status::{ERR_KEY_LENGTH, OK};
 use des::cipher::{KeyInit, are_bytes};
 use des::tdes::key_part;
@@ -23,17 +23,17 @@ pub const MARK: u64 = 0xc0de000000000000;
 pub const NO_MAC: u32 = 0;
 
 // The mark of contexts with this number of words.
-fn mark(algorithm: u32, quiet: bool, words: usize) -> u64
-    ensures { result ≡ mark_of algorithm quiet words }
+fn mark(algorithm: u32, no_tables: bool, words: usize) -> u64
+    ensures { result ≡ mark_of algorithm no_tables words }
 {
-    MARK + 0x10000 * algorithm as u64 + (if quiet { 0x100 } else { 0 }) + (words / 16) as u64
+    MARK + 0x10000 * algorithm as u64 + (if no_tables { 0x100 } else { 0 }) + (words / 16) as u64
 }
 
 // Writes the round keys of a part of a key, numbered from 1, at their place.
 fn write_part(context: &mut [u64], key: &[u8], number: usize)
     requires from { 1 ≤ number }
     requires to { 8 * number ≤ length key.now }
-    requires room { 16 * number ≤ length context.old }
+    requires capacity { 16 * number ≤ length context.old }
     ensures made { AreRoundKeysOf (words_of_part number context.new) (part number key.now) }
     ensures kept { (n : ℕ) → 1 ≤ n → n < number
         → words_of_part n context.new ≡ words_of_part n context.old }
@@ -54,12 +54,12 @@ fn write_parts(context: &mut [u64], key: &[u8])
 }
 
 /// Makes a context, as `init` does, with the mark of an algorithm of a MAC.
-pub(crate) fn init_for(algorithm: u32, context: &mut [u64], key: &[u8], quiet: bool) -> i32
-    requires { HasAForm context.old }
+pub(crate) fn init_for(algorithm: u32, context: &mut [u64], key: &[u8], no_tables: bool) -> i32
+    requires { HasSomeCipherType context.old }
     ensures accepted { (result ≡ OK) ↔ (2 * length key.now + 1 ≡ length context.old) }
     ensures refused { (result ≡ ERR_KEY_LENGTH) ↔ (2 * length key.now + 1 ≢ length context.old) }
     ensures made { result ≡ OK → IsContextOf context.new key.now }
-    ensures quiet { result ≡ OK → IsMarked algorithm quiet context.new }
+    ensures no_tables { result ≡ OK → IsMarked algorithm no_tables context.new }
     ensures kept { result ≢ OK → context.new ≡ context.old }
 {
     if context.len() / 2 != key.len() {
@@ -67,36 +67,36 @@ pub(crate) fn init_for(algorithm: u32, context: &mut [u64], key: &[u8], quiet: b
     }
     are_bytes(key);
     write_parts(context, key);
-    context[2 * key.len()] = mark(algorithm, quiet, context.len());
+    context[2 * key.len()] = mark(algorithm, no_tables, context.len());
     OK
 }
 
-/// Makes a context from the bytes of a key, a quiet one, whose calls read no table, or a quick one.
-/// The status is `ERR_KEY_LENGTH` if there are not as many bytes as the context's number of
+/// Makes a context from the bytes of a key, without tables, so that its calls read none, or with
+/// them. The status is `ERR_KEY_LENGTH` if there are not as many bytes as the context's number of
 /// words has room for; the context is then unchanged.
-pub fn init(context: &mut [u64], key: &[u8], quiet: bool) -> i32
-    requires { HasAForm context.old }
+pub fn init(context: &mut [u64], key: &[u8], no_tables: bool) -> i32
+    requires { HasSomeCipherType context.old }
     ensures accepted { (result ≡ OK) ↔ (2 * length key.now + 1 ≡ length context.old) }
     ensures refused { (result ≡ ERR_KEY_LENGTH) ↔ (2 * length key.now + 1 ≢ length context.old) }
     ensures made { result ≡ OK → IsContextOf context.new key.now }
-    ensures quiet { result ≡ OK → IsMarked NO_MAC quiet context.new }
+    ensures no_tables { result ≡ OK → IsMarked NO_MAC no_tables context.new }
     ensures kept { result ≢ OK → context.new ≡ context.old }
 {
-    init_for(NO_MAC, context, key, quiet)
+    init_for(NO_MAC, context, key, no_tables)
 }
 
 // Whether the last word is this mark.
-fn is_marked(algorithm: u32, quiet: bool, context: &[u64]) -> bool
-    ensures { IsTrue result ↔ IsMarked algorithm quiet context.now }
+fn is_marked(algorithm: u32, no_tables: bool, context: &[u64]) -> bool
+    ensures { IsTrue result ↔ IsMarked algorithm no_tables context.now }
 {
     match context.last() {
-        Some(word) => *word == mark(algorithm, quiet, context.len()),
+        Some(word) => *word == mark(algorithm, no_tables, context.len()),
         None => false,
     }
 }
 
 /// Whether the calls of a context of an algorithm are to read no table.
-pub(crate) fn is_quiet(algorithm: u32, context: &[u64]) -> bool
+pub(crate) fn has_no_tables(algorithm: u32, context: &[u64]) -> bool
     ensures { IsTrue result ↔ IsMarked algorithm true context.now }
 {
     is_marked(algorithm, true, context)
@@ -109,15 +109,15 @@ pub(crate) fn has_mark(algorithm: u32, context: &[u64]) -> bool
     is_marked(algorithm, true, context) || is_marked(algorithm, false, context)
 }
 
-// The form of a context, by the number of its words.
+// The type of the cipher of a context, by the number of its words.
 #[inline(always)]
-pub(crate) fn form(context: &[u64]) -> Form
+pub(crate) fn cipher_type(context: &[u64]) -> CipherType
     requires { (key : List ℕ) × IsContextOf context.now key }
-    ensures { HasForm result context.now }
+    ensures { HasCipherType result context.now }
 {
     match context.len() {
-        17 => Form::Des,
-        33 => Form::Ede2,
-        _ => Form::Ede3,
+        17 => CipherType::Des,
+        33 => CipherType::Ede2,
+        _ => CipherType::Ede3,
     }
 }

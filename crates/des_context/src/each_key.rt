@@ -3,17 +3,17 @@
 
 ghost use Rattle.std.specs.Prelude.{◌≡◌, ◌≢◌, ◌↔◌, length};
 ghost use Rattle.std.specs.Simd.Lanes.{zip2};
-ghost use Rattle.des_context.specs.Forms.{decryption_of, encryption_of};
+ghost use Rattle.des_context.specs.CipherTypes.{decryption_of, encryption_of};
 ghost use Rattle.des_context.specs.Keys.{IsKeyLength, keys_of};
 
-use crate::ciphers::OfContext;
+use crate::ciphers::ContextCipher;
 use crate::status::{ERR_COUNTS, OK};
 use des_fast::many::{KeyForEach, Slice};
 use des_fast::{Des, TdesEde2, TdesEde3};
 
 // Encrypts the blocks by a cipher.
 #[inline(never)]
-fn encrypt_by<C: OfContext + KeyForEach, S: Slice>(keys: &[u8], blocks: &mut [[u8; 8]]) -> i32
+fn encrypt_by<C: ContextCipher + KeyForEach, S: Slice>(keys: &[u8], blocks: &mut [[u8; 8]]) -> i32
     ensures accepted { (result ≡ OK) ↔ (length (keys_of C.KEY_SIZE keys.now) ≡ length blocks.old) }
     ensures refused { (result ≡ ERR_COUNTS)
         ↔ (length (keys_of C.KEY_SIZE keys.now) ≢ length blocks.old) }
@@ -48,7 +48,7 @@ pub fn encrypt_each<S: Slice>(key_size: usize, keys: &[u8], blocks: &mut [[u8; 8
 
 // Decrypts the blocks by a cipher.
 #[inline(never)]
-fn decrypt_by<C: OfContext + KeyForEach, S: Slice>(keys: &[u8], blocks: &mut [[u8; 8]]) -> i32
+fn decrypt_by<C: ContextCipher + KeyForEach, S: Slice>(keys: &[u8], blocks: &mut [[u8; 8]]) -> i32
     ensures accepted { (result ≡ OK) ↔ (length (keys_of C.KEY_SIZE keys.now) ≡ length blocks.old) }
     ensures refused { (result ≡ ERR_COUNTS)
         ↔ (length (keys_of C.KEY_SIZE keys.now) ≢ length blocks.old) }

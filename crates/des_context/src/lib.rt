@@ -3,7 +3,7 @@
 //! every cipher and every width. `des_c` exports these calls, and beside them those of other crates.
 #![tactic(auto)]
 
-pub mod calls;
+pub mod block_modes;
 pub mod ciphers;
 pub mod components;
 pub mod contexts;

@@ -13,7 +13,7 @@ ghost use Rattle.des_context.specs.Keys.{keys_of};
 ghost use Rattle.des_context.specs.MacAlgorithms.{IsMacKeyLength, mac_by};
 ghost use Rattle.des_context.specs.PaddingMethods.{padding_by, status_of_each, status_of_lists};
 
-use crate::ciphers::OfContext;
+use crate::ciphers::ContextCipher;
 use crate::status::{ERR_COUNTS, ERR_PADDING_METHOD, OK};
 use des::cipher::{KeyBytes, NotEqualError};
 use des::tdes::key_part;
@@ -23,7 +23,7 @@ use des_mac::{Method1, Method2, many};
 
 // The tags of CBC-MAC (algorithm 1, by padding method 1 or 2), or of CMAC (5), under one key.
 #[inline(never)]
-fn chain_macs_by<C: OfContext + KeyForEach, S: Slice>(
+fn one_cipher_macs_by<C: ContextCipher + KeyForEach, S: Slice>(
     algorithm: u32,
     padding: u32,
     key: &[u8],
@@ -49,7 +49,7 @@ fn chain_macs_by<C: OfContext + KeyForEach, S: Slice>(
 
 // CBC-MACs or CMACs of messages, each under the key at its place.
 #[inline(never)]
-fn chain_macs_each_by<C: OfContext + KeyForEach, S: Slice>(
+fn one_cipher_macs_each_by<C: ContextCipher + KeyForEach, S: Slice>(
     algorithm: u32,
     padding: u32,
     keys: &[u8],
@@ -208,9 +208,9 @@ fn macs_by<S: Slice>(
             let (first, second) = (key_part(key, 1), key_part(key, 2));
             retail_macs_by::<S>(&first, &second, padding, messages, tags)
         }
-        (_, 8) => chain_macs_by::<Des, S>(algorithm, padding, key, messages, tags),
-        (_, 16) => chain_macs_by::<TdesEde2, S>(algorithm, padding, key, messages, tags),
-        _ => chain_macs_by::<TdesEde3, S>(algorithm, padding, key, messages, tags),
+        (_, 8) => one_cipher_macs_by::<Des, S>(algorithm, padding, key, messages, tags),
+        (_, 16) => one_cipher_macs_by::<TdesEde2, S>(algorithm, padding, key, messages, tags),
+        _ => one_cipher_macs_by::<TdesEde3, S>(algorithm, padding, key, messages, tags),
     }
 }
 
@@ -257,9 +257,9 @@ fn macs_each_by<S: Slice>(
 {
     match (algorithm, key_size) {
         (3, _) => write_retail_macs::<S>(keys.as_chunks().0, padding, messages, tags),
-        (_, 8) => chain_macs_each_by::<Des, S>(algorithm, padding, keys, messages, tags),
-        (_, 16) => chain_macs_each_by::<TdesEde2, S>(algorithm, padding, keys, messages, tags),
-        _ => chain_macs_each_by::<TdesEde3, S>(algorithm, padding, keys, messages, tags),
+        (_, 8) => one_cipher_macs_each_by::<Des, S>(algorithm, padding, keys, messages, tags),
+        (_, 16) => one_cipher_macs_each_by::<TdesEde2, S>(algorithm, padding, keys, messages, tags),
+        _ => one_cipher_macs_each_by::<TdesEde3, S>(algorithm, padding, keys, messages, tags),
     }
 }
 

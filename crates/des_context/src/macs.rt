@@ -8,37 +8,37 @@ ghost use Rattle.des_mac.specs.IsProgress.{HoldsOneBlock, IsProgressOf};
 ghost use Rattle.des_mac.specs.Padding.{padded};
 ghost use Rattle.des_mac.specs.RetailMac.{retail_mac_of};
 ghost use Rattle.des_mac.specs.Tags.{IsTruncated};
-ghost use Rattle.des_context.specs.Contexts.{HasForm, IsContextOf, IsMarked};
-ghost use Rattle.des_context.specs.Forms.{encryption_of};
+ghost use Rattle.des_context.specs.Contexts.{HasCipherType, IsContextOf, IsMarked};
+ghost use Rattle.des_context.specs.CipherTypes.{encryption_of};
 ghost use Rattle.des_context.specs.MacAlgorithms.{IsAlgorithm, mac_by};
-ghost use Rattle.des_context.specs.MacContexts.{AreMacWordsOf, HasMacForm, HasMacMark, IsAMac, IsMacOf, IsSoundMacIfMarked, key_size_of, words_of_chain};
+ghost use Rattle.des_context.specs.MacContexts.{AreMacWordsOf, HasMacCipherType, HasMacMark, IsAMac, IsMacOf, IsSoundMacIfMarked, key_size_of, words_of_chain};
 ghost use Rattle.des_context.specs.PaddingMethods.{padding_by, status_of};
 
-use crate::ciphers::{OfContext, by_form};
-use crate::contexts::{has_mark, init_for, is_quiet};
+use crate::ciphers::{ContextCipher, dispatch_cipher};
+use crate::contexts::{has_mark, has_no_tables, init_for};
 use crate::status::{ERR_CONTEXT, ERR_KEY_LENGTH, ERR_PADDING_METHOD, ERR_TAG, OK};
 use des::cipher::KeyedCipher;
+use des_fast::box_lookup::{BoxLookup, NoTables, Tables};
 use des_fast::single::Des;
-use des_fast::ways::{Quiet, Tables, Way};
 use des_mac::mac::verify_truncated_left;
 use des_mac::{CbcMac, Cmac, Mac, Method1, Method2, Progress, RetailMac};
 
 /// How far a MAC has come in its message, and the number of the padding method.
 #[repr(C)]
 #[derive(Clone, Copy)]
-pub struct Message {
+pub struct MessageState {
     pub(crate) progress: Progress,
     pub(crate) padding: u32,
 }
 
-impl Message {
+impl MessageState {
     // The message of no bytes.
-    fn new(padding: u32) -> Message
+    fn new(padding: u32) -> MessageState
         ensures progress { (encryption : List ℕ → List ℕ)
             → IsProgressOf encryption result.progress [] }
         ensures padding { result.padding ≡ padding }
     {
-        Message {
+        MessageState {
             progress: Progress::new(),
             padding,
         }
@@ -48,8 +48,8 @@ impl Message {
 // Adds bytes to a message, under the cipher of a context: all MACs take bytes in alike, by the
 // chain.
 #[inline(never)]
-fn extend<C: OfContext>(context: &[u64], message: &mut Message, bytes: &[u8])
-    requires form { HasForm C.FORM context.now }
+fn extend<C: ContextCipher>(context: &[u64], message: &mut MessageState, bytes: &[u8])
+    requires cipher_type { HasCipherType C.CIPHER_TYPE context.now }
     requires made { (key : List ℕ) × IsContextOf context.now key }
     requires progress { HoldsOneBlock message.old.progress }
     ensures progress { (key m : List ℕ) → IsContextOf context.now key
@@ -63,7 +63,7 @@ fn extend<C: OfContext>(context: &[u64], message: &mut Message, bytes: &[u8])
 }
 
 // Adds bytes by a cipher that reads tables or not, as the way has it.
-fn extend_by<W: Way>(context: &[u64], message: &mut Message, bytes: &[u8])
+fn extend_by<W: BoxLookup>(context: &[u64], message: &mut MessageState, bytes: &[u8])
     requires made { (key : List ℕ) × IsContextOf context.now key }
     requires progress { HoldsOneBlock message.old.progress }
     ensures progress { (key m : List ℕ) → IsContextOf context.now key
@@ -71,11 +71,11 @@ fn extend_by<W: Way>(context: &[u64], message: &mut Message, bytes: &[u8])
         → IsProgressOf (encryption_of key) message.new.progress (m ++ bytes.now) }
     ensures padding { message.new.padding ≡ message.old.padding }
 {
-    by_form!(extend::<W>(context, message, bytes));
+    dispatch_cipher!(extend::<W>(context, message, bytes));
 }
 
 // Adds bytes by a cipher that reads tables or, if the context is quiet, by one that reads none.
-fn extend_by_context(algorithm: u32, context: &[u64], message: &mut Message, bytes: &[u8])
+fn extend_by_context(algorithm: u32, context: &[u64], message: &mut MessageState, bytes: &[u8])
     requires made { (key : List ℕ) × IsContextOf context.now key }
     requires progress { HoldsOneBlock message.old.progress }
     ensures progress { (key m : List ℕ) → IsContextOf context.now key
@@ -83,51 +83,51 @@ fn extend_by_context(algorithm: u32, context: &[u64], message: &mut Message, byt
         → IsProgressOf (encryption_of key) message.new.progress (m ++ bytes.now) }
     ensures padding { message.new.padding ≡ message.old.padding }
 {
-    if is_quiet(algorithm, context) {
-        extend_by::<Quiet>(context, message, bytes);
+    if has_no_tables(algorithm, context) {
+        extend_by::<NoTables>(context, message, bytes);
     } else {
         extend_by::<Tables>(context, message, bytes);
     }
 }
 
 // Writes the words of a key.
-fn write_words(algorithm: u32, context: &mut [u64], key: &[u8], quiet: bool)
+fn write_words(algorithm: u32, context: &mut [u64], key: &[u8], no_tables: bool)
     requires by { IsAlgorithm algorithm }
-    requires form { HasMacForm algorithm context.old }
+    requires cipher_type { HasMacCipherType algorithm context.old }
     requires key { length key.now ≡ key_size_of context.old }
     ensures made { AreMacWordsOf algorithm context.new key.now }
-    ensures quiet { IsMarked algorithm quiet (words_of_chain algorithm context.new) }
-    ensures second_quiet { algorithm ≡ 3 → IsMarked algorithm quiet (drop 17 context.new) }
+    ensures no_tables { IsMarked algorithm no_tables (words_of_chain algorithm context.new) }
+    ensures second_no_tables { algorithm ≡ 3 → IsMarked algorithm no_tables (drop 17 context.new) }
 {
     if algorithm == 3 {
         let (first, second) = context.split_at_mut(17);
         let (first_key, second_key) = key.split_at(8);
-        init_for(algorithm, first, first_key, quiet);
-        init_for(algorithm, second, second_key, quiet);
+        init_for(algorithm, first, first_key, no_tables);
+        init_for(algorithm, second, second_key, no_tables);
     } else {
-        init_for(algorithm, context, key, quiet);
+        init_for(algorithm, context, key, no_tables);
     }
 }
 
-/// Makes the words of a MAC of the bytes of a key, quiet ones, whose calls read no table, or quick
-/// ones, and the message of no bytes, with padding method 1 or 2. The status of a key of another
-/// length than the words have room for is `ERR_KEY_LENGTH`, of another padding
+/// Makes the words of a MAC of the bytes of a key, without tables, so that its calls read none, or
+/// with them, and of the message of no bytes, with padding method 1 or 2. The status of a key of
+/// another length than the words have room for is `ERR_KEY_LENGTH`, of another padding
 /// `ERR_PADDING_METHOD`; the words and the message are then unchanged.
 pub fn init(
     algorithm: u32,
     context: &mut [u64],
-    message: &mut Message,
+    message: &mut MessageState,
     key: &[u8],
     padding: u32,
-    quiet: bool,
+    no_tables: bool,
 ) -> i32
     requires by { IsAlgorithm algorithm }
-    requires form { HasMacForm algorithm context.old }
+    requires cipher_type { HasMacCipherType algorithm context.old }
     ensures status { result ≡ status_of (key_size_of context.old) (length key.now) padding }
     ensures made { result ≡ OK → IsMacOf algorithm context.new message.new padding key.now [] }
-    ensures quiet { result ≡ OK → IsMarked algorithm quiet (words_of_chain algorithm context.new) }
-    ensures second_quiet { result ≡ OK → algorithm ≡ 3
-        → IsMarked algorithm quiet (drop 17 context.new) }
+    ensures no_tables { result ≡ OK → IsMarked algorithm no_tables (words_of_chain algorithm context.new) }
+    ensures second_no_tables { result ≡ OK → algorithm ≡ 3
+        → IsMarked algorithm no_tables (drop 17 context.new) }
     ensures kept { result ≢ OK → (context.new ≡ context.old) × (message.new ≡ message.old) }
 {
     if key.len() != context.len() / 16 * 8 {
@@ -136,14 +136,14 @@ pub fn init(
     if padding != 1 && padding != 2 {
         return ERR_PADDING_METHOD;
     }
-    write_words(algorithm, context, key, quiet);
-    *message = Message::new(padding);
+    write_words(algorithm, context, key, no_tables);
+    *message = MessageState::new(padding);
     OK
 }
 
 // The words of the chain.
 fn chain_words(algorithm: u32, context: &[u64]) -> &[u64]
-    requires { HasMacForm algorithm context.now }
+    requires { HasMacCipherType algorithm context.now }
     ensures { result.now ≡ words_of_chain algorithm context.now }
 {
     if algorithm == 3 {
@@ -155,7 +155,7 @@ fn chain_words(algorithm: u32, context: &[u64]) -> &[u64]
 
 // Whether the words of the chain end with a mark of the algorithm.
 fn has_mac_mark(algorithm: u32, context: &[u64]) -> bool
-    requires { HasMacForm algorithm context.now }
+    requires { HasMacCipherType algorithm context.now }
     ensures { IsTrue result ↔ HasMacMark algorithm context.now }
 {
     has_mark(algorithm, chain_words(algorithm, context))
@@ -163,8 +163,8 @@ fn has_mac_mark(algorithm: u32, context: &[u64]) -> bool
 
 /// Adds bytes to the message, after those that it has. The status of words that `init` did not make
 /// for the algorithm is `ERR_CONTEXT`; the message is then unchanged.
-pub fn update(algorithm: u32, context: &[u64], message: &mut Message, bytes: &[u8]) -> i32
-    requires form { HasMacForm algorithm context.now }
+pub fn update(algorithm: u32, context: &[u64], message: &mut MessageState, bytes: &[u8]) -> i32
+    requires cipher_type { HasMacCipherType algorithm context.now }
     requires sound { IsSoundMacIfMarked algorithm context.now message.old }
     ensures accepted { (result ≡ OK) ↔ HasMacMark algorithm context.now }
     ensures unmarked { (result ≡ ERR_CONTEXT) ↔ ¬ (HasMacMark algorithm context.now) }
@@ -182,8 +182,12 @@ pub fn update(algorithm: u32, context: &[u64], message: &mut Message, bytes: &[u
 
 // The tag of CBC-MAC, or else of CMAC, of a message, under the cipher of a context.
 #[inline(never)]
-fn chain_tag<C: OfContext>(context: &[u64], algorithm: u32, message: &Message) -> [u8; 8]
-    requires form { HasForm C.FORM context.now }
+fn one_cipher_tag<C: ContextCipher>(
+    context: &[u64],
+    algorithm: u32,
+    message: &MessageState,
+) -> [u8; 8]
+    requires cipher_type { HasCipherType C.CIPHER_TYPE context.now }
     requires made { (key : List ℕ) × IsContextOf context.now key }
     requires progress { HoldsOneBlock message.now.progress }
     requires chains { algorithm ≢ 3 }
@@ -202,7 +206,11 @@ fn chain_tag<C: OfContext>(context: &[u64], algorithm: u32, message: &Message) -
 }
 
 // The tag by a cipher that reads tables or not, as the way has it.
-fn chain_tag_by<W: Way>(context: &[u64], algorithm: u32, message: &Message) -> [u8; 8]
+fn one_cipher_tag_by<W: BoxLookup>(
+    context: &[u64],
+    algorithm: u32,
+    message: &MessageState,
+) -> [u8; 8]
     requires made { (key : List ℕ) × IsContextOf context.now key }
     requires progress { HoldsOneBlock message.now.progress }
     requires chains { algorithm ≢ 3 }
@@ -210,11 +218,11 @@ fn chain_tag_by<W: Way>(context: &[u64], algorithm: u32, message: &Message) -> [
         → IsProgressOf (encryption_of key) message.now.progress m
         → result ≡ mac_by algorithm message.now.padding key m }
 {
-    by_form!(chain_tag::<W>(context, algorithm, message))
+    dispatch_cipher!(one_cipher_tag::<W>(context, algorithm, message))
 }
 
 // The tag of the retail MAC of a message, under two ciphers.
-fn retail_tag<C: KeyedCipher + Drop>(first: C, second: C, message: &Message) -> [u8; 8]
+fn retail_tag<C: KeyedCipher + Drop>(first: C, second: C, message: &MessageState) -> [u8; 8]
     requires { HoldsOneBlock message.now.progress }
     ensures { (key m : List ℕ)
         → IsKey C.KEY_SIZE (take C.KEY_SIZE key) → C.is_made_from first (take C.KEY_SIZE key)
@@ -231,7 +239,7 @@ fn retail_tag<C: KeyedCipher + Drop>(first: C, second: C, message: &Message) -> 
 }
 
 // The tag of a message, by ciphers that read tables or not, as the way has it.
-fn tag_by<W: Way>(algorithm: u32, context: &[u64], message: &Message) -> [u8; 8]
+fn tag_by<W: BoxLookup>(algorithm: u32, context: &[u64], message: &MessageState) -> [u8; 8]
     requires { IsAMac algorithm context.now message.now }
     ensures { (padding : ℕ) (key m : List ℕ)
         → IsMacOf algorithm context.now message.now padding key m
@@ -241,20 +249,20 @@ fn tag_by<W: Way>(algorithm: u32, context: &[u64], message: &Message) -> [u8; 8]
         let (first, second) = context.split_at(17);
         retail_tag::<Des<W>>(Des::of(first), Des::of(second), message)
     } else {
-        chain_tag_by::<W>(context, algorithm, message)
+        one_cipher_tag_by::<W>(context, algorithm, message)
     }
 }
 
 // The tag of the message.
-fn tag(algorithm: u32, context: &[u64], message: &Message) -> [u8; 8]
-    requires form { HasMacForm algorithm context.now }
+fn tag(algorithm: u32, context: &[u64], message: &MessageState) -> [u8; 8]
+    requires cipher_type { HasMacCipherType algorithm context.now }
     requires made { IsAMac algorithm context.now message.now }
     ensures { (padding : ℕ) (key m : List ℕ)
         → IsMacOf algorithm context.now message.now padding key m
         → result ≡ mac_by algorithm padding key m }
 {
-    if is_quiet(algorithm, chain_words(algorithm, context)) {
-        tag_by::<Quiet>(algorithm, context, message)
+    if has_no_tables(algorithm, chain_words(algorithm, context)) {
+        tag_by::<NoTables>(algorithm, context, message)
     } else {
         tag_by::<Tables>(algorithm, context, message)
     }
@@ -262,8 +270,8 @@ fn tag(algorithm: u32, context: &[u64], message: &Message) -> [u8; 8]
 
 /// Writes the tag of the message, which may go on. The status is as of `update`, and the tag of
 /// words that it refuses is unchanged.
-pub fn write_tag(algorithm: u32, context: &[u64], message: &Message, room: &mut [u8; 8]) -> i32
-    requires form { HasMacForm algorithm context.now }
+pub fn write_tag(algorithm: u32, context: &[u64], message: &MessageState, room: &mut [u8; 8]) -> i32
+    requires cipher_type { HasMacCipherType algorithm context.now }
     requires sound { IsSoundMacIfMarked algorithm context.now message.now }
     ensures accepted { (result ≡ OK) ↔ HasMacMark algorithm context.now }
     ensures unmarked { (result ≡ ERR_CONTEXT) ↔ ¬ (HasMacMark algorithm context.now) }
@@ -281,8 +289,8 @@ pub fn write_tag(algorithm: u32, context: &[u64], message: &Message, room: &mut 
 
 /// Accepts the first 4 to 8 bytes of the tag of the message: the status of all others is `ERR_TAG`.
 /// That of words that `init` did not make for the algorithm is `ERR_CONTEXT`.
-pub fn verify(algorithm: u32, context: &[u64], message: &Message, tag_bytes: &[u8]) -> i32
-    requires form { HasMacForm algorithm context.now }
+pub fn verify(algorithm: u32, context: &[u64], message: &MessageState, tag_bytes: &[u8]) -> i32
+    requires cipher_type { HasMacCipherType algorithm context.now }
     requires sound { IsSoundMacIfMarked algorithm context.now message.now }
     ensures unmarked { (result ≡ ERR_CONTEXT) ↔ ¬ (HasMacMark algorithm context.now) }
     ensures accepted { (padding : ℕ) (key m : List ℕ)

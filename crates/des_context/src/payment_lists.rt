@@ -3,10 +3,10 @@
 
 ghost use Rattle.std.specs.Prelude.{◌≡◌, ◌≢◌, ◌↔◌, length, map, take, replicate};
 ghost use Rattle.des_payment.specs.Dukpt.{initial_key, transaction_key};
-ghost use Rattle.des_context.specs.Forms.{encryption_of};
+ghost use Rattle.des_context.specs.CipherTypes.{encryption_of};
 ghost use Rattle.des_context.specs.Keys.{IsKeyLength, keys_of};
 
-use crate::ciphers::OfContext;
+use crate::ciphers::ContextCipher;
 use crate::status::{ERR_COUNTS, OK};
 use des_fast::many::{KeyForEach, Slice};
 use des_fast::{Des, TdesEde2, TdesEde3};
@@ -15,7 +15,7 @@ use des_payment::transaction_lists::transaction_keys_by;
 
 // The check values of keys of a cipher.
 #[inline(never)]
-fn values_by<C: OfContext + KeyForEach, S: Slice>(keys: &[u8], values: &mut [[u8; 3]]) -> i32
+fn values_by<C: ContextCipher + KeyForEach, S: Slice>(keys: &[u8], values: &mut [[u8; 3]]) -> i32
     ensures accepted { (result ≡ OK) ↔ (length (keys_of C.KEY_SIZE keys.now) ≡ length values.old) }
     ensures refused { (result ≡ ERR_COUNTS)
         ↔ (length (keys_of C.KEY_SIZE keys.now) ≢ length values.old) }

@@ -4,26 +4,26 @@
 ghost use Rattle.std.specs.Prelude.{◌≡◌, ◌≢◌, ◌↔◌, ℕ, List, length};
 ghost use Rattle.des_fast.specs.Records.{GoOn};
 ghost use Rattle.des_context.specs.Bytes.{AreBytesOf};
-ghost use Rattle.des_context.specs.Forms.{relation_of};
-ghost use Rattle.des_context.specs.Contexts.{HasForm, HasMark, IsContextOf, IsSoundIfMarked};
+ghost use Rattle.des_context.specs.CipherTypes.{relation_of};
+ghost use Rattle.des_context.specs.Contexts.{HasCipherType, HasMark, IsContextOf, IsSoundIfMarked};
 ghost use Rattle.des_context.specs.Records.{AreSizesOf, ChainsEach};
 
-use crate::calls::are_bytes_of;
-use crate::ciphers::{OfContext, by_form};
+use crate::block_modes::are_bytes_of;
+use crate::ciphers::{ContextCipher, dispatch_cipher};
 use crate::contexts::{NO_MAC, has_mark};
 use crate::status::{ERR_BLOCKS, ERR_CONTEXT, ERR_COUNTS, OK};
+use des_fast::box_lookup::Tables;
 use des_fast::many::{Slice, SpreadOnce};
-use des_fast::ways::Tables;
 
 // Encrypts records in place by CBC.
 #[inline(never)]
-fn chain<C: OfContext + SpreadOnce, S: Slice>(
+fn encrypt_records<C: ContextCipher + SpreadOnce, S: Slice>(
     context: &[u64],
     vectors: &mut [[u8; 8]],
     sizes: &[usize],
     blocks: &mut [[u8; 8]],
 ) -> i32
-    requires form { HasForm C.FORM context.now }
+    requires cipher_type { HasCipherType C.CIPHER_TYPE context.now }
     requires made { (key : List ℕ) × IsContextOf context.now key }
     ensures accepted { (result ≡ OK) ↔ AreSizesOf sizes.now vectors.old blocks.old }
     ensures refused { (result ≡ ERR_COUNTS) ↔ ¬ (AreSizesOf sizes.now vectors.old blocks.old) }
@@ -41,13 +41,13 @@ fn chain<C: OfContext + SpreadOnce, S: Slice>(
 
 // Decrypts records in place that CBC chained.
 #[inline(never)]
-fn unchain<C: OfContext + SpreadOnce, S: Slice>(
+fn decrypt_records<C: ContextCipher + SpreadOnce, S: Slice>(
     context: &[u64],
     vectors: &mut [[u8; 8]],
     sizes: &[usize],
     blocks: &mut [[u8; 8]],
 ) -> i32
-    requires form { HasForm C.FORM context.now }
+    requires cipher_type { HasCipherType C.CIPHER_TYPE context.now }
     requires made { (key : List ℕ) × IsContextOf context.now key }
     ensures accepted { (result ≡ OK) ↔ AreSizesOf sizes.now vectors.old blocks.old }
     ensures refused { (result ≡ ERR_COUNTS) ↔ ¬ (AreSizesOf sizes.now vectors.old blocks.old) }
@@ -96,7 +96,7 @@ pub fn encrypt_cbc_records<S: Slice>(
     if !are_bytes_of(blocks, size) {
         return ERR_BLOCKS;
     }
-    by_form!(chain::<Tables, S>(context, vectors, sizes, blocks))
+    dispatch_cipher!(encrypt_records::<Tables, S>(context, vectors, sizes, blocks))
 }
 
 /// Decrypts records in place that CBC chained, as `encrypt_cbc_records` does. The status is as of
@@ -129,5 +129,5 @@ pub fn decrypt_cbc_records<S: Slice>(
     if !are_bytes_of(blocks, size) {
         return ERR_BLOCKS;
     }
-    by_form!(unchain::<Tables, S>(context, vectors, sizes, blocks))
+    dispatch_cipher!(decrypt_records::<Tables, S>(context, vectors, sizes, blocks))
 }

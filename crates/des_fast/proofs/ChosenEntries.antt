@@ -5,7 +5,7 @@ use Rattle.des.specs.Bits.{bits_of, bits_of_word, number_of, select}
 use Rattle.des.specs.Tables.{selection_functions, expansion, permutation}
 use Rattle.des.specs.CipherFunction.{box_entry, substitute}
 use Rattle.des.specs.Laws.Selections.{length-select}
-use Rattle.des_fast.specs.declared.quiet.boxes.TheConstants.{ENTRIES}
+use Rattle.des_fast.specs.declared.no_tables.boxes.TheConstants.{ENTRIES}
 use Rattle.des_fast.specs.Groups.{IsOfGroups, bits_of_groups, positions_in_word}
 use Rattle.des_fast.specs.GroupBytes.{box_of_byte, byte_order, in_order}
 use Rattle.des_fast.proofs.ByteTests.{has}

@@ -9,7 +9,7 @@ use Rattle.des.specs.Bits.{bits_of, number_of, select}
 use Rattle.des.specs.CipherFunction.{box_entry}
 use Rattle.des.specs.Laws.Selections.{length-select}
 use Rattle.des.proofs.BitParts.{same_below}
-use Rattle.des_fast.specs.declared.quiet.fours.TheConstants.{TERMS}
+use Rattle.des_fast.specs.declared.no_tables.four_blocks.TheConstants.{TERMS}
 use Rattle.des_fast.specs.Groups.{IsOfGroups}
 use Rattle.des_fast.specs.GroupBytes.{box_of_byte}
 use Rattle.des_fast.specs.ChosenTerms.{choice, term, AreSums, AreChoices}

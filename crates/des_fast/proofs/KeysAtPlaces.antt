@@ -1,7 +1,7 @@
 -- The answers of a part of a list of keys, at its places.
 use Rattle.std.proofs.Common.{◌≡◌, ℕ, ◌+◌, ◌<◌, List, [], map, take, drop, get_or, ap, sym, ◌∙◌}
 use Rattle.std.proofs.lemmas.List.{take-map, drop-map, get_or-take, get_or-drop}
-use Rattle.des_fast.specs.ChainEnds.{under_key}
+use Rattle.des_fast.specs.ChainingValues.{under_key}
 
 -- of the first n keys
 pub under_key-first : {K : Type 0} (bytes : K → List ℕ) (f : List ℕ → List ℕ → List ℕ) (keys : List K) (n j : ℕ)

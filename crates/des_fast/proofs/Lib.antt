@@ -41,7 +41,7 @@ pub mod ZippedParts
 pub mod SpreadParts
 pub mod PassesByKeys
 pub mod KeysAtPlaces
-pub mod ChainedEnds
+pub mod LastChainingValues
 pub mod HalfPasses
 pub mod KeptRoundKeys
 pub mod ByteTests

@@ -7,7 +7,7 @@ use Rattle.des.specs.Des.{encryption, decryption}
 use Rattle.des.specs.Triple.{triple_key_size}
 use Rattle.des.specs.TripleCiphers.{triple_encryption, triple_decryption}
 use Rattle.des_fast.specs.declared.slices.keys.PassSlices.{PassSlices}
-use Rattle.des_fast.specs.declared.many.lanes.Part.{Part}
+use Rattle.des_fast.specs.declared.many.lanes.PassPart.{PassPart}
 use Rattle.des_fast.specs.RoundKeySlices.{round_keys_in}
 use Rattle.des_fast.specs.Passes.{block_through_passes}
 use Rattle.des_fast.specs.EachKey.{round_keys_of_parts, triple_parts, lane_answer}
@@ -19,7 +19,7 @@ part-whole : (key : List ℕ) → length key ≡ 8 → part 1 key ≡ key
 part-whole key size = take_all 8 key (omega arith)
 
 -- the answer of a lane, by what passes under parts of its key answer
-pub lane-by_parts : {A : Type 0} (bit : A → Bool) (passes : List (PassSlices A)) (parts : List Part)
+pub lane-by_parts : {A : Type 0} (bit : A → Bool) (passes : List (PassSlices A)) (parts : List PassPart)
     (answer : List ℕ → List ℕ → List ℕ) (keys : List (List ℕ)) (k : ℕ)
     → map (round_keys_in bit) passes ≡ round_keys_of_parts parts (get_or keys k [])
     → block_through_passes (round_keys_of_parts parts (get_or keys k [])) ≡ answer (get_or keys k [])

@@ -4,7 +4,7 @@ use Rattle.std.proofs.Math.ListN.{set}
 use Rattle.std.proofs.Math.Bool.{beq}
 use Rattle.std.proofs.lemmas.List.{length-map, map-set, ext_get_or, take_all}
 use Rattle.des.specs.Blocks.{part}
-use Rattle.des_fast.specs.declared.many.lanes.Part.{Part}
+use Rattle.des_fast.specs.declared.many.lanes.PassPart.{PassPart}
 use Rattle.des_fast.specs.declared.slices.keys.PassSlices.{PassSlices}
 use Rattle.des_fast.specs.EachKey.{round_keys_under, round_keys_of_parts}
 use Rattle.des_fast.specs.SpreadKeys.{AreSlicesFor}
@@ -21,12 +21,12 @@ mapped_written_below read d P xs i x inside each here m below =
     (written_below P (map read xs) i (read x) d in_map each here m below)
 
 -- round keys of all passes under the parts of a key
-pub all_spread : {X : Type 0} (read : X → List (List Bool)) (passes : List X) (parts : List Part) (key : List ℕ) (n : ℕ)
+pub all_spread : {X : Type 0} (read : X → List (List Bool)) (passes : List X) (parts : List PassPart) (key : List ℕ) (n : ℕ)
     → length passes ≡ length parts → length parts ≤ n
     → ((m : ℕ) → m < n → get_or (map read passes) m [] ≡ get_or (round_keys_of_parts parts key) m [])
     → map read passes ≡ round_keys_of_parts parts key
 all_spread read passes parts key n count all each =
-    let of_part : Part → List (List Bool) = λ p. round_keys_under p.deciphers (part p.number key) in
+    let of_part : PassPart → List (List Bool) = λ p. round_keys_under p.deciphers (part p.number key) in
     let width : length (map read passes) ≡ length parts = length-map passes read ∙ count in
     ext_get_or [] (map read passes) (round_keys_of_parts parts key) (width ∙ sym (length-map parts of_part))
     (λ m below. each m (omega arith))
@@ -38,7 +38,7 @@ beq-true true false h = cc
 beq-true false true h = cc
 beq-true false false h = refl
 
-pub round_keys_under-same : (p q : Part) (key : List ℕ) → p.number ≡ q.number → beq p.deciphers q.deciphers ≡ true
+pub round_keys_under-same : (p q : PassPart) (key : List ℕ) → p.number ≡ q.number → beq p.deciphers q.deciphers ≡ true
     → round_keys_under q.deciphers (part q.number key) ≡ round_keys_under p.deciphers (part p.number key)
 round_keys_under-same p q key number direction =
     ap₂ (λ (deciphers : Bool) (n : ℕ). round_keys_under deciphers (part n key))

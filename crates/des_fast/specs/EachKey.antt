@@ -3,7 +3,7 @@ use Rattle.std.specs.Prelude.{◌≡◌, ℕ, ◌<◌, List, [], Bool, true, fal
 use Rattle.des.specs.Bits.{bits_of_bytes}
 use Rattle.des.specs.Blocks.{part}
 use Rattle.des.specs.KeySchedule.{key_schedule}
-use Rattle.des_fast.specs.declared.many.lanes.Part.{Part}
+use Rattle.des_fast.specs.declared.many.lanes.PassPart.{PassPart}
 use Rattle.des_fast.specs.declared.slices.keys.PassSlices.{PassSlices}
 use Rattle.des_fast.specs.RoundKeySlices.{round_keys_in}
 use Rattle.des_fast.specs.Passes.{block_through_passes}
@@ -14,7 +14,7 @@ round_keys_under false key = key_schedule (bits_of_bytes key)
 round_keys_under true key = reverse (key_schedule (bits_of_bytes key))
 
 -- those of passes under parts of a key
-abbrev pub round_keys_of_parts : List Part → List ℕ → List (List (List Bool))
+abbrev pub round_keys_of_parts : List PassPart → List ℕ → List (List (List Bool))
 round_keys_of_parts parts key =
     map (λ p. round_keys_under p.deciphers (part p.number key)) parts
 
@@ -25,7 +25,7 @@ last_part false = 1
 
 -- the parts under which the passes of a triple cipher are, in order: by whether a key has three of
 -- them, whether the second pass of encryption deciphers, and whether blocks are deciphered
-abbrev pub triple_parts : Bool → Bool → Bool → List Part
+abbrev pub triple_parts : Bool → Bool → Bool → List PassPart
 triple_parts has_three second false =
     record { number = 1; deciphers = false } ∷ record { number = 2; deciphers = second }
     ∷ record { number = last_part has_three; deciphers = false } ∷ []
@@ -38,7 +38,7 @@ abbrev pub lane_answer : {A : Type 0} → (A → Bool) → List (PassSlices A) �
 lane_answer bit passes block = block_through_passes (map (round_keys_in bit) passes) block
 
 -- the first n passes are those under the first n parts of each key, of the key at its place
-abbrev pub AreSpreadBelow : {A : Type 0} → (ℕ → A → Bool) → List Part → List (List ℕ)
+abbrev pub AreSpreadBelow : {A : Type 0} → (ℕ → A → Bool) → List PassPart → List (List ℕ)
     → List (PassSlices A) → ℕ → Type 0
 AreSpreadBelow bit parts keys passes n =
     (m : ℕ) → m < n → (k : ℕ) → k < length keys

@@ -11,13 +11,13 @@ pub mod Des
 pub mod Words
 pub mod EachKey
 pub mod LaneKeys
-pub mod ChainEnds
+pub mod ChainingValues
 pub mod Largest
 pub mod Records
 pub mod RecordStates
 pub mod Laws
 pub mod GroupBytes
 pub mod SideBySide
-pub mod Threes
+pub mod ThreeBlocks
 pub mod JoinedEntries
 pub mod ChosenTerms

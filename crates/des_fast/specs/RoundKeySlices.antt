@@ -5,7 +5,7 @@ use Rattle.des.specs.Tables.{permuted_choice_2}
 use Rattle.des_fast.specs.declared.halves.RoundKey.{RoundKey}
 use Rattle.des_fast.specs.HalfBlocks.{round_keys_of}
 use Rattle.des_fast.specs.Slices.{InEachBlock, bits_of_slice}
-use Rattle.des_fast.specs.declared.slices.keys.Pass.{Pass}
+use Rattle.des_fast.specs.declared.slices.keys.PassKeys.{PassKeys}
 use Rattle.des_fast.specs.declared.slices.keys.PassSlices.{PassSlices}
 
 -- where the bits of C stand in the words of the last two round keys: 65 to 128 in the sixteenth,
@@ -61,7 +61,7 @@ abbrev pub round_keys_by : List Bool → Bool → List (List Bool)
 round_keys_by halves deciphers = map (round_key_of halves) (rotations deciphers)
 
 -- those of a pass that is known by the last two round keys
-abbrev pub round_keys_of_pass : Pass → List (List Bool)
+abbrev pub round_keys_of_pass : PassKeys → List (List Bool)
 round_keys_of_pass pass =
     round_keys_by (halves_in (pass.fifteenth.groups ∷ pass.sixteenth.groups ∷ [])) pass.deciphers
 

@@ -13,26 +13,26 @@ ghost use Rattle.des_fast.specs.Groups.{half_of};
 ghost use Rattle.des_fast.specs.HalfBlocks.{first_halves, last_block};
 ghost use Rattle.des_fast.specs.SideBySide.{AreExpansions, keys_of, lane};
 
+use crate::box_lookup::BoxLookup;
 use crate::halves::{Halves, block_of, word_of};
 use crate::permutations;
 use crate::rounds::{Groups, after_rounds};
 use crate::single::Des;
-use crate::ways::Way;
 use des::cipher::are_blocks;
 use des::tdes::{Pass, ThreePasses};
 use std::simd::prelude::*;
 
 /// A pass of DES, or several in a row.
-pub(crate) trait Answers {
+pub(crate) trait BlockTransform {
     // The block that a block becomes.
     ghost answered: { Self → List ℕ → List ℕ };
 
     /// Takes one block through.
-    fn answer_block<W: Way>(&self, block: &mut [u8; 8])
+    fn process_block<W: BoxLookup>(&self, block: &mut [u8; 8])
         ensures { block.new ≡ answered self.now block.old };
 
     /// Takes the halves of blocks side by side through the rounds.
-    fn answer_halves<G: Groups>(&self, left: G, right: G) -> (G, G)
+    fn process_halves<G: Groups>(&self, left: G, right: G) -> (G, G)
         requires left { AreExpansions G.BLOCKS G.word left }
         requires right { AreExpansions G.BLOCKS G.word right }
         ensures left { AreExpansions G.BLOCKS G.word result.0 }
@@ -62,33 +62,34 @@ fn groups_after<'a, G: Groups, W>(pass: &Pass<'a, Des<W>>, left: G, right: G) ->
     )
 }
 
-// The way `V` is the call's, not the cipher's: a list by a cipher of `Tables` may go without them.
-impl<'a, W> Answers for Pass<'a, Des<W>> {
+// The lookup `V` is the call's, not the cipher's: a list by a cipher of `Tables` may go without
+// them.
+impl<'a, W> BlockTransform for Pass<'a, Des<W>> {
     ghost answered = { passed_by encrypted decrypted };
 
     #[inline]
-    fn answer_block<V: Way>(&self, block: &mut [u8; 8]) {
+    fn process_block<V: BoxLookup>(&self, block: &mut [u8; 8]) {
         *block = V::after_rounds(Halves::of_block(block), self).into_block();
     }
 
     #[inline]
-    fn answer_halves<G: Groups>(&self, left: G, right: G) -> (G, G) {
+    fn process_halves<G: Groups>(&self, left: G, right: G) -> (G, G) {
         groups_after(self, left, right)
     }
 }
 
-impl<'a, W> Answers for ThreePasses<'a, Des<W>> {
+impl<'a, W> BlockTransform for ThreePasses<'a, Des<W>> {
     ghost answered = { thrice_passed encrypted decrypted };
 
     #[inline]
-    fn answer_block<V: Way>(&self, block: &mut [u8; 8]) {
+    fn process_block<V: BoxLookup>(&self, block: &mut [u8; 8]) {
         let halves = V::after_rounds(Halves::of_block(block), &self.first).swapped();
         let halves = V::after_rounds(halves, &self.second).swapped();
         *block = V::after_rounds(halves, &self.third).into_block();
     }
 
     #[inline]
-    fn answer_halves<G: Groups>(&self, left: G, right: G) -> (G, G) {
+    fn process_halves<G: Groups>(&self, left: G, right: G) -> (G, G) {
         let (left, right) = groups_after(&self.first, left, right);
         let (left, right) = groups_after(&self.second, right, left);
         groups_after(&self.third, right, left)
@@ -149,19 +150,19 @@ fn write_blocks<G: Groups>(blocks: &mut [[u8; 8]], left: G, right: G)
 }
 
 // Takes some blocks through passes, side by side.
-fn answer_side_by_side<G: Groups, A: Answers>(blocks: &mut [[u8; 8]], passes: &A)
+fn process_side_by_side<G: Groups, A: BlockTransform>(blocks: &mut [[u8; 8]], passes: &A)
     requires some { 1 ≤ length blocks.old }
     requires few { length blocks.old ≤ G.BLOCKS }
     ensures { blocks.new ≡ map (A.answered passes.now) blocks.old }
 {
     let (left, right) = halves_of_blocks::<G>(blocks);
-    let (left, right) = passes.answer_halves(left, right);
+    let (left, right) = passes.process_halves(left, right);
     write_blocks(blocks, left, right);
 }
 
 // How many of the blocks that are left go next: no clause says where one by one begins, since only
 // the time depends on it.
-fn next_count<W: Way>(left: usize) -> usize
+fn next_count<W: BoxLookup>(left: usize) -> usize
     requires { 1 ≤ left }
     ensures some { 1 ≤ result }
     ensures few { result ≤ W.Groups.BLOCKS }
@@ -175,7 +176,7 @@ fn next_count<W: Way>(left: usize) -> usize
 }
 
 /// Takes each block of a list through passes, some side by side, and then those that are left over.
-pub(crate) fn answer<W: Way, A: Answers>(blocks: &mut [[u8; 8]], passes: &A)
+pub(crate) fn process<W: BoxLookup, A: BlockTransform>(blocks: &mut [[u8; 8]], passes: &A)
     ensures blocks { All IsBlock blocks.old }
     ensures answered { blocks.new ≡ map (A.answered passes.now) blocks.old }
 {
@@ -185,9 +186,9 @@ pub(crate) fn answer<W: Way, A: Answers>(blocks: &mut [[u8; 8]], passes: &A)
         let count = next_count::<W>(blocks.len() - from);
         let part = &mut blocks[from..from + count];
         if count == 1 {
-            passes.answer_block::<W>(&mut part[0]);
+            passes.process_block::<W>(&mut part[0]);
         } else {
-            answer_side_by_side::<W::Groups, A>(part, passes);
+            process_side_by_side::<W::Groups, A>(part, passes);
         }
         from += count;
     }

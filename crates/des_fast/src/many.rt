@@ -8,11 +8,11 @@
 //! none may be. Only encryption by CBC goes block after block, since each waits for the one before
 //! it.
 //!
-//! The calls with `list` in their names take `quiet`: if it is true, no table is read at an index
-//! that depends on the key or on a block, which is tested and not proved. All other calls here are
-//! quiet ones. Those named `_by` take the width of the caller,
-//! `cipher.encrypt_many_by::<u64x4>(blocks)`, and others 128 blocks at a time. `spread_keys` spreads
-//! a key over slices once, for many short lists, each of which goes in batches.
+//! The calls with `list` in their names take `no_tables`: if it is true, no table is read at an
+//! index that depends on the key or on a block, which is tested and not proved. No other call here
+//! reads one. Those named `_by` take the width of the caller,
+//! `cipher.encrypt_many_by::<u64x4>(blocks)`, and others 128 blocks at a time. `spread_keys`
+//! spreads a key over slices once, for many short lists, each of which goes in batches.
 //!
 //! Many short messages go together, each in a lane of a batch: `KeyForEach` takes a key for each
 //! block of a list, and chains messages in step (those of MACs); `SpreadKeys`, the keys of
@@ -26,11 +26,11 @@ ghost use Rattle.des.specs.Relations.{IsTheOne};
 ghost use Rattle.des_fast.specs.SpreadKeys.{AreSlicesFor};
 
 mod batches;
+mod cbc_lists;
 mod chain_keys;
-mod chains;
+mod chaining_values;
 mod ciphers;
 mod each_key;
-mod ends;
 mod lanes;
 mod passes;
 mod records;
@@ -39,12 +39,12 @@ mod spread;
 pub use crate::slices::Slice;
 use crate::slices::{LARGEST_BATCH, PassSlices};
 pub use batches::MOST_NARROW;
+pub use chaining_values::BlockLists;
 use des::cbc;
 use des::cipher::{Relating, are_blocks};
 pub use each_key::KeyForEach;
-pub use ends::BlockLists;
 pub use lanes::LaneKeys;
-use lanes::answer_lanes_part;
+use lanes::process_lanes_part;
 pub use spread::{SpreadKeys, SpreadOnce};
 use std::simd::prelude::*;
 
@@ -59,7 +59,7 @@ fn xored(block: &[u8; 8], other: &[u8; 8]) -> [u8; 8]
 }
 
 // Takes blocks through passes, batch after batch, and then what is left over.
-fn answer<S: Slice>(blocks: &mut [[u8; 8]], passes: &[PassSlices<S>])
+fn process<S: Slice>(blocks: &mut [[u8; 8]], passes: &[PassSlices<S>])
     ensures blocks { All IsBlock blocks.old }
     ensures answered { (answer : List ℕ → List ℕ) → AreSlicesFor S.BATCH S.bit passes.now answer
         → blocks.new ≡ map answer blocks.old }
@@ -68,7 +68,7 @@ fn answer<S: Slice>(blocks: &mut [[u8; 8]], passes: &[PassSlices<S>])
     let mut from = 0;
     'parts: while from < blocks.len() {
         let count = S::BATCH.min(blocks.len() - from);
-        answer_lanes_part(&mut blocks[from..from + count], passes);
+        process_lanes_part(&mut blocks[from..from + count], passes);
         from += count;
     }
 }
@@ -76,14 +76,14 @@ fn answer<S: Slice>(blocks: &mut [[u8; 8]], passes: &[PassSlices<S>])
 /// A block cipher that treats many blocks of a list together. No call changes the cipher.
 ///
 /// A type writes the four calls of a list, which say what the relation of the key makes of it too.
-/// The others rest on them, are quiet, and say less. The calls of the five ciphers of this
+/// The others rest on them, read no table, and say less. The calls of the five ciphers of this
 /// crate take no memory, but for batches keep the halves C and D of their keys on the stack, spread
 /// over slices: 1,800 bytes for each pass of DES over vectors of two words, 3,600 over vectors of
 /// four. An empty list stays empty, and takes no time.
 pub trait ManyBlocks: Relating {
     /// Encrypts each block of 8 bytes in place, in order, as `encrypt_blocks` does, in batches of
     /// `S::BATCH` blocks and the few that are left over side by side.
-    fn encrypt_list_by<S: Slice>(&self, quiet: bool, blocks: &mut [[u8; 8]])
+    fn encrypt_list_by<S: Slice>(&self, no_tables: bool, blocks: &mut [[u8; 8]])
         ensures blocks { All IsBlock blocks.old }
         ensures encrypted { blocks.new ≡ map (Self.encrypted self.now) blocks.old }
         ensures answered { (key : List ℕ) → Self.is_made_from self.now key
@@ -91,7 +91,7 @@ pub trait ManyBlocks: Relating {
 
     /// Decrypts each block of 8 bytes in place, in order, as `decrypt_blocks` does, in batches of
     /// `S::BATCH` blocks and the few that are left over side by side.
-    fn decrypt_list_by<S: Slice>(&self, quiet: bool, blocks: &mut [[u8; 8]])
+    fn decrypt_list_by<S: Slice>(&self, no_tables: bool, blocks: &mut [[u8; 8]])
         ensures blocks { All IsBlock blocks.old }
         ensures decrypted { blocks.new ≡ map (Self.decrypted self.now) blocks.old }
         ensures answered { (key : List ℕ) → Self.is_made_from self.now key
@@ -101,7 +101,7 @@ pub trait ManyBlocks: Relating {
     /// chained from the initialization vector, as `des::cbc::encrypt` does, block after block:
     /// plaintext goes in, and the ciphertext comes out, as many blocks. Padding and authentication
     /// are left to the caller.
-    fn encrypt_cbc_list(&self, quiet: bool, iv: &[u8; 8], blocks: &mut [[u8; 8]])
+    fn encrypt_cbc_list(&self, no_tables: bool, iv: &[u8; 8], blocks: &mut [[u8; 8]])
         ensures blocks { All IsBlock blocks.old }
         ensures chained { Cbc (Self.encrypted self.now) iv.now blocks.old blocks.new }
         ensures related { (key : List ℕ) → Self.is_made_from self.now key
@@ -110,7 +110,7 @@ pub trait ManyBlocks: Relating {
     /// Decrypts in place a list of blocks of 8 bytes that CBC chained from the initialization
     /// vector, as `decrypt_cbc` does, in batches of `S::BATCH` blocks and the few that are left over
     /// side by side.
-    fn decrypt_cbc_list_by<S: Slice>(&self, quiet: bool, iv: &[u8; 8], blocks: &mut [[u8; 8]])
+    fn decrypt_cbc_list_by<S: Slice>(&self, no_tables: bool, iv: &[u8; 8], blocks: &mut [[u8; 8]])
         ensures blocks { All IsBlock blocks.old }
         ensures unchained { Unchains (Self.decrypted self.now) iv.now blocks.old blocks.new }
         ensures related { (key : List ℕ) → Self.is_made_from self.now key

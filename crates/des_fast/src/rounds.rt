@@ -13,7 +13,7 @@ ghost use Rattle.des_fast.specs.HalfBlocks.{round_keys_of, half_blocks_of};
 ghost use Rattle.des_fast.specs.SideBySide.{AreExpansions, in_direction};
 
 use crate::halves::{HalfBlock, Halves, RoundKey};
-use crate::quiet::{boxes, fours};
+use crate::no_tables::{boxes, four_blocks};
 use std::simd::prelude::*;
 
 /// A word of groups of each of some blocks.
@@ -118,7 +118,7 @@ impl Groups for u64x4 {
 
     #[inline(always)]
     fn substitute(self) -> u64x4 {
-        fours::substitute(self)
+        four_blocks::substitute(self)
     }
 
     #[inline(always)]

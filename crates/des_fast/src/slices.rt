@@ -19,7 +19,7 @@ mod selection;
 mod transposition;
 mod vectors;
 
-pub(crate) use keys::{Pass, PassSlices};
+pub(crate) use keys::{PassKeys, PassSlices};
 pub(crate) use passes::slices_through_passes;
 use rows::{read_rows, write_rows};
 use transposition::{Rows, transpose};

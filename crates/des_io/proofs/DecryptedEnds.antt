@@ -12,26 +12,26 @@ use Rattle.des_io.specs.declared.error.StreamError.TheVariants.{Read, Write, Len
 use Rattle.des_io.specs.declared.mode.Mode.{Mode}
 use Rattle.des_io.specs.declared.padding.Padding.{Padding}
 use Rattle.des_io.specs.declared.padding.Padding.TheVariants.{Pkcs7, Iso7816, Zeros, Unpadded}
-use Rattle.des_io.proofs.DecryptedPrefixes.{DeciphersPrefix-ended, HoldsPrefix-read, WithinPrefix, WithinPrefix-held}
+use Rattle.des_io.proofs.DecryptedPrefixes.{DeciphersPrefix-ended, HoldsPrefix-read, WithinPrefix, WithinPrefix-pending}
 use Rattle.des_io.proofs.DecryptedPieces.{even_bytes}
 use Rattle.des_io.proofs.PaddedLists.{padded-append, last_block}
 
 -- what was written and the last block are whole blocks
-even_whole : {decryption : List ℕ → List ℕ} {mode : Mode} {r s u v : Option (List ℕ)} {held : Option (List ℕ)}
-    → (so_far : HoldsLast decryption mode (passage_of r s u v) held) → length (joined so_far.p) % 8 ≡ 0
-even_whole {held} so_far =
+even_whole : {decryption : List ℕ → List ℕ} {mode : Mode} {r s u v : Option (List ℕ)} {pending : Option (List ℕ)}
+    → (so_far : HoldsLast decryption mode (passage_of r s u v) pending) → length (joined so_far.p) % 8 ≡ 0
+even_whole {pending} so_far =
     omega (
       arith,
       ap length (sym so_far.whole) ∙ length-append so_far.put
-          (bytes_of held),
+          (bytes_of pending),
       so_far.even,
-      even_bytes held so_far.size,
+      even_bytes pending so_far.size,
     )
 
 -- the last bytes without their padding
 pub Decrypts-ended : {decryption : List ℕ → List ℕ} {mode : Mode} (padding : Padding) {r s u v w : Option (List ℕ)}
-    {held : Option (List ℕ)} (plain : List ℕ)
-    → (so_far : HoldsLast decryption mode (passage_of r s u v) held) → padded (taken_off padding) plain ≡ bytes_of held
+    {pending : Option (List ℕ)} (plain : List ℕ)
+    → (so_far : HoldsLast decryption mode (passage_of r s u v) pending) → padded (taken_off padding) plain ≡ bytes_of pending
     → Appends v w plain
     → (all : Decrypts decryption mode padding (passage_of r s u w)) × (all.q ≡ so_far.q)
 Decrypts-ended padding {u} {v} {w} plain so_far is written = (
@@ -52,18 +52,18 @@ Decrypts-ended padding {u} {v} {w} plain so_far is written = (
 
 -- a prefix of them
 pub WithinPrefix-ended : {decryption : List ℕ → List ℕ} {mode : Mode} {padding : Padding} {limit : Option ℕ}
-    {r s u v w : Option (List ℕ)} {held : Option (List ℕ)} (plain put missing : List ℕ)
-    → (so_far : HoldsLast decryption mode (passage_of r s u v) held)
+    {r s u v w : Option (List ℕ)} {pending : Option (List ℕ)} (plain put missing : List ℕ)
+    → (so_far : HoldsLast decryption mode (passage_of r s u v) pending)
     → IsWithin limit (length so_far.q)
-    → IsAtEnd s → padded (taken_off padding) plain ≡ bytes_of held → put ++ missing ≡ plain → Appends v w put
+    → IsAtEnd s → padded (taken_off padding) plain ≡ bytes_of pending → put ++ missing ≡ plain → Appends v w put
     → WithinPrefix decryption mode padding limit (passage_of r s u w)
-WithinPrefix-ended {padding} {held} plain put missing so_far within end is begins written =
+WithinPrefix-ended {padding} {pending} plain put missing so_far within end is begins written =
     let after = padding_after (taken_off padding) (length plain % 8) in
     let prefix = sym (append_assoc put missing after) ∙ ap (λ l. l ++ after) begins ∙ is in
     record {
       prefix = DeciphersPrefix-ended put (missing ++ after) so_far prefix written;
       within = within;
-      held = inr record {
+      pending = inr record {
         plain = so_far.put ++ plain;
         missing = missing;
         end = end;
@@ -77,15 +77,15 @@ WithinPrefix-ended {padding} {held} plain put missing so_far within end is begin
 -- ---- wrong padding
 
 -- what is not the last bytes with their padding is not the whole with its padding
-wrong_whole : (padding : Padding) (held : Option (List ℕ)) (prefix all : List ℕ) → IsBlockIfThere held
-    → length prefix % 8 ≡ 0 → prefix ++ bytes_of held ≡ all
-    → (held ≡ None → all ≡ []) → ((plain : List ℕ) → padded (taken_off padding) plain ≢ bytes_of held)
+wrong_whole : (padding : Padding) (pending : Option (List ℕ)) (prefix all : List ℕ) → IsBlockIfThere pending
+    → length prefix % 8 ≡ 0 → prefix ++ bytes_of pending ≡ all
+    → (pending ≡ None → all ≡ []) → ((plain : List ℕ) → padded (taken_off padding) plain ≢ bytes_of pending)
     → (plain : List ℕ)
     → padded (taken_off padding) plain ≢ all
-wrong_whole Unpadded held prefix all size even is none wrong plain same = absurd
-    (wrong (bytes_of held) (append-nil (bytes_of held)))
-wrong_whole Zeros held prefix all size even is none wrong plain same = absurd
-    (wrong (bytes_of held) (append-nil (bytes_of held)))
+wrong_whole Unpadded pending prefix all size even is none wrong plain same = absurd
+    (wrong (bytes_of pending) (append-nil (bytes_of pending)))
+wrong_whole Zeros pending prefix all size even is none wrong plain same = absurd
+    (wrong (bytes_of pending) (append-nil (bytes_of pending)))
 wrong_whole Pkcs7 None prefix all size even is none wrong plain same = absurd (wrong plain (same ∙ none refl))
 wrong_whole Iso7816 None prefix all size even is none wrong plain same = absurd (wrong plain (same ∙ none refl))
 wrong_whole Pkcs7 (Some block) prefix all size even is none wrong plain same =
@@ -98,8 +98,8 @@ wrong_whole Iso7816 (Some block) prefix all size even is none wrong plain same =
     ∙ same ∙ sym is))
 
 -- all but a block that may be there
-all_but : (held : Option (List ℕ)) (prefix all : List ℕ) → IsBlockIfThere held → prefix ++ bytes_of held ≡ all
-    → (held ≡ None → all ≡ [])
+all_but : (pending : Option (List ℕ)) (prefix all : List ℕ) → IsBlockIfThere pending → prefix ++ bytes_of pending ≡ all
+    → (pending ≡ None → all ≡ [])
     → take (length all - 8) all ≡ prefix
 all_but None prefix all size is none =
     let empty : all ≡ [] = none refl in
@@ -109,13 +109,13 @@ all_but (Some block) prefix all size is none =
     ap (λ n. take n all) count ∙ ap (take (length prefix)) (sym is) ∙ take_at prefix block (length prefix) refl
 
 pub IsWronglyPadded-ended : {decryption : List ℕ → List ℕ} {mode : Mode} (padding : Padding)
-    {r s u v w : Option (List ℕ)} {held : Option (List ℕ)}
-    → (so_far : HoldsLast decryption mode (passage_of r s u v) held)
-    → ((plain : List ℕ) → padded (taken_off padding) plain ≢ bytes_of held)
+    {r s u v w : Option (List ℕ)} {pending : Option (List ℕ)}
+    → (so_far : HoldsLast decryption mode (passage_of r s u v) pending)
+    → ((plain : List ℕ) → padded (taken_off padding) plain ≢ bytes_of pending)
     → w ≡ v
     → IsAtEnd s → (wrong : IsWronglyPadded decryption mode padding (passage_of r s u w)) × (wrong.q ≡ so_far.q)
-IsWronglyPadded-ended padding {u} {w} {held} so_far wrong same end =
-    let none : held ≡ None → joined so_far.p ≡ [] = λ e. ap joined (so_far.none e) in (
+IsWronglyPadded-ended padding {u} {w} {pending} so_far wrong same end =
+    let none : pending ≡ None → joined so_far.p ≡ [] = λ e. ap joined (so_far.none e) in (
       record {
         q = so_far.q;
         p = so_far.p;
@@ -123,8 +123,8 @@ IsWronglyPadded-ended padding {u} {w} {held} so_far wrong same end =
         end = end;
         blocks = so_far.blocks;
         deciphered = so_far.deciphered;
-        wrong = wrong_whole padding held so_far.put (joined so_far.p) so_far.size so_far.even so_far.whole none wrong;
-        written = subst (Appends u w) (sym (all_but held so_far.put (joined so_far.p) so_far.size so_far.whole none))
+        wrong = wrong_whole padding pending so_far.put (joined so_far.p) so_far.size so_far.even so_far.whole none wrong;
+        written = subst (Appends u w) (sym (all_but pending so_far.put (joined so_far.p) so_far.size so_far.whole none))
             (subst (λ (x : Option (List ℕ)). Appends u x so_far.put) (sym same) so_far.written);
       },
       refl,
@@ -134,9 +134,9 @@ IsWronglyPadded-ended padding {u} {w} {held} so_far wrong same end =
 
 -- what a fault at the end says
 pub FailsToDecrypt-ended : (fault : StreamError) {decryption : List ℕ → List ℕ} {mode : Mode} (padding : Padding)
-    {r s u v : Option (List ℕ)} (w : Option (List ℕ)) {held : Option (List ℕ)}
-    → HoldsLast decryption mode (passage_of r s u v) held
-    → EndsStream padding (bytes_of held) v w (Err fault)
+    {r s u v : Option (List ℕ)} (w : Option (List ℕ)) {pending : Option (List ℕ)}
+    → HoldsLast decryption mode (passage_of r s u v) pending
+    → EndsStream padding (bytes_of pending) v w (Err fault)
     → IsAtEnd s → FailsToDecrypt fault decryption mode padding (passage_of r s u w)
 FailsToDecrypt-ended (Read error) padding w so_far ended end = absurd ended.0
 FailsToDecrypt-ended (Write error) padding w so_far ended end = ended.0
@@ -147,15 +147,15 @@ FailsToDecrypt-ended WrongPadding padding w so_far ended end =
 
 -- and the prefix that was written before it
 pub WithinPrefix-fault : (fault : StreamError) {decryption : List ℕ → List ℕ} {mode : Mode} {padding : Padding}
-    {limit : Option ℕ} {r s u v w : Option (List ℕ)} {held : Option (List ℕ)}
-    → (so_far : HoldsLast decryption mode (passage_of r s u v) held)
+    {limit : Option ℕ} {r s u v w : Option (List ℕ)} {pending : Option (List ℕ)}
+    → (so_far : HoldsLast decryption mode (passage_of r s u v) pending)
     → IsWithin limit (length so_far.q)
-    → EndsStream padding (bytes_of held) v w (Err fault) → IsAtEnd s
+    → EndsStream padding (bytes_of pending) v w (Err fault) → IsAtEnd s
     → WithinPrefix decryption mode padding limit (passage_of r s u w)
 WithinPrefix-fault WrongPadding {decryption} {mode} {padding} {limit} {r} {s} {u} so_far within ended end =
     let holds = HoldsPrefix-read [] so_far within (Consumes-nil s) in
     subst (λ (x : Option (List ℕ)). WithinPrefix decryption mode padding limit (passage_of r s u x)) (sym ended.1)
-    (WithinPrefix-held holds)
+    (WithinPrefix-pending holds)
 WithinPrefix-fault (Read error) so_far within ended end = absurd ended.0
 WithinPrefix-fault Start so_far within ended end = absurd ended.0
 WithinPrefix-fault (Length past) so_far within ended end = absurd ended.0

@@ -13,25 +13,25 @@ use Rattle.des_io.specs.declared.mode.Mode.{Mode}
 use Rattle.des_io.specs.declared.padding.Padding.{Padding}
 use Rattle.des_io.specs.declared.padding.Padding.TheVariants.{Unpadded}
 use Rattle.des_io.proofs.DecryptedEnds.{Decrypts-ended, WithinPrefix-ended, WithinPrefix-fault, IsWronglyPadded-ended}
-use Rattle.des_io.proofs.DecryptedPrefixes.{DeciphersPrefix-ended, DeciphersPrefix-more, HoldsPrefix-read, WithinPrefix-held, DecryptsPartPrefix-within}
+use Rattle.des_io.proofs.DecryptedPrefixes.{DeciphersPrefix-ended, DeciphersPrefix-more, HoldsPrefix-read, WithinPrefix-pending, DecryptsPartPrefix-within}
 use Rattle.des_io.proofs.ModesInPieces.{Deciphered-nil, Deciphered-only_nil}
 
 -- ---- what was written
 
 -- with the last block held back
-pub DecryptsPartPrefix-held : {decryption : List ℕ → List ℕ} {mode : Mode} {padding : Padding} {limit : Option ℕ}
+pub DecryptsPartPrefix-pending : {decryption : List ℕ → List ℕ} {mode : Mode} {padding : Padding} {limit : Option ℕ}
     {r t u w : Option (List ℕ)}
     → HoldsPrefix decryption mode limit (passage_of r t u w) → DecryptsPartPrefix decryption mode padding limit
     (passage_of r t u w)
-DecryptsPartPrefix-held holds = DecryptsPartPrefix-within (WithinPrefix-held holds)
+DecryptsPartPrefix-pending holds = DecryptsPartPrefix-within (WithinPrefix-pending holds)
 
 -- also where more was read
 pub DecryptsPartPrefix-read : {decryption : List ℕ → List ℕ} {mode : Mode} {padding : Padding} {limit : Option ℕ}
-    {r s t u v : Option (List ℕ)} {held : Option (List ℕ)} (bytes : List ℕ)
-    → HoldsPart decryption mode limit (passage_of r s u v) held → Consumes s t bytes
+    {r s t u v : Option (List ℕ)} {pending : Option (List ℕ)} (bytes : List ℕ)
+    → HoldsPart decryption mode limit (passage_of r s u v) pending → Consumes s t bytes
     → DecryptsPartPrefix decryption mode padding limit (passage_of r t u v)
 DecryptsPartPrefix-read bytes part read =
-    DecryptsPartPrefix-held (HoldsPrefix-read bytes part.holds part.within read)
+    DecryptsPartPrefix-pending (HoldsPrefix-read bytes part.holds part.within read)
 
 -- a reader that gave another byte was not at its end
 not_at_end : (r s t : Option (List ℕ)) (a b all : List ℕ) → Consumes r s a → Consumes s t b → length b ≡ 1
@@ -44,17 +44,17 @@ not_at_end (Some x) (Some y) (Some z) a b all first second one is end =
 
 -- the last block, or a prefix of it, where more follows
 DecryptsPartPrefix-followed : {decryption : List ℕ → List ℕ} {mode : Mode} {padding : Padding} {limit : Option ℕ}
-    {r s t u v w : Option (List ℕ)} {held : Option (List ℕ)} (bytes put missing : List ℕ)
-    → HoldsPart decryption mode limit (passage_of r s u v) held
+    {r s t u v w : Option (List ℕ)} {pending : Option (List ℕ)} (bytes put missing : List ℕ)
+    → HoldsPart decryption mode limit (passage_of r s u v) pending
     → Consumes s t bytes → length bytes ≡ 1
-    → put ++ missing ≡ bytes_of held → Appends v w put → DecryptsPartPrefix decryption mode padding limit
+    → put ++ missing ≡ bytes_of pending → Appends v w put → DecryptsPartPrefix decryption mode padding limit
     (passage_of r t u w)
-DecryptsPartPrefix-followed {limit} {r} {s} {t} {held} bytes put missing part read one is written =
+DecryptsPartPrefix-followed {limit} {r} {s} {t} {pending} bytes put missing part read one is written =
     record {
       prefix = DeciphersPrefix-more bytes
           (DeciphersPrefix-ended put missing part.holds is written) read;
       within = part.within;
-      held = inr record {
+      pending = inr record {
         more = λ none. omega (arith, ap length none, one);
         reached = λ all tells. elim part.ends [
           | inl end ↦ absurd (not_at_end r s t (joined part.holds.q) bytes all part.holds.read read one tells end)
@@ -79,10 +79,10 @@ FailsInPart-unpadded WrongPadding decryption mode padding limit passage v last e
 
 -- at the end of the input it may be
 FailsInPart-ended : (fault : StreamError) {decryption : List ℕ → List ℕ} {mode : Mode} (padding : Padding)
-    {limit : Option ℕ} {r s u v : Option (List ℕ)} (w : Option (List ℕ)) {held : Option (List ℕ)}
-    → (part : HoldsPart decryption mode limit (passage_of r s u v) held)
+    {limit : Option ℕ} {r s u v : Option (List ℕ)} (w : Option (List ℕ)) {pending : Option (List ℕ)}
+    → (part : HoldsPart decryption mode limit (passage_of r s u v) pending)
     → part.holds.q ≢ []
-    → EndsStream padding (bytes_of held) v w (Err fault) → IsAtEnd s
+    → EndsStream padding (bytes_of pending) v w (Err fault) → IsAtEnd s
     → FailsInPart fault decryption mode padding limit (passage_of r s u w)
 FailsInPart-ended (Read error) padding w part some ended end = absurd ended.0
 FailsInPart-ended (Write error) padding w part some ended end = ended.0
@@ -100,9 +100,9 @@ FailsInPart-ended WrongPadding padding {limit} w part some ended end =
 
 -- a part after which nothing was read
 HoldsPart-same : {decryption : List ℕ → List ℕ} {mode : Mode} {limit : Option ℕ} {r s t u v : Option (List ℕ)}
-    {held : Option (List ℕ)} (bytes : List ℕ) → HoldsPart decryption mode limit (passage_of r s u v) held
+    {pending : Option (List ℕ)} (bytes : List ℕ) → HoldsPart decryption mode limit (passage_of r s u v) pending
     → Consumes s t bytes → bytes ≡ [] → IsAtEnd t
-    → HoldsPart decryption mode limit (passage_of r t u v) held
+    → HoldsPart decryption mode limit (passage_of r t u v) pending
 HoldsPart-same {r} {s} {t} bytes part read none end =
     let holds = part.holds in
     record {
@@ -134,8 +134,8 @@ some_blocks {decryption} {mode} {block} holds none =
 
 -- where none was held back, none was read
 pub no_blocks : {decryption : List ℕ → List ℕ} {mode : Mode} {r s : Option (List ℕ)} (t : Option (List ℕ))
-    {u v : Option (List ℕ)} {held : Option (List ℕ)} (bytes : List ℕ)
-    → held ≡ None → HoldsLast decryption mode (passage_of r s u v) held → Consumes s t bytes → (bytes ≡ []) × IsAtEnd t
+    {u v : Option (List ℕ)} {pending : Option (List ℕ)} (bytes : List ℕ)
+    → pending ≡ None → HoldsLast decryption mode (passage_of r s u v) pending → Consumes s t bytes → (bytes ≡ []) × IsAtEnd t
     → Consumes r t [] × IsAtEnd t
 no_blocks {decryption} {mode} {r} {s} t bytes is holds read end =
     let blocks : holds.q ≡ [] = Deciphered-only_nil decryption mode holds.q holds.p holds.deciphered (holds.none is) in
@@ -145,10 +145,10 @@ no_blocks {decryption} {mode} {r} {s} t bytes is holds read end =
 
 -- a part that ends with the input, or before it
 DecryptsPart-ended : {decryption : List ℕ → List ℕ} {mode : Mode} {padding : Padding} (taken : Padding)
-    {limit : Option ℕ} {r s t u v w : Option (List ℕ)} {held : Option (List ℕ)} (bytes plain : List ℕ)
-    → (part : HoldsPart decryption mode limit (passage_of r s u v) held)
+    {limit : Option ℕ} {r s t u v w : Option (List ℕ)} {pending : Option (List ℕ)} (bytes plain : List ℕ)
+    → (part : HoldsPart decryption mode limit (passage_of r s u v) pending)
     → Consumes s t bytes
-    → padded (taken_off taken) plain ≡ bytes_of held → Appends v w plain
+    → padded (taken_off taken) plain ≡ bytes_of pending → Appends v w plain
     → ((bytes ≡ []) × IsAtEnd t × (taken ≡ padding) × (part.holds.q ≢ [])) ⊎ ((length bytes ≡ 1) × (taken ≡ Unpadded))
     → DecryptsPart decryption mode padding limit (passage_of r t u w)
 DecryptsPart-ended taken {limit} {s} bytes plain part read is written after =
@@ -176,15 +176,15 @@ pub record EndsPart (result : Result (Unit {0}) StreamError) (decryption : List 
 
 -- what was written where more follows and the writer failed
 prefix_more : (fault : StreamError) {decryption : List ℕ → List ℕ} {mode : Mode} {padding : Padding} {limit : Option ℕ}
-    {r s t u v w : Option (List ℕ)} {held : Option (List ℕ)} (bytes : List ℕ)
-    → HoldsPart decryption mode limit (passage_of r s u v) held → Consumes s t bytes
-    → length bytes ≡ 1 → EndsStream Unpadded (bytes_of held) v w (Err fault)
+    {r s t u v w : Option (List ℕ)} {pending : Option (List ℕ)} (bytes : List ℕ)
+    → HoldsPart decryption mode limit (passage_of r s u v) pending → Consumes s t bytes
+    → length bytes ≡ 1 → EndsStream Unpadded (bytes_of pending) v w (Err fault)
     → DecryptsPartPrefix decryption mode padding limit (passage_of r t u w)
 prefix_more (Read error) bytes part read one ended = absurd ended.0
 prefix_more Start bytes part read one ended = absurd ended.0
 prefix_more (Length past) bytes part read one ended = absurd ended.0
-prefix_more WrongPadding {held} bytes part read one ended =
-    absurd (ended.0 (bytes_of held) (append-nil (bytes_of held)))
+prefix_more WrongPadding {pending} bytes part read one ended =
+    absurd (ended.0 (bytes_of pending) (append-nil (bytes_of pending)))
 prefix_more (Write error) bytes part read one ended =
     let (plain, k, is, written) = ended.1 in
     DecryptsPartPrefix-followed bytes (take k plain) (drop k plain) part read one
@@ -192,9 +192,9 @@ prefix_more (Write error) bytes part read one ended =
 
 -- of a part that more follows
 pub EndsPart-more : (result : Result (Unit {0}) StreamError) {decryption : List ℕ → List ℕ} {mode : Mode}
-    (padding : Padding) {limit : Option ℕ} {r s t u v w : Option (List ℕ)} {held : Option (List ℕ)} (bytes : List ℕ)
-    → HoldsPart decryption mode limit (passage_of r s u v) held → Consumes s t bytes
-    → length bytes ≡ 1 → EndsStream Unpadded (bytes_of held) v w result
+    (padding : Padding) {limit : Option ℕ} {r s t u v w : Option (List ℕ)} {pending : Option (List ℕ)} (bytes : List ℕ)
+    → HoldsPart decryption mode limit (passage_of r s u v) pending → Consumes s t bytes
+    → length bytes ≡ 1 → EndsStream Unpadded (bytes_of pending) v w result
     → EndsPart result decryption mode padding limit (passage_of r t u w)
 EndsPart-more (Ok done) padding bytes part read one ended =
     let (plain, is, written) = ended in
@@ -203,10 +203,10 @@ EndsPart-more (Ok done) padding bytes part read one ended =
       prefix = DecryptsPartPrefix-followed bytes plain [] part read one is written;
       fault = tt;
     }
-EndsPart-more (Err fault) padding {r} {t} {u} {v} {w} {held} bytes part read one ended = record {
+EndsPart-more (Err fault) padding {r} {t} {u} {v} {w} {pending} bytes part read one ended = record {
   done = tt;
   prefix = prefix_more fault bytes part read one ended;
-  fault = FailsInPart-unpadded fault _ _ padding _ (passage_of r t u w) v (bytes_of held) ended;
+  fault = FailsInPart-unpadded fault _ _ padding _ (passage_of r t u w) v (bytes_of pending) ended;
 }
 
 -- of a part at the end of the input, whose last block was held back
@@ -231,12 +231,12 @@ ends_some (Err fault) {padding} {w} part end ended = record {
 }
 
 pub EndsPart-last : (result : Result (Unit {0}) StreamError) {decryption : List ℕ → List ℕ} {mode : Mode}
-    {padding : Padding} {limit : Option ℕ} {r s t u v w : Option (List ℕ)} (held : Option (List ℕ))
-    (block bytes : List ℕ) → held ≡ Some block
-    → HoldsPart decryption mode limit (passage_of r s u v) held → Consumes s t bytes → bytes ≡ [] → IsAtEnd t
-    → EndsStream padding (bytes_of held) v w result
+    {padding : Padding} {limit : Option ℕ} {r s t u v w : Option (List ℕ)} (pending : Option (List ℕ))
+    (block bytes : List ℕ) → pending ≡ Some block
+    → HoldsPart decryption mode limit (passage_of r s u v) pending → Consumes s t bytes → bytes ≡ [] → IsAtEnd t
+    → EndsStream padding (bytes_of pending) v w result
     → EndsPart result decryption mode padding limit (passage_of r t u w)
 EndsPart-last result None block bytes is part read none end ended = absurd
     (none-some block is)
-EndsPart-last result (Some held) block bytes is part read none end ended =
+EndsPart-last result (Some pending) block bytes is part read none end ended =
     ends_some result (HoldsPart-same bytes part read none end) end ended

@@ -14,7 +14,7 @@ use Rattle.des_io.proofs.ModesInPieces.{Deciphered-append, Deciphered-none, mode
 -- ---- one piece
 
 -- a block that may be there is whole
-pub even_bytes : (held : Option (List ℕ)) → IsBlockIfThere held → length (bytes_of held) % 8 ≡ 0
+pub even_bytes : (pending : Option (List ℕ)) → IsBlockIfThere pending → length (bytes_of pending) % 8 ≡ 0
 even_bytes None size = refl
 even_bytes (Some block) size = ap (λ n. n % 8) size
 
@@ -34,18 +34,18 @@ last_bytes prefix blocks before last eight is =
     )
 
 -- a part of the block that was held back
-pub WritesPiece-held : {held next : Option (List ℕ)} {blocks : List (List ℕ)} (prefix : List (List ℕ)) (last : List ℕ)
+pub WritesPiece-pending : {pending next : Option (List ℕ)} {blocks : List (List ℕ)} (prefix : List (List ℕ)) (last : List ℕ)
     {u v : Option (List ℕ)} (k : ℕ) {Succeeds : Type 0} → (Succeeds → ⊥) → length last ≡ 8
     → blocks ≡ prefix ++ last ∷ []
-    → Appends u v (take k (bytes_of held))
-    → WritesPiece held next blocks u v Succeeds
-WritesPiece-held {held} {blocks} prefix last k fails eight is written = record {
-  put = take k (bytes_of held);
-  missing = drop k (bytes_of held) ++ joined blocks;
+    → Appends u v (take k (bytes_of pending))
+    → WritesPiece pending next blocks u v Succeeds
+WritesPiece-pending {pending} {blocks} prefix last k fails eight is written = record {
+  put = take k (bytes_of pending);
+  missing = drop k (bytes_of pending) ++ joined blocks;
   written = written;
-  begins = sym (append_assoc (take k (bytes_of held)) (drop k (bytes_of held)) (joined blocks))
-      ∙ ap (λ l. l ++ joined blocks) (take-append-drop k (bytes_of held));
-  back = inr (last_bytes (drop k (bytes_of held)) blocks prefix last eight is);
+  begins = sym (append_assoc (take k (bytes_of pending)) (drop k (bytes_of pending)) (joined blocks))
+      ∙ ap (λ l. l ++ joined blocks) (take-append-drop k (bytes_of pending));
+  back = inr (last_bytes (drop k (bytes_of pending)) blocks prefix last eight is);
   last = λ s. absurd (fails s);
   size = λ s. absurd (fails s);
   even = λ s. absurd (fails s);
@@ -53,19 +53,19 @@ WritesPiece-held {held} {blocks} prefix last k fails eight is written = record {
 }
 
 -- the whole of it, and a part of the blocks but for the last one
-pub WritesPiece-prefix : {held next : Option (List ℕ)} {blocks : List (List ℕ)} (prefix : List (List ℕ)) (last : List ℕ)
+pub WritesPiece-prefix : {pending next : Option (List ℕ)} {blocks : List (List ℕ)} (prefix : List (List ℕ)) (last : List ℕ)
     {u : Option (List ℕ)} (v : Option (List ℕ)) {w : Option (List ℕ)} (k m : ℕ) {Succeeds : Type 0} → (Succeeds → ⊥)
-    → length last ≡ 8 → blocks ≡ prefix ++ last ∷ [] → k ≡ length (bytes_of held)
-    → Appends u v (take k (bytes_of held)) → Appends v w (take m (joined prefix))
-    → WritesPiece held next blocks u w Succeeds
-WritesPiece-prefix {held} prefix last {u} v {w} k m fails eight is whole first second =
-    let all : take k (bytes_of held) ≡ bytes_of held = take_all k (bytes_of held) (omega (arith, whole)) in
+    → length last ≡ 8 → blocks ≡ prefix ++ last ∷ [] → k ≡ length (bytes_of pending)
+    → Appends u v (take k (bytes_of pending)) → Appends v w (take m (joined prefix))
+    → WritesPiece pending next blocks u w Succeeds
+WritesPiece-prefix {pending} prefix last {u} v {w} k m fails eight is whole first second =
+    let all : take k (bytes_of pending) ≡ bytes_of pending = take_all k (bytes_of pending) (omega (arith, whole)) in
     record {
-      put = bytes_of held ++ take m (joined prefix);
+      put = bytes_of pending ++ take m (joined prefix);
       missing = drop m (joined prefix) ++ joined (last ∷ []);
       written = subst (Appends u w) (ap (λ l. l ++ take m (joined prefix)) all) (Appends-trans u v w _ _ first second);
-      begins = append_assoc (bytes_of held) (take m (joined prefix)) (drop m (joined prefix) ++ joined (last ∷ []))
-          ∙ ap (λ l. bytes_of held ++ l) (sym (append_assoc (take m (joined prefix)) (drop m (joined prefix))
+      begins = append_assoc (bytes_of pending) (take m (joined prefix)) (drop m (joined prefix) ++ joined (last ∷ []))
+          ∙ ap (λ l. bytes_of pending ++ l) (sym (append_assoc (take m (joined prefix)) (drop m (joined prefix))
           (joined (last ∷ [])))
           ∙ ap (λ l. l ++ joined (last ∷ [])) (take-append-drop m (joined prefix))
           ∙ sym (joined-append prefix (last ∷ [])) ∙ ap joined (sym is));
@@ -85,45 +85,45 @@ length-last blocks prefix last is sizes =
     ∙ ap (λ (l : List (List ℕ)). get_or l (length prefix) []) (sym is)) ∙ sizes (length prefix) within
 
 -- all but the last block, which is then held back
-pub WritesPiece-whole : {held : Option (List ℕ)} {blocks : List (List ℕ)} (prefix : List (List ℕ)) (last : List ℕ)
+pub WritesPiece-whole : {pending : Option (List ℕ)} {blocks : List (List ℕ)} (prefix : List (List ℕ)) (last : List ℕ)
     {u : Option (List ℕ)} (v : Option (List ℕ)) {w : Option (List ℕ)} (k m : ℕ) {Succeeds : Type 0} → length last ≡ 8
-    → blocks ≡ prefix ++ last ∷ [] → k ≡ length (bytes_of held)
-    → Appends u v (take k (bytes_of held))
+    → blocks ≡ prefix ++ last ∷ [] → k ≡ length (bytes_of pending)
+    → Appends u v (take k (bytes_of pending))
     → m ≡ length (joined prefix) → length (joined prefix) ≡ length prefix * 8 → Appends v w (take m (joined prefix))
-    → WritesPiece held (Some last) blocks u w Succeeds
-WritesPiece-whole {held} prefix last {u} v {w} k m eight is whole first full size second =
-    let all : take k (bytes_of held) ≡ bytes_of held = take_all k (bytes_of held) (omega (arith, whole)) in
+    → WritesPiece pending (Some last) blocks u w Succeeds
+WritesPiece-whole {pending} prefix last {u} v {w} k m eight is whole first full size second =
+    let all : take k (bytes_of pending) ≡ bytes_of pending = take_all k (bytes_of pending) (omega (arith, whole)) in
     let rest : take m (joined prefix) ≡ joined prefix = take_all m (joined prefix) (omega (arith, full)) in
     record {
-      put = bytes_of held ++ joined prefix;
+      put = bytes_of pending ++ joined prefix;
       missing = last;
       written = subst (Appends u w) (ap₂ ◌++◌ all rest) (Appends-trans u v w _ _ first second);
-      begins = append_assoc (bytes_of held) (joined prefix) last
-          ∙ ap (λ l. bytes_of held ++ l) (ap (λ l. joined prefix ++ l) (sym (append-nil last))
+      begins = append_assoc (bytes_of pending) (joined prefix) last
+          ∙ ap (λ l. bytes_of pending ++ l) (ap (λ l. joined prefix ++ l) (sym (append-nil last))
           ∙ sym (joined-append prefix (last ∷ [])) ∙ ap joined (sym is));
       back = inr (omega (arith, eight));
       last = λ s. refl;
       size = λ s before. eight;
-      even = λ s before. omega (arith, length-append (bytes_of held) (joined prefix), size, even_bytes held before);
+      even = λ s before. omega (arith, length-append (bytes_of pending) (joined prefix), size, even_bytes pending before);
       none = λ s e. cc;
     }
 
 -- of no blocks nothing
-pub WritesPiece-none : (held : Option (List ℕ)) (blocks : List (List ℕ)) (u : Option (List ℕ)) (Succeeds : Type 0)
+pub WritesPiece-none : (pending : Option (List ℕ)) (blocks : List (List ℕ)) (u : Option (List ℕ)) (Succeeds : Type 0)
     → length blocks ≡ 0
-    → WritesPiece held held blocks u u Succeeds
-WritesPiece-none held [] u Succeeds none = record {
+    → WritesPiece pending pending blocks u u Succeeds
+WritesPiece-none pending [] u Succeeds none = record {
   put = [];
-  missing = bytes_of held;
+  missing = bytes_of pending;
   written = Appends-nil u;
-  begins = sym (append-nil (bytes_of held));
+  begins = sym (append-nil (bytes_of pending));
   back = inl refl;
   last = λ s. refl;
   size = λ s before. before;
   even = λ s before. refl;
   none = λ s e. (e, refl);
 }
-WritesPiece-none held (block ∷ blocks) u Succeeds none = absurd (omega arith)
+WritesPiece-none pending (block ∷ blocks) u Succeeds none = absurd (omega arith)
 
 -- ---- piece after piece
 
@@ -149,13 +149,13 @@ HoldsLast-none decryption mode r u = (
 
 -- one piece more
 pub HoldsLast-more : {decryption : List ℕ → List ℕ} {mode next last : Mode} {r s t u v w : Option (List ℕ)}
-    {held then : Option (List ℕ)} {bytes : List ℕ} {Succeeds : Type 0} → Succeeds
-    → (so_far : HoldsLast decryption mode (passage_of r s u v) held) → next ≡ mode_after mode so_far.q
+    {pending then : Option (List ℕ)} {bytes : List ℕ} {Succeeds : Type 0} → Succeeds
+    → (so_far : HoldsLast decryption mode (passage_of r s u v) pending) → next ≡ mode_after mode so_far.q
     → Consumes s t bytes
-    → (piece : DeciphersPiece decryption bytes (stage_of next held v) (stage_of last then w) Succeeds)
+    → (piece : DeciphersPiece decryption bytes (stage_of next pending v) (stage_of last then w) Succeeds)
     → (all : HoldsLast decryption mode (passage_of r t u w) then) × (last ≡ mode_after mode all.q)
     × (all.q ≡ so_far.q ++ piece.q)
-HoldsLast-more {decryption} {mode} {r} {s} {t} {u} {v} {w} {held} {then} succeeds so_far after read piece =
+HoldsLast-more {decryption} {mode} {r} {s} {t} {u} {v} {w} {pending} {then} succeeds so_far after read piece =
     let new = piece.written in (
       record {
         q = so_far.q ++ piece.q;
@@ -169,7 +169,7 @@ HoldsLast-more {decryption} {mode} {r} {s} {t} {u} {v} {w} {held} {then} succeed
             (rw (sym after) piece.deciphered);
         whole = append_assoc so_far.put new.put (bytes_of then)
             ∙ ap (λ l. so_far.put ++ l) (ap (λ l. new.put ++ l) (sym (new.last succeeds)) ∙ new.begins)
-            ∙ sym (append_assoc so_far.put (bytes_of held) (joined piece.p))
+            ∙ sym (append_assoc so_far.put (bytes_of pending) (joined piece.p))
             ∙ ap (λ l. l ++ joined piece.p) so_far.whole
             ∙ sym (joined-append so_far.p piece.p);
         size = new.size succeeds so_far.size;
@@ -182,32 +182,32 @@ HoldsLast-more {decryption} {mode} {r} {s} {t} {u} {v} {w} {held} {then} succeed
     )
 
 -- the blocks of a piece are as many as its bytes have
-pub length-piece : {decryption : List ℕ → List ℕ} {mode next : Mode} {bytes : List ℕ} {held then v w : Option (List ℕ)}
-    {Succeeds : Type 0} (n : ℕ) → length bytes ≡ n → (piece : DeciphersPiece decryption bytes (stage_of mode held v)
+pub length-piece : {decryption : List ℕ → List ℕ} {mode next : Mode} {bytes : List ℕ} {pending then v w : Option (List ℕ)}
+    {Succeeds : Type 0} (n : ℕ) → length bytes ≡ n → (piece : DeciphersPiece decryption bytes (stage_of mode pending v)
     (stage_of next then w) Succeeds)
     → 8 * length piece.q ≡ n
 length-piece n count piece = sym (length-joined piece.q piece.blocks)
     ∙ ap length piece.whole ∙ count
 
 -- the block that was held back is missing, or there was none and nothing was written
-pub held_back : {decryption : List ℕ → List ℕ} {mode : Mode} {r s u v : Option (List ℕ)} (held : Option (List ℕ))
-    → (so_far : HoldsLast decryption mode (passage_of r s u v) held) → IsHeldBack so_far.put (bytes_of held)
+pub held_back : {decryption : List ℕ → List ℕ} {mode : Mode} {r s u v : Option (List ℕ)} (pending : Option (List ℕ))
+    → (so_far : HoldsLast decryption mode (passage_of r s u v) pending) → IsHeldBack so_far.put (bytes_of pending)
 held_back None so_far = inl (sym (append-nil so_far.put) ∙ so_far.whole
     ∙ ap joined (so_far.none refl))
 held_back (Some block) so_far = inr (omega (arith, so_far.size))
 
 -- and after one piece more, perhaps not the whole of it
 pub held_back-more : {decryption : List ℕ → List ℕ} {mode : Mode} {r s u v w : Option (List ℕ)}
-    {held then : Option (List ℕ)} {blocks : List (List ℕ)} {Succeeds : Type 0}
-    → (so_far : HoldsLast decryption mode (passage_of r s u v) held)
-    → (new : WritesPiece held then blocks v w Succeeds)
+    {pending then : Option (List ℕ)} {blocks : List (List ℕ)} {Succeeds : Type 0}
+    → (so_far : HoldsLast decryption mode (passage_of r s u v) pending)
+    → (new : WritesPiece pending then blocks v w Succeeds)
     → IsHeldBack (so_far.put ++ new.put) new.missing
-held_back-more {held} {blocks} so_far new = elim new.back [
-  | inl none ↦ elim (held_back held so_far) [
+held_back-more {pending} {blocks} so_far new = elim new.back [
+  | inl none ↦ elim (held_back pending so_far) [
     | inl nothing ↦ inl (ap₂ ◌++◌ nothing none)
     | inr eight ↦
-        let all : new.missing ≡ bytes_of held ++ joined blocks = ap (λ l. l ++ new.missing) (sym none) ∙ new.begins in
-        inr (omega (arith, ap length all ∙ length-append (bytes_of held) (joined blocks), eight))
+        let all : new.missing ≡ bytes_of pending ++ joined blocks = ap (λ l. l ++ new.missing) (sym none) ∙ new.begins in
+        inr (omega (arith, ap length all ∙ length-append (bytes_of pending) (joined blocks), eight))
   ]
   | inr eight ↦ inr eight
 ]

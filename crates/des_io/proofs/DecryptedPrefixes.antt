@@ -15,8 +15,8 @@ use Rattle.des_io.proofs.ModesInPieces.{Deciphered-append}
 
 -- after a part of what was held back
 abbrev pub DeciphersPrefix-ended : {decryption : List ℕ → List ℕ} {mode : Mode} {r s u v w : Option (List ℕ)}
-    {held : Option (List ℕ)} (put missing : List ℕ)
-    → HoldsLast decryption mode (passage_of r s u v) held → put ++ missing ≡ bytes_of held → Appends v w put
+    {pending : Option (List ℕ)} (put missing : List ℕ)
+    → HoldsLast decryption mode (passage_of r s u v) pending → put ++ missing ≡ bytes_of pending → Appends v w put
     → DeciphersPrefix decryption mode (passage_of r s u w)
 DeciphersPrefix-ended {r} {s} {u} {v} {w} put missing so_far is written = record {
   q = so_far.q;
@@ -54,17 +54,17 @@ DeciphersPrefix-more {r} {s} {t} bytes prefix read = record {
 
 -- after bytes that were read and not written
 pub HoldsPrefix-read : {decryption : List ℕ → List ℕ} {mode : Mode} {limit : Option ℕ} {r s t u v : Option (List ℕ)}
-    {held : Option (List ℕ)} (bytes : List ℕ) → (so_far : HoldsLast decryption mode (passage_of r s u v) held)
+    {pending : Option (List ℕ)} (bytes : List ℕ) → (so_far : HoldsLast decryption mode (passage_of r s u v) pending)
     → IsWithin limit (length so_far.q)
     → Consumes s t bytes
     → HoldsPrefix decryption mode limit (passage_of r t u v)
-HoldsPrefix-read {r} {s} {t} {held} bytes so_far within read = record {
+HoldsPrefix-read {r} {s} {t} {pending} bytes so_far within read = record {
   prefix = record {
     q = so_far.q;
     p = so_far.p;
     rest = bytes;
     put = so_far.put;
-    missing = bytes_of held;
+    missing = bytes_of pending;
     read = Consumes-trans r s t _ _ so_far.read read;
     blocks = so_far.blocks;
     deciphered = so_far.deciphered;
@@ -72,17 +72,17 @@ HoldsPrefix-read {r} {s} {t} {held} bytes so_far within read = record {
     written = so_far.written;
   };
   within = within;
-  held = held_back held so_far;
+  pending = held_back pending so_far;
 }
 
 -- after a piece that was written, perhaps not the whole of it
 pub HoldsPrefix-written : {decryption : List ℕ → List ℕ} {mode next last : Mode} {limit : Option ℕ}
-    {r s t u v w : Option (List ℕ)} {held then : Option (List ℕ)} {bytes : List ℕ} {Succeeds : Type 0}
-    → (so_far : HoldsLast decryption mode (passage_of r s u v) held)
+    {r s t u v w : Option (List ℕ)} {pending then : Option (List ℕ)} {bytes : List ℕ} {Succeeds : Type 0}
+    → (so_far : HoldsLast decryption mode (passage_of r s u v) pending)
     → next ≡ mode_after mode so_far.q → Consumes s t bytes
-    → (piece : DeciphersPiece decryption bytes (stage_of next held v) (stage_of last then w) Succeeds)
+    → (piece : DeciphersPiece decryption bytes (stage_of next pending v) (stage_of last then w) Succeeds)
     → IsWithin limit (length (so_far.q ++ piece.q)) → HoldsPrefix decryption mode limit (passage_of r t u w)
-HoldsPrefix-written {decryption} {mode} {r} {s} {t} {u} {v} {w} {held} so_far after read piece within =
+HoldsPrefix-written {decryption} {mode} {r} {s} {t} {u} {v} {w} {pending} so_far after read piece within =
     let new = piece.written in
     record {
       prefix = record {
@@ -99,13 +99,13 @@ HoldsPrefix-written {decryption} {mode} {r} {s} {t} {u} {v} {w} {held} so_far af
         deciphered = Deciphered-append decryption mode so_far.q so_far.p piece.q piece.p so_far.deciphered
             (rw (sym after) piece.deciphered);
         begins = append_assoc so_far.put new.put new.missing ∙ ap (λ l. so_far.put ++ l) new.begins
-            ∙ sym (append_assoc so_far.put (bytes_of held) (joined piece.p))
+            ∙ sym (append_assoc so_far.put (bytes_of pending) (joined piece.p))
             ∙ ap (λ l. l ++ joined piece.p) so_far.whole
             ∙ sym (joined-append so_far.p piece.p);
         written = Appends-trans u v w _ _ so_far.written new.written;
       };
       within = within;
-      held = held_back-more so_far new;
+      pending = held_back-more so_far new;
     }
 
 -- ---- within a limit, also at the end
@@ -116,31 +116,31 @@ pub record WithinPrefix (decryption : List ℕ → List ℕ) (mode : Mode) (padd
     (passage : Passage) : Type 0 where
   pub prefix : DeciphersPrefix decryption mode passage
   pub within : IsWithin limit (length prefix.q)
-  pub held : IsHeldBack prefix.put prefix.missing ⊎ BeginsPlain padding prefix.p prefix.rest prefix.put passage.read_to
+  pub pending : IsHeldBack prefix.put prefix.missing ⊎ BeginsPlain padding prefix.p prefix.rest prefix.put passage.read_to
 
-pub WithinPrefix-held : {decryption : List ℕ → List ℕ} {mode : Mode} {padding : Padding} {limit : Option ℕ}
+pub WithinPrefix-pending : {decryption : List ℕ → List ℕ} {mode : Mode} {padding : Padding} {limit : Option ℕ}
     {passage : Passage}
     → HoldsPrefix decryption mode limit passage → WithinPrefix decryption mode padding limit passage
-WithinPrefix-held holds = record
-    { prefix = holds.prefix; within = holds.within; held = inl holds.held }
+WithinPrefix-pending holds = record
+    { prefix = holds.prefix; within = holds.within; pending = inl holds.pending }
 
 -- of a stream
 pub DecryptsPrefix-within : {decryption : List ℕ → List ℕ} {mode : Mode} {padding : Padding} {limit : Option ℕ}
     {passage : Passage}
     → WithinPrefix decryption mode padding limit passage → DecryptsPrefix decryption mode padding passage
-DecryptsPrefix-within all = record { prefix = all.prefix; held = all.held }
+DecryptsPrefix-within all = record { prefix = all.prefix; pending = all.pending }
 
 -- of a part
 pub DecryptsPartPrefix-within : {decryption : List ℕ → List ℕ} {mode : Mode} {padding : Padding} {limit : Option ℕ}
     {passage : Passage}
     → WithinPrefix decryption mode padding limit passage → DecryptsPartPrefix decryption mode padding limit passage
 DecryptsPartPrefix-within all = record
-    { prefix = all.prefix; within = all.within; held = inl all.held }
+    { prefix = all.prefix; within = all.within; pending = inl all.pending }
 
 -- ---- the end within a block
 
 pub EndsInPart-read : {decryption : List ℕ → List ℕ} {mode : Mode} (limit : Option ℕ) {r s t u v : Option (List ℕ)}
-    {held : Option (List ℕ)} (bytes : List ℕ) (n : ℕ) → (so_far : HoldsLast decryption mode (passage_of r s u v) held)
+    {pending : Option (List ℕ)} (bytes : List ℕ) (n : ℕ) → (so_far : HoldsLast decryption mode (passage_of r s u v) pending)
     → Consumes s t bytes → IsAtEnd t
     → length bytes ≡ n → n % 8 ≢ 0
     → ((all : ℕ) → all ≡ 8 * length so_far.q + n → IsWithin limit (all / 8 + 1)) → EndsInPart (n % 8) limit r t

@@ -19,7 +19,7 @@ bytes_of None = []
 bytes_of (Some block) = block
 
 -- a block that may be there has eight bytes
-abbrev pub IsBlockIfThere : (held : Option (List ℕ)) → Type 0
+abbrev pub IsBlockIfThere : (pending : Option (List ℕ)) → Type 0
 IsBlockIfThere None = ⊤
 IsBlockIfThere (Some block) = length block ≡ 8
 
@@ -93,27 +93,27 @@ IsHeldBack put missing = (put ≡ []) ⊎ (8 ≤ length missing)
 
 -- the writer has a prefix of the block that was held back and of the blocks after it, but for the
 -- last block, or at success all but for it, and it is held back
-pub record WritesPiece (held next : Option (List ℕ)) (blocks : List (List ℕ))
+pub record WritesPiece (pending next : Option (List ℕ)) (blocks : List (List ℕ))
     (written_from written_to : Option (List ℕ)) (Succeeds : Type 0) : Type 0 where
   pub put : List ℕ
   pub missing : List ℕ
   pub written : Appends written_from written_to put
-  pub begins : put ++ missing ≡ bytes_of held ++ joined blocks
+  pub begins : put ++ missing ≡ bytes_of pending ++ joined blocks
   pub back : IsHeldBack put missing
   pub last : Succeeds → missing ≡ bytes_of next
-  pub size : Succeeds → IsBlockIfThere held → IsBlockIfThere next
-  pub even : Succeeds → IsBlockIfThere held → length put % 8 ≡ 0
-  pub none : Succeeds → next ≡ None → (held ≡ None) × (blocks ≡ [])
+  pub size : Succeeds → IsBlockIfThere pending → IsBlockIfThere next
+  pub even : Succeeds → IsBlockIfThere pending → length put % 8 ≡ 0
+  pub none : Succeeds → next ≡ None → (pending ≡ None) × (blocks ≡ [])
 
 -- how far a decryption has come: the mode of the block that follows, the block that is held back, and
 -- what the writer holds
 pub record Stage : Type 0 where
   pub mode : Mode
-  pub held : Option (List ℕ)
+  pub pending : Option (List ℕ)
   pub written : Option (List ℕ)
 
-abbrev pub stage_of : (mode : Mode) (held written : Option (List ℕ)) → Stage
-stage_of mode held written = record { mode = mode; held = held; written = written }
+abbrev pub stage_of : (mode : Mode) (pending written : Option (List ℕ)) → Stage
+stage_of mode pending written = record { mode = mode; pending = pending; written = written }
 
 -- whole blocks q, which the bytes are, are p deciphered, of which the writer has what `WritesPiece`
 -- says
@@ -126,7 +126,7 @@ pub record DeciphersPiece (decryption : List ℕ → List ℕ) (bytes : List ℕ
   pub deciphered : Deciphered decryption from.mode q p
   pub after : to.mode ≡ mode_after from.mode q
   pub count : length p ≡ length q
-  pub written : WritesPiece from.held to.held p from.written to.written Succeeds
+  pub written : WritesPiece from.pending to.pending p from.written to.written Succeeds
 
 -- blocks q were read, and p is q deciphered; bytes were written that with the padding that is taken
 -- off are p, and whole blocks
@@ -194,7 +194,7 @@ pub record HoldsPrefix (decryption : List ℕ → List ℕ) (mode : Mode) (limit
     : Type 0 where
   pub prefix : DeciphersPrefix decryption mode passage
   pub within : IsWithin limit (length prefix.q)
-  pub held : IsHeldBack prefix.put prefix.missing
+  pub pending : IsHeldBack prefix.put prefix.missing
 
 -- all was read, and the bytes that were written begin those which with the padding that is taken off
 -- are p
@@ -212,7 +212,7 @@ pub record BeginsPlain (padding : Padding) (p : List (List ℕ)) (rest put : Lis
 pub record DecryptsPrefix (decryption : List ℕ → List ℕ) (mode : Mode) (padding : Padding) (passage : Passage)
     : Type 0 where
   pub prefix : DeciphersPrefix decryption mode passage
-  pub held : IsHeldBack prefix.put prefix.missing
+  pub pending : IsHeldBack prefix.put prefix.missing
       ⊎ BeginsPlain padding prefix.p prefix.rest prefix.put passage.read_to
 
 -- ---- parts
@@ -259,6 +259,6 @@ pub record DecryptsPartPrefix (decryption : List ℕ → List ℕ) (mode : Mode)
     (passage : Passage) : Type 0 where
   pub prefix : DeciphersPrefix decryption mode passage
   pub within : IsWithin limit (length prefix.q)
-  pub held : (IsHeldBack prefix.put prefix.missing
+  pub pending : (IsHeldBack prefix.put prefix.missing
       ⊎ BeginsPlain padding prefix.p prefix.rest prefix.put passage.read_to)
       ⊎ IsFollowed limit (length prefix.q) prefix.rest passage.read_from

@@ -16,13 +16,13 @@ use des_fast::many::ManyBlocks;
 use std::io::{Read, Write};
 
 // Writes a block that may be there.
-fn write_held<W: Write>(writer: &mut W, held: &Option<[u8; 8]>) -> Result<(), StreamError>
-    ensures written { (k : ℕ) × (k ≤ length (bytes_of held.now))
-        × Appends (W.contents writer.old) (W.contents writer.new) (take k (bytes_of held.now))
-        × (IsOk result → k ≡ length (bytes_of held.now)) }
+fn write_pending<W: Write>(writer: &mut W, pending: &Option<[u8; 8]>) -> Result<(), StreamError>
+    ensures written { (k : ℕ) × (k ≤ length (bytes_of pending.now))
+        × Appends (W.contents writer.old) (W.contents writer.new) (take k (bytes_of pending.now))
+        × (IsOk result → k ≡ length (bytes_of pending.now)) }
     ensures fault { IfErr result IsOfWriting }
 {
-    match held {
+    match pending {
         Some(block) => write_whole(writer, block),
         None => Ok(()),
     }
@@ -32,17 +32,17 @@ fn write_held<W: Write>(writer: &mut W, held: &Option<[u8; 8]>) -> Result<(), St
 // back.
 fn write_piece<W: Write>(
     writer: &mut W,
-    held: &mut Option<[u8; 8]>,
+    pending: &mut Option<[u8; 8]>,
     blocks: &[[u8; 8]],
 ) -> Result<(), StreamError>
-    ensures written { WritesPiece held.old held.new blocks.now
+    ensures written { WritesPiece pending.old pending.new blocks.now
         (W.contents writer.old) (W.contents writer.new) (IsOk result) }
     ensures fault { IfErr result IsOfWriting }
 {
     if let Some((last, rest)) = blocks.split_last() {
-        write_held(writer, held)?;
+        write_pending(writer, pending)?;
         write_whole(writer, rest.as_flattened())?;
-        *held = Some(*last);
+        *pending = Some(*last);
     }
     Ok(())
 }
@@ -52,31 +52,31 @@ fn write_piece<W: Write>(
 fn decrypt_piece<W: Write, C: ManyBlocks>(
     cipher: &C,
     mode: &mut Mode,
-    held: &mut Option<[u8; 8]>,
+    pending: &mut Option<[u8; 8]>,
     writer: &mut W,
     bytes: &mut [u8],
 ) -> Result<(), StreamError>
     requires { length bytes.old % 8 ≡ 0 }
     ensures deciphered { DeciphersPiece (C.decrypted cipher.now) bytes.old
-        (stage_of mode.old held.old (W.contents writer.old))
-        (stage_of mode.new held.new (W.contents writer.new)) (IsOk result) }
+        (stage_of mode.old pending.old (W.contents writer.old))
+        (stage_of mode.new pending.new (W.contents writer.new)) (IsOk result) }
     ensures fault { IfErr result IsOfWriting }
 {
     let (blocks, _) = bytes.as_chunks_mut::<8>();
     mode.decrypt(cipher, blocks);
-    write_piece(writer, held, blocks)
+    write_piece(writer, pending, blocks)
 }
 
 /// How many blocks go into the next piece: as many as there is room for, or fewer if fewer are
 /// left.
-pub(crate) fn next_count(room: usize, left: Option<u64>) -> usize
-    ensures within { result ≤ room }
-    ensures full { result ≡ room ⊎ left ≡ Some result }
+pub(crate) fn next_count(capacity: usize, left: Option<u64>) -> usize
+    ensures within { result ≤ capacity }
+    ensures full { result ≡ capacity ⊎ left ≡ Some result }
     ensures left { IfSome left (λ left. result ≤ left) }
 {
     match left {
-        Some(left) if left < room as u64 => left as usize,
-        _ => room,
+        Some(left) if left < capacity as u64 => left as usize,
+        _ => capacity,
     }
 }
 
@@ -106,7 +106,7 @@ pub fn decrypt_blocks<R: Read, W: Write, C: ManyBlocks>(
     writer: &mut W,
     buffer: &mut [[u8; 8]],
 ) -> Result<Option<[u8; 8]>, StreamError>
-    requires room { 0 < length buffer.old }
+    requires capacity { 0 < length buffer.old }
     ensures done { IfOk result (λ last. HoldsPart (C.decrypted cipher.now) mode limit
         (passage_of (R.remaining reader.old) (R.remaining reader.new)
         (W.contents writer.old) (W.contents writer.new)) last) }
@@ -118,19 +118,19 @@ pub fn decrypt_blocks<R: Read, W: Write, C: ManyBlocks>(
 {
     let mut mode = mode;
     let mut left = limit;
-    let mut held = None;
-    let room = buffer.len();
+    let mut pending = None;
+    let capacity = buffer.len();
     let bytes = buffer.as_flattened_mut();
     for _ in 0..u64::MAX {
-        let count = next_count(room, left);
+        let count = next_count(capacity, left);
         let n = fill_prefix(reader, bytes, 8 * count)?;
         if n % 8 != 0 {
             return Err(StreamError::Length(n % 8));
         }
-        decrypt_piece(cipher, &mut mode, &mut held, writer, &mut bytes[..n])?;
+        decrypt_piece(cipher, &mut mode, &mut pending, writer, &mut bytes[..n])?;
         left = left_after(left, n / 8);
         if n < bytes.len() {
-            return Ok(held);
+            return Ok(pending);
         }
     }
     Err(StreamError::Read(without_end()))
@@ -174,7 +174,7 @@ pub fn decrypt_stream<R: Read, W: Write, C: ManyBlocks>(
     writer: &mut W,
     buffer: &mut [[u8; 8]],
 ) -> Result<(), StreamError>
-    requires room { 0 < length buffer.old }
+    requires capacity { 0 < length buffer.old }
     ensures done { IfOk result (λ _. Decrypts (C.decrypted transformation.now.cipher.now)
         transformation.now.mode transformation.now.padding
         (passage_of (R.remaining reader.old) (R.remaining reader.new)

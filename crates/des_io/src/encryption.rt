@@ -44,7 +44,7 @@ pub fn encrypt_stream<R: Read, W: Write, C: ManyBlocks>(
     writer: &mut W,
     buffer: &mut [[u8; 8]],
 ) -> Result<(), StreamError>
-    requires room { 0 < length buffer.old }
+    requires capacity { 0 < length buffer.old }
     ensures done { IfOk result (λ _. Encrypts (C.encrypted transformation.now.cipher.now)
         transformation.now.mode transformation.now.padding
         (passage_of (R.remaining reader.old) (R.remaining reader.new)

@@ -34,7 +34,7 @@ impl Padding {
 
 /// Writes the padding after the first `count` bytes, and returns their number with it.
 pub fn pad(padding: Padding, bytes: &mut [u8], count: usize) -> usize
-    requires room { count < length bytes.old }
+    requires capacity { count < length bytes.old }
     requires blocks { length bytes.old % 8 ≡ 0 }
     ensures within { result ≤ length bytes.new }
     ensures padded { take result bytes.new ≡ padded padding (take count bytes.old) }
@@ -62,7 +62,7 @@ pub fn pad(padding: Padding, bytes: &mut [u8], count: usize) -> usize
 // A block of the first bytes of another, and their padding.
 fn padded_prefix(padding: Padding, block: &[u8; 8], count: usize) -> [u8; 8]
     requires padding { taken_off_of padding ≢ Unpadded }
-    requires room { count < 8 }
+    requires capacity { count < 8 }
     ensures { result ≡ padded padding (take count block.now) }
 {
     let mut prefix = *block;

@@ -25,7 +25,7 @@ pub fn skip_blocks<R: Read>(
     reader: &mut R,
     buffer: &mut [[u8; 8]],
 ) -> Result<Mode, StreamError>
-    requires room { 0 < length buffer.old }
+    requires capacity { 0 < length buffer.old }
     ensures skips { IfOk result (λ next. Skips mode next count
         (R.remaining reader.old) (R.remaining reader.new)) }
     ensures fault { IfErr result (λ fault. FailsToSkip fault count
@@ -33,13 +33,13 @@ pub fn skip_blocks<R: Read>(
 {
     let mut mode = mode;
     let mut left = count;
-    let room = buffer.len();
+    let capacity = buffer.len();
     let bytes = buffer.as_flattened_mut();
     for _ in 0..u64::MAX {
         if left == 0 {
             return Ok(mode);
         }
-        let count = next_count(room, Some(left));
+        let count = next_count(capacity, Some(left));
         let n = fill_prefix(reader, bytes, 8 * count)?;
         if n < 8 * count {
             return Err(StreamError::Start);
@@ -80,7 +80,7 @@ pub fn decrypt_part<R: Read, W: Write, C: ManyBlocks>(
     writer: &mut W,
     buffer: &mut [[u8; 8]],
 ) -> Result<(), StreamError>
-    requires room { 0 < length buffer.old }
+    requires capacity { 0 < length buffer.old }
     ensures done { IfOk result (λ _. DecryptsPart (C.decrypted transformation.now.cipher.now)
         transformation.now.mode transformation.now.padding limit
         (passage_of (R.remaining reader.old) (R.remaining reader.new)

@@ -47,7 +47,7 @@ pub fn fill_prefix<R: Read>(
     ensures consumed { (bytes : List ℕ)
         × Consumes (R.remaining reader.old) (R.remaining reader.new) bytes }
     ensures within { IfOk result (λ n. n ≤ count) }
-    ensures room { length buffer.new ≡ length buffer.old }
+    ensures capacity { length buffer.new ≡ length buffer.old }
     ensures read { IfOk result (λ n.
         Consumes (R.remaining reader.old) (R.remaining reader.new) (take n buffer.new)) }
     ensures end { IfOk result (λ n. n < count → IsAtEnd (R.remaining reader.new)) }

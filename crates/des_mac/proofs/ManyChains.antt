@@ -4,7 +4,7 @@ use Rattle.std.specs.Simd.Lanes.{zip2}
 use Rattle.std.proofs.lemmas.Simd.{length-zip2, get_or-zip2}
 use Rattle.std.proofs.lemmas.List.{length-drop, length-map, get_or-map, get_or-take, get_or-drop, ext_get_or}
 use Rattle.des.specs.Cbc.{xor_blocks}
-use Rattle.des_fast.specs.ChainEnds.{chain_from, AreEnds, under_key}
+use Rattle.des_fast.specs.ChainingValues.{chain_from, AreChainingValues, under_key}
 use Rattle.des_mac.specs.RetailMac.{retail_mac, retail_mac_of}
 use Rattle.des_mac.specs.CbcMac.{zero_block, block_after, chain_after, cbc_mac}
 
@@ -39,7 +39,7 @@ end-cbc_mac f m first zeros =
 pub ends-cbc_macs_of : (f : List ℕ → List ℕ) (bytes_of : List ℕ → List ℕ) (texts firsts ends : List (List ℕ))
     → length firsts ≡ length texts → length ends ≡ length firsts
     → ((k : ℕ) → k < length firsts → get_or firsts k [] ≡ zero_block)
-    → AreEnds (λ k. f) (λ k i. block_after (bytes_of (get_or texts k [])) i)
+    → AreChainingValues (λ k. f) (λ k i. block_after (bytes_of (get_or texts k [])) i)
     (λ k. length (bytes_of (get_or texts k [])) / 8) firsts ends
     → ends ≡ map (λ m. cbc_mac f (bytes_of m)) texts
 ends-cbc_macs_of f bytes_of texts firsts ends as_texts count zeros are =
@@ -55,7 +55,7 @@ ends-cbc_macs_of f bytes_of texts firsts ends as_texts count zeros are =
 pub ends-cbc_macs : (encryption : List ℕ → List ℕ → List ℕ) (bytes_of : List ℕ → List ℕ)
     (keys texts firsts ends : List (List ℕ)) → length keys ≡ length firsts → length firsts ≡ length texts
     → length ends ≡ length firsts → ((k : ℕ) → k < length firsts → get_or firsts k [] ≡ zero_block)
-    → AreEnds (under_key encryption keys) (λ k i. block_after (bytes_of (get_or texts k [])) i)
+    → AreChainingValues (under_key encryption keys) (λ k i. block_after (bytes_of (get_or texts k [])) i)
     (λ k. length (bytes_of (get_or texts k [])) / 8) firsts ends
     → ends ≡ zip2 (λ key m. cbc_mac (encryption key) (bytes_of m)) keys texts
 ends-cbc_macs encryption bytes_of keys texts firsts ends as_keys as_texts count zeros are =

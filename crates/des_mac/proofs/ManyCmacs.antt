@@ -3,7 +3,7 @@ use Rattle.std.proofs.Common.{◌≡◌, ℕ, ◌/◌, ◌<◌, List, [], length
 use Rattle.std.specs.Simd.Lanes.{zip2}
 use Rattle.std.proofs.lemmas.Simd.{length-zip2, get_or-zip2}
 use Rattle.std.proofs.lemmas.List.{ext_get_or}
-use Rattle.des_fast.specs.ChainEnds.{AreEnds, under_key}
+use Rattle.des_fast.specs.ChainingValues.{AreChainingValues, under_key}
 use Rattle.des_mac.specs.CbcMac.{zero_block, block_after, cbc_mac}
 use Rattle.des_mac.specs.Cmac.{masked_message, cmac}
 use Rattle.des_mac.proofs.ManyChains.{end-cbc_mac, ends-cbc_macs_of}
@@ -12,7 +12,7 @@ use Rattle.des_mac.proofs.ManyChains.{end-cbc_mac, ends-cbc_macs_of}
 pub ends-cmacs_of : (f : List ℕ → List ℕ) (zeros : List ℕ) (texts firsts ends : List (List ℕ)) → zeros ≡ f zero_block
     → length firsts ≡ length texts → length ends ≡ length firsts
     → ((k : ℕ) → k < length firsts → get_or firsts k [] ≡ zero_block)
-    → AreEnds (λ k. f) (λ k i. block_after (masked_message zeros (get_or texts k [])) i)
+    → AreChainingValues (λ k. f) (λ k i. block_after (masked_message zeros (get_or texts k [])) i)
     (λ k. length (masked_message zeros (get_or texts k [])) / 8) firsts ends
     → ends ≡ map (λ m. cmac f m) texts
 ends-cmacs_of f zeros texts firsts ends encrypted as_texts count cleared are =
@@ -24,7 +24,7 @@ pub ends-cmacs : (encryption : List ℕ → List ℕ → List ℕ) (keys zeros t
     → length keys ≡ length firsts → length firsts ≡ length texts → length ends ≡ length firsts
     → ((k : ℕ) → k < length firsts → get_or zeros k [] ≡ under_key encryption keys k zero_block)
     → ((k : ℕ) → k < length firsts → get_or firsts k [] ≡ zero_block)
-    → AreEnds (under_key encryption keys)
+    → AreChainingValues (under_key encryption keys)
     (λ k i. block_after (masked_message (get_or zeros k []) (get_or texts k [])) i)
     (λ k. length (masked_message (get_or zeros k []) (get_or texts k [])) / 8) firsts ends
     → ends ≡ zip2 (λ key m. cmac (encryption key) m) keys texts

@@ -13,5 +13,5 @@ pub record Holds {Cipher : Type 0} (size : ℕ) (IsMadeFrom : Cipher → List �
     : Type 0 where
   pub is_key : IsKey size key
   pub made : IsMadeFrom state.cipher key
-  pub absorbed : Absorbed (encryption key) (block_count (length m) - 1) state.chain state.held
+  pub absorbed : Absorbed (encryption key) (block_count (length m) - 1) state.chain state.pending
       state.count m

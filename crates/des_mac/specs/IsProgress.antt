@@ -12,5 +12,5 @@ HoldsOneBlock progress = progress.count ≤ 8
 pub record IsProgressOf (encryption : List ℕ → List ℕ) (progress : Progress) (m : List ℕ)
     : Type 0 where
   pub fits : HoldsOneBlock progress
-  pub absorbed : Absorbed encryption (block_count (length m) - 1) progress.chain progress.held
+  pub absorbed : Absorbed encryption (block_count (length m) - 1) progress.chain progress.pending
       progress.count m

@@ -43,7 +43,7 @@ fn chain_blocks<C: KeyedCipher>(cipher: &C, chain: &mut [u8; 8], blocks: &[[u8; 
 pub struct Chaining<C> {
     pub(crate) cipher: C,
     pub(crate) chain: [u8; 8],
-    pub(crate) held: [u8; 8],
+    pub(crate) pending: [u8; 8],
     pub(crate) count: usize,
     ghost fits: { count ≤ 8 },
 }
@@ -60,7 +60,7 @@ impl<C: KeyedCipher + Drop> Chaining<C> {
         Chaining {
             cipher,
             chain: [0; 8],
-            held: [0; 8],
+            pending: [0; 8],
             count: 0,
         }
     }
@@ -92,7 +92,7 @@ impl<C: KeyedCipher + Drop> Chaining<C> {
         Chaining {
             cipher,
             chain: progress.chain,
-            held: progress.held,
+            pending: progress.pending,
             count: progress.count,
         }
     }
@@ -104,7 +104,7 @@ impl<C: KeyedCipher + Drop> Chaining<C> {
     {
         Progress {
             chain: self.chain,
-            held: self.held,
+            pending: self.pending,
             count: self.count,
         }
     }
@@ -114,13 +114,13 @@ impl<C: KeyedCipher + Drop> Chaining<C> {
         requires { self.old.count + length bytes.now ≤ 8 }
         ensures cipher { self.new.cipher ≡ self.old.cipher }
         ensures chain { self.new.chain ≡ self.old.chain }
-        ensures width { length self.new.held ≡ length self.old.held }
+        ensures width { length self.new.pending ≡ length self.old.pending }
         ensures count { self.new.count ≡ self.old.count + length bytes.now }
-        ensures held { take self.new.count self.new.held
-            ≡ take self.old.count self.old.held ++ bytes.now }
+        ensures pending { take self.new.count self.new.pending
+            ≡ take self.old.count self.old.pending ++ bytes.now }
     {
         let end = self.count + bytes.len();
-        self.held[self.count..end].copy_from_slice(bytes);
+        self.pending[self.count..end].copy_from_slice(bytes);
         self.count = end;
     }
 
@@ -138,7 +138,7 @@ impl<C: KeyedCipher + Drop> Chaining<C> {
         }
         let (head, rest) = bytes.split_at(room);
         self.hold(head);
-        chain_block(&self.cipher, &mut self.chain, &self.held);
+        chain_block(&self.cipher, &mut self.chain, &self.pending);
         let (whole, last) = rest.split_at((rest.len() - 1) / 8 * 8);
         chain_blocks(&self.cipher, &mut self.chain, whole.as_chunks::<8>().0);
         self.count = 0;
@@ -154,7 +154,7 @@ impl<C: KeyedCipher + Drop> Chaining<C> {
             → result ≡ cbc_mac (C.encryption key) (m ++ padding.now) }
     {
         self.update(padding);
-        chain_block(&self.cipher, &mut self.chain, &self.held);
+        chain_block(&self.cipher, &mut self.chain, &self.pending);
         self.chain
     }
 
@@ -165,8 +165,8 @@ impl<C: KeyedCipher + Drop> Chaining<C> {
             → AreWholeBlocks (length m)
             → result ≡ cbc_mac (C.encryption key) (masked subkey.now m) }
     {
-        xor(&mut self.held, subkey);
-        chain_block(&self.cipher, &mut self.chain, &self.held);
+        xor(&mut self.pending, subkey);
+        chain_block(&self.cipher, &mut self.chain, &self.pending);
         self.chain
     }
 }

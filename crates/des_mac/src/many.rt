@@ -169,7 +169,7 @@ pub fn cbc_macs_by<S: Slice, C: KeyForEach + Drop, P: Padding>(
         messages,
         padding: PhantomData,
     };
-    C::chain_ends_by::<S, PaddedMessages<P>>(key, tags, &lists)
+    C::chaining_values_by::<S, PaddedMessages<P>>(key, tags, &lists)
 }
 
 /// The tags of CBC-MAC of many messages, each under the key at its place. If the numbers of keys,
@@ -193,7 +193,7 @@ pub fn cbc_macs_each_by<S: Slice, C: KeyForEach + Drop, P: Padding>(
         messages,
         padding: PhantomData,
     };
-    C::chain_ends_each_by::<S, PaddedMessages<P>>(keys, tags, &lists)
+    C::chaining_values_each_by::<S, PaddedMessages<P>>(keys, tags, &lists)
 }
 
 /// The tags of the retail MAC of many messages under two keys, `S::BATCH` at a time: as

@@ -9,7 +9,7 @@ ghost use Rattle.des_mac.specs.IsProgress.{IsProgressOf};
 #[derive(Clone, Copy)]
 pub struct Progress {
     pub(crate) chain: [u8; 8],
-    pub(crate) held: [u8; 8],
+    pub(crate) pending: [u8; 8],
     pub(crate) count: usize,
 }
 
@@ -20,7 +20,7 @@ impl Progress {
     {
         Progress {
             chain: [0; 8],
-            held: [0; 8],
+            pending: [0; 8],
             count: 0,
         }
     }

@@ -7,8 +7,8 @@ use Rattle.des.specs.Blocks.{part}
 use Rattle.des.specs.Cbc.{xor_blocks}
 use Rattle.des.specs.Des.{encryption}
 use Rattle.des.specs.TripleCiphers.{ede2_encryption}
-use Rattle.des_payment.specs.declared.dukpt.Message.{Message}
-use Rattle.des_payment.specs.declared.dukpt.Message.TheVariants.{Request, Response}
+use Rattle.des_payment.specs.declared.dukpt.MessageDirection.{MessageDirection}
+use Rattle.des_payment.specs.declared.dukpt.MessageDirection.TheVariants.{Request, Response}
 
 -- a key with a mask xored into each of its halves
 abbrev pub masked : ℕ → List ℕ → List ℕ
@@ -75,26 +75,26 @@ transaction_key initial serial =
 abbrev pub pin_key : List ℕ → List ℕ
 pin_key key = masked 0xff key
 
-abbrev pub mac_mask : Message → ℕ
+abbrev pub mac_mask : MessageDirection → ℕ
 mac_mask Request = 0xff00
 mac_mask Response = 0xff000000
 
-abbrev pub mac_key : Message → List ℕ → List ℕ
+abbrev pub mac_key : MessageDirection → List ℕ → List ℕ
 mac_key message key = masked (mac_mask message) key
 
-abbrev pub data_mask : Message → ℕ
+abbrev pub data_mask : MessageDirection → ℕ
 data_mask Request = 0xff0000
 data_mask Response = 0xff00000000
 
 -- the masked key as it is, which some terminals take for data
-abbrev pub data_variant : Message → List ℕ → List ℕ
+abbrev pub data_variant : MessageDirection → List ℕ → List ℕ
 data_variant message key = masked (data_mask message) key
 
 -- each half of the masked key, encrypted under the masked key
 abbrev pub encrypted_under_itself : List ℕ → List ℕ
 encrypted_under_itself key = ede2_encryption key (part 1 key) ++ ede2_encryption key (part 2 key)
 
-abbrev pub data_key : Message → List ℕ → List ℕ
+abbrev pub data_key : MessageDirection → List ℕ → List ℕ
 data_key message key = encrypted_under_itself (data_variant message key)
 
 -- ---- serial numbers in order

@@ -1,5 +1,5 @@
-//! Key check values: the first two or three bytes of the block of 64 zero bits, encrypted under the
-//! key. They tell whether two sides hold the same key, and are the small caller that
+//! Key check values (KCV): the first two or three bytes of the block of 64 zero bits, encrypted
+//! under the key. They tell whether two sides hold the same key, and are the small caller that
 //! `docs/CALLING.md` shows.
 
 ghost use Rattle.std.specs.Prelude.{◌≡◌, ◌↔◌, length, take, replicate, IsOk, IfOk, IsTrue};

@@ -1,8 +1,8 @@
 //! The keys of a transaction: DUKPT, derived unique key per transaction, with triple DES (ANSI
 //! X9.24-1:2009, Annex A), as the host makes them.
 //!
-//! A key has 16 bytes, two halves of 8. A key serial number has ten bytes, of which the last 21
-//! bits are the transaction counter.
+//! A key has 16 bytes, two halves of 8. A key serial number (KSN) has ten bytes, of which the last
+//! 21 bits are the transaction counter.
 
 ghost use Rattle.std.specs.Prelude.{◌≡◌, ◌↔◌, ℕ, ◌+◌, ◌^◌, ◌<◌, ◌++◌, take, IfSome, IfNone, IsTrue};
 ghost use Rattle.std.specs.Int.{w64, to_be_bytes};
@@ -16,9 +16,9 @@ use crate::passes::{encrypted_by_des, encrypted_by_ede2};
 use crate::xor::xored;
 use des::tdes::key_part;
 
-/// The message of a transaction that a key is for.
+/// Which message of a transaction a key is for: its direction.
 #[derive(Clone, Copy, Debug, PartialEq, Eq)]
-pub enum Message {
+pub enum MessageDirection {
     /// The request, which the terminal sends.
     Request,
     /// The response, which the host sends.
@@ -83,8 +83,8 @@ pub(crate) fn first_bytes(serial: &[u8; 10]) -> [u8; 8]
     (u64::from_be_bytes(bytes) / 32 * 32).to_be_bytes()
 }
 
-/// The initial key of a terminal, from the base derivation key and a key serial number of the
-/// terminal's, whose counter has no part in it.
+/// The initial key (IK, IPEK) of a terminal, from the base derivation key (BDK) and a key serial
+/// number of the terminal's, whose counter has no part in it.
 pub fn initial_key(base: &[u8; 16], serial: &[u8; 10]) -> [u8; 16]
     ensures { result ≡ initial_key_of base.now serial.now }
 {
@@ -136,12 +136,12 @@ pub fn pin_key(transaction: &[u8; 16]) -> [u8; 16]
 }
 
 /// The key that authenticates a message, from the transaction's key.
-pub fn mac_key(transaction: &[u8; 16], message: Message) -> [u8; 16]
+pub fn mac_key(transaction: &[u8; 16], message: MessageDirection) -> [u8; 16]
     ensures { result ≡ mac_key_of message transaction.now }
 {
     let mask = match message {
-        Message::Request => 0xff00,
-        Message::Response => 0xff000000,
+        MessageDirection::Request => 0xff00,
+        MessageDirection::Response => 0xff000000,
     };
     masked(transaction, mask)
 }
@@ -149,18 +149,18 @@ pub fn mac_key(transaction: &[u8; 16], message: Message) -> [u8; 16]
 /// The data variant of the transaction's key for a message: the key that `data_key` makes, without
 /// its last one-way step. Some terminals encrypt data under it; if it is lost, so are the
 /// transaction's other keys.
-pub fn data_variant(transaction: &[u8; 16], message: Message) -> [u8; 16]
+pub fn data_variant(transaction: &[u8; 16], message: MessageDirection) -> [u8; 16]
     ensures { result ≡ data_variant_of message transaction.now }
 {
     let mask = match message {
-        Message::Request => 0xff0000,
-        Message::Response => 0xff00000000,
+        MessageDirection::Request => 0xff0000,
+        MessageDirection::Response => 0xff00000000,
     };
     masked(transaction, mask)
 }
 
 /// The key that encrypts the data of a message, from the transaction's key.
-pub fn data_key(transaction: &[u8; 16], message: Message) -> [u8; 16]
+pub fn data_key(transaction: &[u8; 16], message: MessageDirection) -> [u8; 16]
     ensures { result ≡ data_key_of message transaction.now }
 {
     let key = data_variant(transaction, message);

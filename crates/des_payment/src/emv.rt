@@ -21,7 +21,7 @@ use crate::emv_error::EmvError;
 use crate::passes::encrypted_by_ede2;
 use crate::texts::{check_number, to_values};
 use crate::xor::xored;
-use des_fast::quiet::Des;
+use des_fast::no_tables::Des;
 use des_mac::mac::Mac;
 use des_mac::padding::Method2;
 use des_mac::retail_mac::RetailMac;
@@ -133,9 +133,9 @@ fn key_of_block(issuer: &[u8; 16], block: &[u8; 8]) -> [u8; 16]
     key
 }
 
-/// The key of a card by option A (A1.4.1), from the issuer's master key, the account number, a text
-/// of 8 to 19 digits with the check digit, and the sequence number of the card, a text of two
-/// digits: `00` if the card has none.
+/// The key of a card by option A (A1.4.1), from the issuer's master key (IMK), the account number
+/// (PAN), a text of 8 to 19 digits with the check digit, and the sequence number of the card (PSN),
+/// a text of two digits: `00` if the card has none.
 ///
 /// The sixteen rightmost digits of both numbers together are a block; it and its complement are
 /// encrypted under the issuer's key. Each byte of the key has odd parity. Most issuers take this
@@ -192,24 +192,25 @@ fn with_zeros(bytes: &[u8; 2]) -> [u8; 8]
     [bytes[0], bytes[1], 0, 0, 0, 0, 0, 0]
 }
 
-/// The session key for application cryptograms, by the application transaction counter, two bytes.
+/// The session key for application cryptograms, by the application transaction counter (ATC), two
+/// bytes.
 pub fn application_key(card: &[u8; 16], counter: &[u8; 2]) -> [u8; 16]
     ensures { result ≡ application_key_of card.now counter.now }
 {
     session_key(card, &with_zeros(counter))
 }
 
-/// The application cryptogram of bytes under a session key (8.1.2): the retail MAC with padding
-/// method 2 under the two halves of the key.
+/// The application cryptogram (ARQC, TC or AAC) of bytes under a session key (8.1.2): the retail
+/// MAC with padding method 2 under the two halves of the key.
 pub fn application_cryptogram(session: &[u8; 16], bytes: &[u8]) -> [u8; 8]
     ensures { result ≡ cryptogram_of session.now bytes.now }
 {
     RetailMac::<Des, Method2>::mac(session, bytes).unwrap()
 }
 
-/// The response by method 1 (8.2.1) to an application cryptogram, with a response code of two bytes
-/// (ASCII characters, as `00` for approved): the cryptogram xor the code and zeros, encrypted under
-/// the session key.
+/// The response (ARPC) by method 1 (8.2.1) to an application cryptogram, with a response code of
+/// two bytes (ASCII characters, as `00` for approved): the cryptogram xor the code and zeros,
+/// encrypted under the session key.
 pub fn response_1(session: &[u8; 16], cryptogram: &[u8; 8], code: &[u8; 2]) -> [u8; 8]
     ensures { result ≡ response_1_of session.now cryptogram.now code.now }
 {
@@ -233,9 +234,9 @@ fn check_data(bytes: &[u8]) -> Result<(), EmvError>
     Ok(())
 }
 
-/// The response by method 2 (8.2.2) to an application cryptogram, with a card status update of four
-/// bytes and at most eight bytes of the issuer's: the first four bytes of the retail MAC with
-/// padding method 2 of all three. `DataLength` if the issuer has more bytes.
+/// The response (ARPC) by method 2 (8.2.2) to an application cryptogram, with a card status update
+/// of four bytes and at most eight bytes of the issuer's: the first four bytes of the retail MAC
+/// with padding method 2 of all three. `DataLength` if the issuer has more bytes.
 pub fn response_2(
     session: &[u8; 16],
     cryptogram: &[u8; 8],

@@ -1,5 +1,5 @@
 //! Key blocks (ANSI X9.143, ASC X9 TR-31) of versions B and C, and reading of version A: a key with
-//! what it is for, encrypted and authenticated under a protection key, as ASCII characters.
+//! what it is for, encrypted and authenticated under a protection key (KBPK), as ASCII characters.
 
 ghost use Rattle.std.specs.Prelude.{◌≡◌, ◌+◌, ◌*◌, ◌%◌, ◌<◌, ◌≤◌, ◌++◌, List, ℕ, length, map, take, drop, slice_get, option_map, IfOk, IfErr, IsOkAnd, IfSome, IfNone, OnOk, OnErr, IsTrue};
 ghost use Rattle.std.specs.Result.{result_err};

@@ -6,8 +6,8 @@
 //! Digits that a person reads (PINs, account numbers, dates) are texts, slices of ASCII digits. No
 //! call takes memory or panics, and no `Debug` text or error tells a key, a PIN or an account
 //! number. No table is read at an index that depends on a key or a PIN: one block goes by the
-//! ciphers of `des_fast::quiet`. (`check_value` takes the cipher that its caller names.) No claim is
-//! made on the time that a call takes.
+//! ciphers of `des_fast::no_tables`. (`check_value` takes the cipher that its caller names.) No
+//! claim is made on the time that a call takes.
 #![tactic(auto)]
 
 pub mod card_verification;

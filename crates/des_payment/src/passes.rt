@@ -10,7 +10,7 @@ ghost use Rattle.des_payment.specs.KeyLengths.{is_key as is_key_of, encryption_b
 
 use des::cipher::{BlockCipherDecrypt, BlockCipherEncrypt, KeyBytes, KeyInit, KeyedCipher};
 use des_fast::many::{KeyForEach, ManyBlocks, Slice};
-use des_fast::quiet::{Des, TdesEde2, TdesEde3};
+use des_fast::no_tables::{Des, TdesEde2, TdesEde3};
 
 // What DES makes of a block under a key.
 pub(crate) fn encrypted_by_des(key: &[u8; 8], block: &[u8; 8]) -> [u8; 8]

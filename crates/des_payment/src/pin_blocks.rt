@@ -17,9 +17,9 @@ use crate::pin::Pin;
 use crate::pin_error::PinError;
 use crate::xor::xored;
 
-/// The block of format 0 of a PIN and an account number, a text of 8 to 19 digits with the check
-/// digit: the PIN's digits are filled with 15, and xored with the twelve rightmost digits of the
-/// account number without its check digit. `AccountLength` and `AccountDigit` are its faults.
+/// The block of format 0 of a PIN and an account number (PAN), a text of 8 to 19 digits with the
+/// check digit: the PIN's digits are filled with 15, and xored with the twelve rightmost digits of
+/// the account number without its check digit. `AccountLength` and `AccountDigit` are its faults.
 pub fn encode_format_0(pin: &Pin, account: &[u8]) -> Result<[u8; 8], PinError>
     ensures fault { result_err result ≡ account_fault account.now }
     ensures block { IfOk result (IsTheOne (IsFormat0 pin.now account.now)) }

@@ -7,7 +7,7 @@ ghost use Rattle.des_payment.specs.ProtectionKeys.{derived_part as derived_part_
 
 use crate::key_block_header::Version;
 use crate::xor::xored;
-use des_fast::quiet::TdesEde3;
+use des_fast::no_tables::TdesEde3;
 use des_mac::cmac::Cmac;
 use des_mac::mac::Mac;
 

@@ -11,7 +11,7 @@ use crate::key_block_header::Version;
 use crate::protection_keys::ProtectionKeys;
 use des::cbc;
 use des::cipher::{KeyBytes, KeyedCipher};
-use des_fast::quiet::TdesEde3;
+use des_fast::no_tables::TdesEde3;
 use des_mac::cbc_mac::CbcMac;
 use des_mac::cmac::Cmac;
 use des_mac::mac::{Mac, MacError, verify_truncated_left};

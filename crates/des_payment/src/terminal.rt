@@ -18,7 +18,8 @@ use des::cipher::are_bytes;
 // The future keys, one for each bit of the counter.
 const REGISTERS: usize = 21;
 
-/// The state of a terminal: the key serial number of its last transaction, and the future keys.
+/// The state of a terminal: the key serial number (KSN) of its last transaction, and the future
+/// keys.
 ///
 /// The fields are public so that a terminal can keep the state: whoever writes it has the keys of
 /// all transactions to come. A state of other keys gives other keys, and nothing else happens.

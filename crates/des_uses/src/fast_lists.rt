@@ -8,7 +8,7 @@ ghost use Rattle.des.specs.Relations.{IsTheOne};
 
 use des::cipher::{BlockCipherDecrypt, BlockCipherEncrypt, KeyInit};
 use des_fast::many::ManyBlocks;
-use des_fast::{Des, quiet};
+use des_fast::{Des, no_tables};
 
 /// Encrypts in place each block of a list under a key: each is related to the one at its place, and
 /// no other list is so related.
@@ -46,7 +46,7 @@ pub fn encrypt_list_side_by_side(key: &[u8; 8], blocks: &mut [[u8; 8]])
     ensures { IsTheOne
         (λ answers. AnswersEach (λ x y. Enciphers key.now x y) blocks.old answers) blocks.new }
 {
-    let cipher = quiet::Des::new(key);
+    let cipher = no_tables::Des::new(key);
     cipher.encrypt_blocks(blocks);
 }
 
@@ -56,6 +56,6 @@ pub fn decrypt_list_side_by_side(key: &[u8; 8], blocks: &mut [[u8; 8]])
     ensures { IsTheOne
         (λ answers. AnswersEach (λ x y. Enciphers key.now x y) answers blocks.old) blocks.new }
 {
-    let cipher = quiet::Des::new(key);
+    let cipher = no_tables::Des::new(key);
     cipher.decrypt_blocks(blocks);
 }

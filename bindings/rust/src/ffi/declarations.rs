@@ -85,9 +85,9 @@ extern "C" {
     pub fn cukvashe_des_init(context: *mut Des, key: *const u8, key_length: usize) -> c_int;
     pub fn cukvashe_tdes_ede2_init(context: *mut TdesEde2, key: *const u8, key_length: usize) -> c_int;
     pub fn cukvashe_tdes_ede3_init(context: *mut TdesEde3, key: *const u8, key_length: usize) -> c_int;
-    pub fn cukvashe_des_init_quiet(context: *mut Des, key: *const u8, key_length: usize) -> c_int;
-    pub fn cukvashe_tdes_ede2_init_quiet(context: *mut TdesEde2, key: *const u8, key_length: usize) -> c_int;
-    pub fn cukvashe_tdes_ede3_init_quiet(context: *mut TdesEde3, key: *const u8, key_length: usize) -> c_int;
+    pub fn cukvashe_des_init_no_tables(context: *mut Des, key: *const u8, key_length: usize) -> c_int;
+    pub fn cukvashe_tdes_ede2_init_no_tables(context: *mut TdesEde2, key: *const u8, key_length: usize) -> c_int;
+    pub fn cukvashe_tdes_ede3_init_no_tables(context: *mut TdesEde3, key: *const u8, key_length: usize) -> c_int;
     pub fn cukvashe_des_encrypt_ecb(context: *const Des, data: *mut u8, length: usize) -> c_int;
     pub fn cukvashe_des_decrypt_ecb(context: *const Des, data: *mut u8, length: usize) -> c_int;
     pub fn cukvashe_des_encrypt_ecb_to(context: *const Des, input: *const u8, output: *mut u8, length: usize) -> c_int;
@@ -285,32 +285,40 @@ extern "C" {
     ) -> c_int;
     pub fn cukvashe_cmac_tdes_ede2_init(context: *mut CmacTdesEde2, key: *const u8, key_length: usize) -> c_int;
     pub fn cukvashe_cmac_tdes_ede3_init(context: *mut CmacTdesEde3, key: *const u8, key_length: usize) -> c_int;
-    pub fn cukvashe_cbc_mac_des_init_quiet(
+    pub fn cukvashe_cbc_mac_des_init_no_tables(
         context: *mut CbcMacDes,
         key: *const u8,
         key_length: usize,
         method: c_int,
     ) -> c_int;
-    pub fn cukvashe_cbc_mac_tdes_ede2_init_quiet(
+    pub fn cukvashe_cbc_mac_tdes_ede2_init_no_tables(
         context: *mut CbcMacTdesEde2,
         key: *const u8,
         key_length: usize,
         method: c_int,
     ) -> c_int;
-    pub fn cukvashe_cbc_mac_tdes_ede3_init_quiet(
+    pub fn cukvashe_cbc_mac_tdes_ede3_init_no_tables(
         context: *mut CbcMacTdesEde3,
         key: *const u8,
         key_length: usize,
         method: c_int,
     ) -> c_int;
-    pub fn cukvashe_retail_mac_des_init_quiet(
+    pub fn cukvashe_retail_mac_des_init_no_tables(
         context: *mut RetailMacDes,
         key: *const u8,
         key_length: usize,
         method: c_int,
     ) -> c_int;
-    pub fn cukvashe_cmac_tdes_ede2_init_quiet(context: *mut CmacTdesEde2, key: *const u8, key_length: usize) -> c_int;
-    pub fn cukvashe_cmac_tdes_ede3_init_quiet(context: *mut CmacTdesEde3, key: *const u8, key_length: usize) -> c_int;
+    pub fn cukvashe_cmac_tdes_ede2_init_no_tables(
+        context: *mut CmacTdesEde2,
+        key: *const u8,
+        key_length: usize,
+    ) -> c_int;
+    pub fn cukvashe_cmac_tdes_ede3_init_no_tables(
+        context: *mut CmacTdesEde3,
+        key: *const u8,
+        key_length: usize,
+    ) -> c_int;
     pub fn cukvashe_cbc_mac_des_update(context: *mut CbcMacDes, message: *const u8, length: usize) -> c_int;
     pub fn cukvashe_cbc_mac_tdes_ede2_update(context: *mut CbcMacTdesEde2, message: *const u8, length: usize) -> c_int;
     pub fn cukvashe_cbc_mac_tdes_ede3_update(context: *mut CbcMacTdesEde3, message: *const u8, length: usize) -> c_int;

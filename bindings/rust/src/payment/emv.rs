@@ -13,7 +13,7 @@
 //!
 //! // Of a cryptogram that a card sent:
 //! let sent = 0x94c5b7e3c27950aau64.to_be_bytes();
-//! assert!(RetailMacDes::new_quiet(&session, Padding::Method2).verify(&sent).is_ok());
+//! assert!(RetailMacDes::new_no_tables(&session, Padding::Method2).verify(&sent).is_ok());
 //! # Ok::<(), cukvashe_des::payment::EmvError>(())
 //! ```
 
@@ -60,8 +60,9 @@ fn checked<T>(status: i32, made: T) -> Result<T, EmvError> {
 // SAFETY of each call below: the pointers are of references, those of texts and data good for their lengths, and don't overlap what
 // is written.
 
-/// The key of a card (A1.4.1, option A), from the issuer's key, the account number, a text of 8 to 19 digits with the check digit,
-/// and the sequence number of the card, a text of two digits: `00` where the card has none. Each byte has odd parity.
+/// The key of a card (A1.4.1, option A), from the issuer's master key (IMK), the account number (PAN), a text of 8 to
+/// 19 digits with the check digit, and the sequence number of the card (PSN), a text of two digits: `00` where the card
+/// has none. Each byte has odd parity.
 pub fn card_key(issuer: &[u8; 16], account: &[u8], sequence: &[u8]) -> Result<[u8; 16], EmvError> {
     let mut key = [0; 16];
     let (account, length) = (account.as_ptr().cast(), account.len());
@@ -89,7 +90,7 @@ pub fn session_key(card: &[u8; 16], block: &[u8; 8]) -> [u8; 16] {
     key
 }
 
-/// The session key for application cryptograms, by the application transaction counter, two bytes.
+/// The session key for application cryptograms, by the application transaction counter (ATC), two bytes.
 #[must_use]
 pub fn application_key(card: &[u8; 16], counter: &[u8; 2]) -> [u8; 16] {
     let mut key = [0; 16];
@@ -97,8 +98,9 @@ pub fn application_key(card: &[u8; 16], counter: &[u8; 2]) -> [u8; 16] {
     key
 }
 
-/// The application cryptogram of bytes under a session key (8.1.2): the retail MAC with padding method 2. To check one that a card
-/// sent, call `verify` of [`RetailMacDes`](crate::mac::RetailMacDes), and do not compare by `==`.
+/// The application cryptogram (ARQC, TC or AAC) of bytes under a session key (8.1.2): the retail MAC with padding
+/// method 2. To check one that a card sent, call `verify` of [`RetailMacDes`](crate::mac::RetailMacDes), and do not
+/// compare by `==`.
 #[must_use]
 pub fn application_cryptogram(session: &[u8; 16], bytes: &[u8]) -> [u8; 8] {
     let mut cryptogram = [0; 8];
@@ -106,7 +108,8 @@ pub fn application_cryptogram(session: &[u8; 16], bytes: &[u8]) -> [u8; 8] {
     cryptogram
 }
 
-/// The response by method 1 (8.2.1) to an application cryptogram, with a response code of two bytes, ASCII characters.
+/// The response (ARPC) by method 1 (8.2.1) to an application cryptogram, with a response code of two bytes, ASCII
+/// characters.
 #[must_use]
 pub fn response_1(session: &[u8; 16], cryptogram: &[u8; 8], code: &[u8; 2]) -> [u8; 8] {
     let mut response = [0; 8];
@@ -114,8 +117,8 @@ pub fn response_1(session: &[u8; 16], cryptogram: &[u8; 8], code: &[u8; 2]) -> [
     response
 }
 
-/// The response by method 2 (8.2.2) to an application cryptogram, with a card status update of four bytes and at most eight bytes of
-/// the issuer's; `DataLength` where there are more.
+/// The response (ARPC) by method 2 (8.2.2) to an application cryptogram, with a card status update of four bytes and at
+/// most eight bytes of the issuer's; `DataLength` where there are more.
 pub fn response_2(
     session: &[u8; 16],
     cryptogram: &[u8; 8],

@@ -1,5 +1,5 @@
 //! Key blocks (ANSI X9.143, ASC X9 TR-31) of versions B and C, and reading of version A: a key with what it is for, encrypted and
-//! authenticated under a protection key, as ASCII characters.
+//! authenticated under a protection key (KBPK), as ASCII characters.
 //!
 //! ```
 //! use cukvashe_des::payment::key_blocks::{unwrap, wrap, Header};

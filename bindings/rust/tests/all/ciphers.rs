@@ -85,37 +85,37 @@ fn chains<C: BlockCipher>(name: &str, new: fn(&[u8]) -> C) {
     }
 }
 
-/// The cipher of a key of the cipher's size, and the quiet one.
-fn quick<C: BlockCipher>(key: &[u8]) -> C {
+/// The cipher of a key of the cipher's size, and the one without tables.
+fn with_tables<C: BlockCipher>(key: &[u8]) -> C {
     C::new_from_slice(key).unwrap()
 }
 
-fn quiet<C: BlockCipher>(key: &[u8]) -> C {
-    C::new_quiet_from_slice(key).unwrap()
+fn no_tables<C: BlockCipher>(key: &[u8]) -> C {
+    C::new_no_tables_from_slice(key).unwrap()
 }
 
 #[test]
 fn ciphers_answer() {
-    answers::<Des>("des", quick);
-    answers::<TdesEde2>("ede2", quick);
-    answers::<TdesEde3>("ede3", quick);
-    chains::<Des>("des-cbc", quick);
-    chains::<TdesEde3>("ede3-cbc", quick);
+    answers::<Des>("des", with_tables);
+    answers::<TdesEde2>("ede2", with_tables);
+    answers::<TdesEde3>("ede3", with_tables);
+    chains::<Des>("des-cbc", with_tables);
+    chains::<TdesEde3>("ede3-cbc", with_tables);
 }
 
 #[test]
-fn quiet_ciphers_answer() {
-    answers::<Des>("des", quiet);
-    answers::<TdesEde2>("ede2", quiet);
-    answers::<TdesEde3>("ede3", quiet);
-    chains::<Des>("des-cbc", quiet);
-    chains::<TdesEde3>("ede3-cbc", quiet);
+fn ciphers_without_tables_answer() {
+    answers::<Des>("des", no_tables);
+    answers::<TdesEde2>("ede2", no_tables);
+    answers::<TdesEde3>("ede3", no_tables);
+    chains::<Des>("des-cbc", no_tables);
+    chains::<TdesEde3>("ede3-cbc", no_tables);
 }
 
 /// The key's length chooses the cipher.
 #[test]
 fn chosen_ciphers_answer() {
-    for new in [quick::<Cipher>, quiet::<Cipher>] {
+    for new in [with_tables::<Cipher>, no_tables::<Cipher>] {
         ["des", "ede2", "ede3"].into_iter().for_each(|name| answers(name, new));
         ["des-cbc", "ede3-cbc"].into_iter().for_each(|name| chains(name, new));
     }
@@ -131,18 +131,18 @@ fn ciphers_of_arrays_answer() {
         electronic_codebook(&new(&key), TEXT, &answer);
     }
     same(Des::new);
-    same(Des::new_quiet);
+    same(Des::new_no_tables);
     same(TdesEde2::new);
-    same(TdesEde2::new_quiet);
+    same(TdesEde2::new_no_tables);
     same(TdesEde3::new);
-    same(TdesEde3::new_quiet);
+    same(TdesEde3::new_no_tables);
 }
 
 fn refuses_keys<C: BlockCipher>(sizes: &[usize]) {
     for length in LENGTHS.chain([48, 64]).chain(sizes.iter().map(|size| 256 + size)) {
         let (key, refused) = (vec![1; length], (!sizes.contains(&length)).then_some(InvalidLength));
         assert_eq!(C::new_from_slice(&key).err(), refused);
-        assert_eq!(C::new_quiet_from_slice(&key).err(), refused);
+        assert_eq!(C::new_no_tables_from_slice(&key).err(), refused);
     }
 }
 

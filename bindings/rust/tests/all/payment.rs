@@ -131,13 +131,13 @@ fn transactions_answer() {
         let key = transaction_key(&initial, &serial(last));
         assert_eq!(u128::from_be_bytes(key), transaction);
         assert_eq!(u128::from_be_bytes(pin_key(&key)), pin);
-        assert_eq!(u128::from_be_bytes(mac_key(&key, Message::Request)), mac);
+        assert_eq!(u128::from_be_bytes(mac_key(&key, MessageDirection::Request)), mac);
         let mut blocks = [0x041274edcba9876f_u64.to_be_bytes()];
         TdesEde2::new_from_slice(&pin.to_be_bytes()).unwrap().encrypt_blocks(&mut blocks);
         assert_eq!(u64::from_be_bytes(blocks[0]), encrypted);
     }
     let first = transaction_key(&initial, &serial(0x9876543210e00001));
-    let data = data_key(&first, Message::Request);
+    let data = data_key(&first, MessageDirection::Request);
     assert_eq!(u128::from_be_bytes(data), 0x448d3f076d8304036a55a3d7e0055a78);
     // The counter 0, whose key is the initial key.
     assert_eq!(transaction_key(&initial, &serial(0x9876543210e00000)), initial);
@@ -156,12 +156,12 @@ fn keys_of_messages_answer() {
             key
         };
         assert_eq!(pin_key(&key), turned(7));
-        assert_eq!(mac_key(&key, Message::Request), turned(6));
-        assert_eq!(mac_key(&key, Message::Response), turned(4));
-        assert_eq!(data_variant(&key, Message::Request), turned(5));
-        assert_eq!(data_variant(&key, Message::Response), turned(3));
-        assert_eq!(data_key(&key, Message::Request), encrypted(turned(5)));
-        assert_eq!(data_key(&key, Message::Response), encrypted(turned(3)));
+        assert_eq!(mac_key(&key, MessageDirection::Request), turned(6));
+        assert_eq!(mac_key(&key, MessageDirection::Response), turned(4));
+        assert_eq!(data_variant(&key, MessageDirection::Request), turned(5));
+        assert_eq!(data_variant(&key, MessageDirection::Response), turned(3));
+        assert_eq!(data_key(&key, MessageDirection::Request), encrypted(turned(5)));
+        assert_eq!(data_key(&key, MessageDirection::Response), encrypted(turned(3)));
     }
 }
 

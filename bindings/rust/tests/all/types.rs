@@ -58,37 +58,37 @@ fn secrets_are_not_shown() {
 }
 
 /// Compares the bytes of two values.
-fn differ<T>(quick: T, quiet: T) {
+fn differ<T>(with_tables: T, no_tables: T) {
     let bytes = |value: *const T| {
         // SAFETY: the value is there as long as this looks at it. Its types are made of words, with nothing between them.
         unsafe { slice::from_raw_parts(value.cast::<u8>(), size_of::<T>()) }
     };
-    assert!(bytes(&quick) != bytes(&quiet));
+    assert!(bytes(&with_tables) != bytes(&no_tables));
 }
 
-/// What `new_quiet` makes says so in its context: it is not what `new` makes.
+/// What `new_no_tables` makes says so in its context: it is not what `new` makes.
 #[test]
-fn quiet_ones_are_not_quick() {
+fn ciphers_without_tables_have_other_contexts() {
     let (one, two) = (KEY[..8].try_into().unwrap(), KEY[..16].try_into().unwrap());
-    differ(Des::new(one), Des::new_quiet(one));
-    differ(TdesEde2::new(two), TdesEde2::new_quiet(two));
-    differ(TdesEde3::new(&KEY), TdesEde3::new_quiet(&KEY));
+    differ(Des::new(one), Des::new_no_tables(one));
+    differ(TdesEde2::new(two), TdesEde2::new_no_tables(two));
+    differ(TdesEde3::new(&KEY), TdesEde3::new_no_tables(&KEY));
     for padding in [Padding::Method1, Padding::Method2] {
-        differ(CbcMacDes::new(one, padding), CbcMacDes::new_quiet(one, padding));
-        differ(CbcMacTdesEde2::new(two, padding), CbcMacTdesEde2::new_quiet(two, padding));
-        differ(CbcMacTdesEde3::new(&KEY, padding), CbcMacTdesEde3::new_quiet(&KEY, padding));
-        differ(RetailMacDes::new(two, padding), RetailMacDes::new_quiet(two, padding));
+        differ(CbcMacDes::new(one, padding), CbcMacDes::new_no_tables(one, padding));
+        differ(CbcMacTdesEde2::new(two, padding), CbcMacTdesEde2::new_no_tables(two, padding));
+        differ(CbcMacTdesEde3::new(&KEY, padding), CbcMacTdesEde3::new_no_tables(&KEY, padding));
+        differ(RetailMacDes::new(two, padding), RetailMacDes::new_no_tables(two, padding));
     }
-    differ(CmacTdesEde2::new(two), CmacTdesEde2::new_quiet(two));
-    differ(CmacTdesEde3::new(&KEY), CmacTdesEde3::new_quiet(&KEY));
-    let slices = (CmacTdesEde3::new_from_slice(&KEY), CmacTdesEde3::new_quiet_from_slice(&KEY));
+    differ(CmacTdesEde2::new(two), CmacTdesEde2::new_no_tables(two));
+    differ(CmacTdesEde3::new(&KEY), CmacTdesEde3::new_no_tables(&KEY));
+    let slices = (CmacTdesEde3::new_from_slice(&KEY), CmacTdesEde3::new_no_tables_from_slice(&KEY));
     differ(slices.0.unwrap(), slices.1.unwrap());
     for size in [8, 16, 24] {
         let key = &KEY[..size];
-        match (Cipher::new_from_slice(key).unwrap(), Cipher::new_quiet_from_slice(key).unwrap()) {
-            (Cipher::Des(quick), Cipher::Des(quiet)) if size == 8 => differ(quick, quiet),
-            (Cipher::TdesEde2(quick), Cipher::TdesEde2(quiet)) if size == 16 => differ(quick, quiet),
-            (Cipher::TdesEde3(quick), Cipher::TdesEde3(quiet)) if size == 24 => differ(quick, quiet),
+        match (Cipher::new_from_slice(key).unwrap(), Cipher::new_no_tables_from_slice(key).unwrap()) {
+            (Cipher::Des(with_tables), Cipher::Des(no_tables)) if size == 8 => differ(with_tables, no_tables),
+            (Cipher::TdesEde2(with_tables), Cipher::TdesEde2(no_tables)) if size == 16 => differ(with_tables, no_tables),
+            (Cipher::TdesEde3(with_tables), Cipher::TdesEde3(no_tables)) if size == 24 => differ(with_tables, no_tables),
             others => panic!("{others:?}"),
         }
     }
@@ -229,7 +229,7 @@ fn sources(folder: &Path) -> Vec<PathBuf> {
 /// A variant more breaks no caller, but of what has no third one.
 #[test]
 fn enums_may_grow() {
-    let (mut count, closed) = (0, ["Message"]);
+    let (mut count, closed) = (0, ["MessageDirection"]);
     for file in sources(&Path::new(env!("CARGO_MANIFEST_DIR")).join("src")) {
         let text = fs::read_to_string(&file).unwrap();
         for (before, after) in text.match_indices("\npub enum ").map(|(at, _)| text.split_at(at)) {

@@ -6,10 +6,10 @@ ghost use Rattle.des.specs.Cbc.{Chains, next_vector};
 ghost use Rattle.des.specs.Relations.{IsTheOne};
 ghost use Rattle.des_context.specs.Bytes.{AreBytesOf, FitInto};
 ghost use Rattle.des_context.specs.Contexts.{HasMark, IsContextOf, IsSoundIfMarked};
-ghost use Rattle.des_context.specs.Forms.{relation_of};
+ghost use Rattle.des_context.specs.CipherTypes.{relation_of};
 
 use super::Width;
-use des_context::calls;
+use des_context::block_modes;
 use des_context::contexts::NO_MAC;
 use des_context::status::{ERR_BLOCKS, ERR_CONTEXT, OK};
 
@@ -30,7 +30,7 @@ pub extern "C" fn cukvashe_internal_encrypt_ecb(
         → IsTheOne (λ answers. AnswersEach (relation_of key) blocks.old answers) blocks.new }
     ensures kept { result ≢ OK → blocks.new ≡ blocks.old }
 {
-    calls::encrypt_ecb::<Width>(context, blocks, size)
+    block_modes::encrypt_ecb::<Width>(context, blocks, size)
 }
 
 /// Decrypts bytes in place, each block of eight by itself. The status is `ERR_BLOCKS` if they
@@ -50,7 +50,7 @@ pub extern "C" fn cukvashe_internal_decrypt_ecb(
         → IsTheOne (λ answers. AnswersEach (relation_of key) answers blocks.old) blocks.new }
     ensures kept { result ≢ OK → blocks.new ≡ blocks.old }
 {
-    calls::decrypt_ecb::<Width>(context, blocks, size)
+    block_modes::decrypt_ecb::<Width>(context, blocks, size)
 }
 
 /// Writes the bytes of `input`, encrypted as by `cukvashe_internal_encrypt_ecb`, to `output`. The
@@ -73,8 +73,8 @@ pub extern "C" fn cukvashe_internal_encrypt_ecb_to(
         → IsTheOne (λ answers. AnswersEach (relation_of key) input.now answers) output.new }
     ensures kept { result ≢ OK → output.new ≡ output.old }
 {
-    match calls::copy_whole(context, input, output, size) {
-        OK => calls::encrypt_ecb::<Width>(context, output, size),
+    match block_modes::copy_whole(context, input, output, size) {
+        OK => block_modes::encrypt_ecb::<Width>(context, output, size),
         status => status,
     }
 }
@@ -98,8 +98,8 @@ pub extern "C" fn cukvashe_internal_decrypt_ecb_to(
         → IsTheOne (λ answers. AnswersEach (relation_of key) answers input.now) output.new }
     ensures kept { result ≢ OK → output.new ≡ output.old }
 {
-    match calls::copy_whole(context, input, output, size) {
-        OK => calls::decrypt_ecb::<Width>(context, output, size),
+    match block_modes::copy_whole(context, input, output, size) {
+        OK => block_modes::decrypt_ecb::<Width>(context, output, size),
         status => status,
     }
 }
@@ -124,7 +124,7 @@ pub extern "C" fn cukvashe_internal_decrypt_cbc(
     ensures goes_on { result ≡ OK → iv.new ≡ next_vector iv.old blocks.old }
     ensures kept { result ≢ OK → (blocks.new ≡ blocks.old) × (iv.new ≡ iv.old) }
 {
-    calls::decrypt_cbc::<Width>(context, iv, blocks, size)
+    block_modes::decrypt_cbc::<Width>(context, iv, blocks, size)
 }
 
 /// Writes the bytes of `input`, decrypted as by `cukvashe_internal_decrypt_cbc`, to `output`. The
@@ -149,8 +149,8 @@ pub extern "C" fn cukvashe_internal_decrypt_cbc_to(
     ensures goes_on { result ≡ OK → iv.new ≡ next_vector iv.old input.now }
     ensures kept { result ≢ OK → (output.new ≡ output.old) × (iv.new ≡ iv.old) }
 {
-    match calls::copy_whole(context, input, output, size) {
-        OK => calls::decrypt_cbc::<Width>(context, iv, output, size),
+    match block_modes::copy_whole(context, input, output, size) {
+        OK => block_modes::decrypt_cbc::<Width>(context, iv, output, size),
         status => status,
     }
 }

@@ -2,7 +2,7 @@
 
 ghost use Rattle.std.specs.Prelude.{◌≡◌, ◌≢◌, ◌↔◌, length};
 ghost use Rattle.std.specs.Simd.Lanes.{zip2};
-ghost use Rattle.des_context.specs.Forms.{decryption_of, encryption_of};
+ghost use Rattle.des_context.specs.CipherTypes.{decryption_of, encryption_of};
 ghost use Rattle.des_context.specs.Keys.{IsKeyLength, keys_of};
 
 use super::Width;

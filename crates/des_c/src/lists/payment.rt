@@ -3,7 +3,7 @@
 
 ghost use Rattle.std.specs.Prelude.{◌≡◌, ◌≢◌, ◌↔◌, length, map, take, replicate};
 ghost use Rattle.des_payment.specs.Dukpt.{initial_key, transaction_key};
-ghost use Rattle.des_context.specs.Forms.{encryption_of};
+ghost use Rattle.des_context.specs.CipherTypes.{encryption_of};
 ghost use Rattle.des_context.specs.Keys.{IsKeyLength, keys_of};
 
 use super::Width;

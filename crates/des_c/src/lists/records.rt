@@ -3,7 +3,7 @@
 ghost use Rattle.std.specs.Prelude.{◌≡◌, ◌≢◌, ◌↔◌, ℕ, List, length};
 ghost use Rattle.des_fast.specs.Records.{GoOn};
 ghost use Rattle.des_context.specs.Bytes.{AreBytesOf};
-ghost use Rattle.des_context.specs.Forms.{relation_of};
+ghost use Rattle.des_context.specs.CipherTypes.{relation_of};
 ghost use Rattle.des_context.specs.Contexts.{HasMark, IsContextOf, IsSoundIfMarked};
 ghost use Rattle.des_context.specs.Records.{AreSizesOf, ChainsEach};
 

@@ -6,7 +6,7 @@ ghost use Rattle.des_payment.specs.Dukpt.{counter_of, IsUsable, IsNextCounter, I
 ghost use Rattle.des_c.specs.Messages.{message_of as message_by};
 
 use des_context::status::{ERR_NO_SERIAL, OK};
-use des_payment::dukpt::{self, Message};
+use des_payment::dukpt::{self, MessageDirection};
 
 /// The initial key of a terminal, from the base derivation key and a key serial number.
 #[unsafe(no_mangle)]
@@ -37,13 +37,13 @@ pub extern "C" fn cukvashe_dukpt_pin_key(transaction: &[u8; 16], key: &mut [u8; 
     *key = dukpt::pin_key(transaction);
 }
 
-fn message_of(is_response: bool) -> Message
+fn message_of(is_response: bool) -> MessageDirection
     ensures { result ≡ message_by is_response }
 {
     if is_response {
-        Message::Response
+        MessageDirection::Response
     } else {
-        Message::Request
+        MessageDirection::Request
     }
 }
 

@@ -1,6 +1,6 @@
 //! What the words of `key-block` ask for.
 
-use super::typed::{place_of, text_of};
+use super::argument_values::{place_of, text_of};
 use super::{Requested, by_input, by_key, input_at, misuse, one_of, with_key};
 use crate::command::{Calculation, CalculationRequest, KeyBlockCalculation, Wrapping};
 use crate::fault::Misuse;

@@ -5,13 +5,13 @@ ghost use Rattle.des_passwords.specs.declared.derivation.Derivation.{Derivation 
 ghost use Rattle.des_commands.specs.PasswordArguments.{IsCount, IsCountedText, IsDerivationText, count_of as count_by, is_to_encrypt as is_to_encrypt_of, derivation_fault};
 ghost use Rattle.des_commands.specs.Faults.{FailsOnlyBy};
 
+use super::argument_values::{is_given, is_set, text_of};
 use super::streams::output_of;
-use super::typed::{is_given, is_set, text_of};
 use super::{KEY, input_at, misuse, names_one, one_of, read_once, refuse};
 use crate::command::{KeyForm, PrivateKeyRequest};
-use crate::fault::{Fault, Kind, Misuse};
-use crate::source::Source;
+use crate::fault::{Fault, FaultKind, Misuse};
 use crate::stream_request::{Password, Secret};
+use crate::text_source::Source;
 use clap::ArgMatches;
 use des_passwords::Derivation;
 use des_passwords::encrypted_keys::MOST_ITERATIONS;
@@ -89,16 +89,16 @@ fn check_derivation(
     derivation: Derivation,
     encrypts: bool,
     takes_any_count: bool,
-) -> Result<(), Kind>
+) -> Result<(), FaultKind>
     ensures { FailsOnlyBy (derivation_fault derivation encrypts takes_any_count) result }
 {
     let count = count_of(derivation);
     if encrypts && !is_to_encrypt(derivation) {
-        Err(Kind::Usage(Misuse::DerivationToEncrypt))
+        Err(FaultKind::Usage(Misuse::DerivationToEncrypt))
     } else if count == 0 {
-        Err(Kind::Usage(Misuse::Derivation))
+        Err(FaultKind::Usage(Misuse::Derivation))
     } else if count > MOST_ITERATIONS && !takes_any_count {
-        Err(Kind::Usage(Misuse::Count))
+        Err(FaultKind::Usage(Misuse::Count))
     } else {
         Ok(())
     }

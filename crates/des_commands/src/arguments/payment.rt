@@ -1,6 +1,6 @@
 //! What the words of `pin`, `pvv`, `offset` and `emv` ask for.
 
-use super::typed::{count_of, is_given, is_set, place_of, text_of};
+use super::argument_values::{count_of, is_given, is_set, place_of, text_of};
 use super::{
     Requested, by_input, by_key, input_at, key_of, misuse, one_of, with_account, with_key,
 };

@@ -4,21 +4,21 @@ ghost use Rattle.std.specs.Prelude.{◌≡◌, ◌≢◌, Bool, codes, IfSome, I
 ghost use Rattle.des_io.specs.declared.padding.Padding.{Padding as PaddingOf};
 ghost use Rattle.des_commands.specs.declared.stream_request.Cipher.{Cipher as CipherOf};
 ghost use Rattle.des_commands.specs.declared.stream_request.WeakKeys.{WeakKeys as WeakKeysOf};
-ghost use Rattle.des_commands.specs.declared.fault.Kind.TheVariants.{Usage};
+ghost use Rattle.des_commands.specs.declared.fault.FaultKind.TheVariants.{Usage};
 ghost use Rattle.des_commands.specs.declared.fault.Misuse.TheVariants.{Arguments};
 ghost use Rattle.des_commands.specs.StreamArguments.{cipher_name, padding_word, weak_keys_word, default_weak_keys, text_or, part_for};
 ghost use Rattle.des_commands.specs.StreamArguments.{IsVector, FailsAsVector, IsMode, FailsAsMode, IsInput, IsOutput};
 ghost use Rattle.des_commands.specs.StreamArguments.{IsRequest, FailsAsRequest};
 
+use super::argument_values::{is_set, number_of, place_of, text_of};
 use super::passwords::secret_of;
-use super::typed::{is_set, number_of, place_of, text_of};
 use super::{file_of, misuse, read_once};
 use crate::digits::bytes_of;
-use crate::fault::{Fault, Kind, Misuse};
-use crate::source::Source;
+use crate::fault::{Fault, FaultKind, Misuse};
 use crate::stream_request::{
-    Cipher, Coding, Output, Part, Secret, StreamMode, StreamRequest, Vector, WeakKeys,
+    BlockRange, Cipher, Coding, Output, Secret, StreamMode, StreamRequest, Vector, WeakKeys,
 };
+use crate::text_source::Source;
 use clap::ArgMatches;
 use des_io::Padding;
 
@@ -92,49 +92,53 @@ pub fn weak_keys_of(word: Option<&str>, encrypts: bool) -> Option<WeakKeys>
 
 // CBC's vector, in the direction that its word is for. The fault is `Vector` if the text is neither
 // a word nor 16 hexadecimal digits.
-fn vector_of(text: &str, encrypts: bool) -> Result<Vector, Kind>
+fn vector_of(text: &str, encrypts: bool) -> Result<Vector, FaultKind>
     ensures vector { IfOk result (IsVector text.now encrypts) }
     ensures fault { IfErr result (FailsAsVector text.now encrypts) }
 {
     match (text, encrypts) {
         ("random", true) => Ok(Vector::Random),
-        ("random", false) => Err(Kind::Usage(Misuse::RandomToDecrypt)),
+        ("random", false) => Err(FaultKind::Usage(Misuse::RandomToDecrypt)),
         ("first-block", false) => Ok(Vector::FirstBlock),
-        ("first-block", true) => Err(Kind::Usage(Misuse::FirstBlockToEncrypt)),
+        ("first-block", true) => Err(FaultKind::Usage(Misuse::FirstBlockToEncrypt)),
         _ => {
-            let iv = bytes_of::<8>(text.as_bytes(), Kind::Vector, Kind::Vector)?;
+            let iv = bytes_of::<8>(text.as_bytes(), FaultKind::Vector, FaultKind::Vector)?;
             Ok(Vector::Bytes(iv))
         }
     }
 }
 
 // The mode. By a key, CBC has the vector of `--iv`; by a password, that gives one too.
-fn mode_of(words: &StreamWords, is_chained: bool) -> Result<StreamMode, Kind>
+fn mode_of(words: &StreamWords, is_chained: bool) -> Result<StreamMode, FaultKind>
     ensures mode { IfOk result (IsMode words.now.iv words.now.secret is_chained words.now.encrypts) }
     ensures fault { IfErr result (FailsAsMode words.now.iv words.now.secret is_chained words.now.encrypts) }
 {
     match (words.secret, words.iv, is_chained) {
-        (Secret::Password(_, _), Some(_), _) => Err(Kind::Usage(Misuse::VectorOfPassword)),
+        (Secret::Password(_, _), Some(_), _) => Err(FaultKind::Usage(Misuse::VectorOfPassword)),
         (Secret::Password(_, _), None, true) => Ok(StreamMode::Cbc(Vector::OfPassword)),
         (Secret::Key(_), Some(text), true) => {
             Ok(StreamMode::Cbc(vector_of(text, words.encrypts)?))
         }
-        (Secret::Key(_), Some(_), false) => Err(Kind::Usage(Misuse::VectorOfEcb)),
-        (Secret::Key(_), None, true) => Err(Kind::Usage(Misuse::VectorNeeded)),
+        (Secret::Key(_), Some(_), false) => Err(FaultKind::Usage(Misuse::VectorOfEcb)),
+        (Secret::Key(_), None, true) => Err(FaultKind::Usage(Misuse::VectorNeeded)),
         (_, None, false) => Ok(StreamMode::Ecb),
     }
 }
 
 /// The part that `--from` and `--blocks` give, none if neither is given. The fault is
 /// `PartToEncrypt`.
-pub fn part_of(from: Option<u64>, count: Option<u64>, encrypts: bool) -> Result<Option<Part>, Kind>
+pub fn part_of(
+    from: Option<u64>,
+    count: Option<u64>,
+    encrypts: bool,
+) -> Result<Option<BlockRange>, FaultKind>
     ensures { result ≡ part_for encrypts from count }
 {
     match (from, count) {
         (None, None) => Ok(None),
-        _ if encrypts => Err(Kind::Usage(Misuse::PartToEncrypt)),
-        (Some(from), count) => Ok(Some(Part { from, count })),
-        (None, count) => Ok(Some(Part { from: 0, count })),
+        _ if encrypts => Err(FaultKind::Usage(Misuse::PartToEncrypt)),
+        (Some(from), count) => Ok(Some(BlockRange { from, count })),
+        (None, count) => Ok(Some(BlockRange { from: 0, count })),
     }
 }
 
@@ -160,11 +164,11 @@ pub fn output_of<'a>(path: Option<&'a str>) -> Output<'a>
 }
 
 // A fault of the words. Only `Vector` is about `--iv`: the sentences of the others name the option.
-fn fault_of<'a>(kind: Kind) -> Fault<'a>
+fn fault_of<'a>(kind: FaultKind) -> Fault<'a>
     ensures { result.kind ≡ kind }
 {
     match kind {
-        Kind::Vector => Fault {
+        FaultKind::Vector => Fault {
             kind,
             about: "--iv",
         },

@@ -140,7 +140,7 @@ static KEYS: Group<'static> = group! {
   echo 0123456789abcdeffedcba9876543210 >KEY
   printf 'a message' | cukvashe mac cmac --key-file KEY";
 
-    "check-value": "Print the check value of a key, six digits or four";
+    "check-value": "Print the check value (KCV) of a key, six digits or four";
     [{
         "bytes": Word("BYTES", &["2", "3"]) => "Print this number of its first bytes [default: 3]";
     }, Key] "Example:
@@ -167,18 +167,18 @@ static KEYS: Group<'static> = group! {
   echo 1111111111111111 >two.part
   cukvashe combine --part-file one.part --part-file two.part";
 
-    "dukpt": "Print a key of a transaction, from the base derivation key or the initial key (ANSI X9.24-1)";
+    "dukpt": "Print a key of a transaction, from the base derivation key (BDK) or the initial key (ANSI X9.24-1)";
     [{
-        "serial": PlaceOfText("SERIAL") => "The key serial number, 20 hexadecimal digits";
+        "serial": PlaceOfText("SERIAL") => "The key serial number (KSN), 20 hexadecimal digits";
         "purpose": Place("PURPOSE", &["pin", "mac", "data", "data-variant"]) =>
             "What the key is for; data-variant: data, without the last one-way step";
         "response": Nothing => "The response's key, not the request's; not of pin";
-        "initial-key": Nothing => "The key is the initial key (IPEK), not the base derivation key";
+        "initial-key": Nothing => "The key is the initial key (IK, IPEK), not the base derivation key";
     }, Key] "Example:
   echo 0123456789abcdeffedcba9876543210 >KEY
   cukvashe dukpt ffff9876543210e00001 pin --key-file KEY";
 
-    "cvv": "Print the card verification value of a card's data under a key pair";
+    "cvv": "Print the card verification value (CVV) of a card's data under a key pair";
     [{
         "expiry": Needed("DIGITS") => "The expiry date, 4 digits in the issuer's order (YYMM or MMYY)";
         "service": Needed("DIGITS") => "The service code, 3 digits";
@@ -219,7 +219,7 @@ static PIN: Group<'static> = group! {
 };
 
 static PVV: Group<'static> = group! {
-    "pvv": "Print the PIN verification value of a PIN, or whether it is right";
+    "pvv": "Print the PIN verification value (PVV) of a PIN, or whether it is right";
 
     "make": "Print the PIN verification value of a PIN under a key pair, four digits";
     [Index, PinFile, Account, Key] "Example:
@@ -264,10 +264,10 @@ static OFFSET: Group<'static> = group! {
 static EMV: Group<'static> = group! {
     "emv": "Print keys and cryptograms of a card (EMV 4.3, Book 2)";
 
-    "card-key": "Print the key of a card, from the issuer's master key";
+    "card-key": "Print the key of a card, from the issuer's master key (IMK)";
     [{
         "sequence": Text("DIGITS") =>
-            "The card's sequence number, 2 digits [default: 00, of a card without one]";
+            "The card's sequence number (PSN), 2 digits [default: 00, of a card without one]";
         "option": Word("OPTION", &["a", "b"]) =>
             "By option A, or B, which differs for account numbers of more than 16 digits [default: a]";
     }, Account, Key] "Example:
@@ -278,14 +278,14 @@ static EMV: Group<'static> = group! {
     "session-key": "Print the key of a session, from the card's key";
     [{
         "counter": Text("DIGITS") =>
-            "The application transaction counter, 4 hexadecimal digits; for cryptograms";
+            "The application transaction counter (ATC), 4 hexadecimal digits; for cryptograms";
         "cryptogram": Text("DIGITS") =>
             "The application cryptogram, 16 hexadecimal digits; for messages to the card";
     }, Key] "Example:
   echo 67f8292358083e5ea7ab7fda58d53b6b >KEY
   cukvashe emv session-key --counter 001c --key-file KEY";
 
-    "cryptogram": "Print the application cryptogram of data, under the session's key";
+    "cryptogram": "Print the application cryptogram (ARQC, TC or AAC) of data, under the session's key";
     [{
         "data-file": Text("FILE") =>
             "Read the data's hexadecimal digits from a file [default: standard input]";
@@ -293,7 +293,7 @@ static EMV: Group<'static> = group! {
   echo 38324e73f063efdd5ca88c322476a45b >KEY
   printf 000000005000 | cukvashe emv cryptogram --key-file KEY";
 
-    "response-1": "Print the issuer's response by method 1, under the session's key";
+    "response-1": "Print the issuer's response (ARPC) by method 1, under the session's key";
     [Cryptogram, {
         "code": Needed("DIGITS") => "The response code, 4 hexadecimal digits: 3030 for the characters 00";
     }, Key] "Example:
@@ -301,7 +301,7 @@ static EMV: Group<'static> = group! {
   cukvashe emv response-1 --cryptogram ac06a6df7a7d00e8 \\
     --code 3030 --key-file KEY";
 
-    "response-2": "Print the issuer's response by method 2, under the session's key";
+    "response-2": "Print the issuer's response (ARPC) by method 2, under the session's key";
     [Cryptogram, {
         "status": Needed("DIGITS") => "The card status update, 8 hexadecimal digits";
         "data": Text("DIGITS") => "The issuer's data, at most 16 hexadecimal digits [default: none]";
@@ -329,7 +329,7 @@ static KEY_BLOCK: Group<'static> = group! {
     5F5341176EED7B727B8A248E |
     cukvashe key-block unwrap --protection-key-file PROTECTION";
 
-    "wrap": "Print the block of a key, under a key that protects key blocks";
+    "wrap": "Print the block of a key, under a key that protects key blocks (KBPK)";
     [{
         "version": Word("VERSION", &["B", "C"]) =>
             "The version of the block: derived keys, or variants of the key [default: B]";

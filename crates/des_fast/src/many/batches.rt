@@ -1,4 +1,4 @@
-//! Which way a list goes: in batches, which read no table, or side by side.
+//! How a list is processed: in batches, which read no table, or side by side.
 
 ghost use Rattle.std.specs.Prelude.{◌≡◌, ◌≢◌, ◌≤◌, ◌-◌, ◌%◌};
 
@@ -15,18 +15,22 @@ pub const MOST_NARROW: usize = 128;
 // 10 blocks 1.61 and 4.53 (8: 1.09 and 3.01).
 pub(super) const FEW_BY_TABLES: usize = 31;
 
-const FEW_QUIET: usize = 10;
+const FEW_NO_TABLES: usize = 10;
 
 /// How many blocks of a list go in batches, from the first on: the whole batches, and what is left
 /// over too unless it is few blocks. Few go side by side. The clause `batches` is for speed alone: no
 /// whole batch goes side by side.
 #[inline(always)]
-pub(super) fn in_batches<S: Slice>(count: usize, quiet: bool) -> usize
+pub(super) fn in_batches<S: Slice>(count: usize, no_tables: bool) -> usize
     ensures there { result ≤ count }
     ensures batches { result ≢ count → result ≡ count - count % S.BATCH }
     ensures few { count - result ≤ 31 }
 {
-    let few = if quiet { FEW_QUIET } else { FEW_BY_TABLES };
+    let few = if no_tables {
+        FEW_NO_TABLES
+    } else {
+        FEW_BY_TABLES
+    };
     let left = count % S::BATCH;
     if left <= few { count - left } else { count }
 }

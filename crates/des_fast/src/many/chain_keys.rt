@@ -25,12 +25,12 @@ pub trait ChainKeys {
         ensures { IsTrue result ↔ are_for self.now count };
 
     /// The passes of encryption by lanes: lane k has those of chain `from + k`. They may be written
-    /// to `room`.
+    /// to `buffer`.
     fn encryption<'a>(
         &'a self,
         from: usize,
         count: usize,
-        room: &'a mut LaneKeys<Self::Slices>,
+        buffer: &'a mut LaneKeys<Self::Slices>,
     ) -> &'a [PassSlices<Self::Slices>]
         requires few { count ≤ Self.Slices.BATCH }
         requires within { (n : ℕ) × are_for self.now n × (from + count ≤ n) }
@@ -56,7 +56,7 @@ impl<S: Slice> ChainKeys for LaneKeys<S> {
         &'a self,
         _from: usize,
         _count: usize,
-        _room: &'a mut LaneKeys<S>,
+        _buffer: &'a mut LaneKeys<S>,
     ) -> &'a [PassSlices<S>] {
         self.passes()
     }

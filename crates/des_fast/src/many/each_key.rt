@@ -6,11 +6,11 @@ ghost use Rattle.des_fast.specs.Slices.{InEachBlock};
 ghost use Rattle.des_fast.specs.SpreadKeys.{used};
 ghost use Rattle.des_fast.specs.EachKey.{lane_answer, last_part, triple_parts};
 ghost use Rattle.des_fast.specs.LaneKeys.{AnswerLanes, answer_in};
-ghost use Rattle.des_fast.specs.ChainEnds.{AreEnds, under_key};
+ghost use Rattle.des_fast.specs.ChainingValues.{AreChainingValues, under_key};
 
 use super::chain_keys::ChainKeys;
-use super::lanes::{LaneKeys, Part, answer_lanes_part};
-use super::{BlockLists, LARGEST_BATCH, Slice, ends};
+use super::lanes::{LaneKeys, PassPart, process_lanes_part};
+use super::{BlockLists, LARGEST_BATCH, Slice, chaining_values};
 use crate::Des;
 use crate::slices::PassSlices;
 use des::cipher::{KeyedCipher, NotEqualError};
@@ -39,7 +39,7 @@ pub trait KeyForEach: KeyedCipher + Sized {
             ≡ zip2 Self.encryption (map Self.Key.bytes_of keys.now) blocks.old) }
         ensures err { OnErr result (blocks.new ≡ blocks.old) }
     {
-        answer_equal::<S, Self>(keys, blocks, false)
+        process_equal::<S, Self>(keys, blocks, false)
     }
 
     /// Decrypts each block of 8 bytes in place under the key at its place, as `encrypt_each_by`
@@ -53,19 +53,19 @@ pub trait KeyForEach: KeyedCipher + Sized {
             ≡ zip2 Self.decryption (map Self.Key.bytes_of keys.now) blocks.old) }
         ensures err { OnErr result (blocks.new ≡ blocks.old) }
     {
-        answer_equal::<S, Self>(keys, blocks, true)
+        process_equal::<S, Self>(keys, blocks, true)
     }
 
     /// Makes each block the end of the chain from it through the list at its place, all under one
-    /// key, as `chain_ends_each_by` under many. If the numbers of blocks and lists differ, the
+    /// key, as `chaining_values_each_by` under many. If the numbers of blocks and lists differ, the
     /// answer is `NotEqualError`, and the blocks are unchanged.
-    final fn chain_ends_by<S: Slice, L: BlockLists>(
+    final fn chaining_values_by<S: Slice, L: BlockLists>(
         key: &Self::Key,
         chains: &mut [[u8; 8]],
         lists: &L,
     ) -> Result<(), NotEqualError>
         ensures accepted { IsOk result ↔ (length chains.old ≡ L.list_count lists.now) }
-        ensures ok { OnOk result (AreEnds (λ k. Self.encryption (Self.Key.bytes_of key.now))
+        ensures ok { OnOk result (AreChainingValues (λ k. Self.encryption (Self.Key.bytes_of key.now))
             (L.block_of lists.now) (L.count_of lists.now) chains.old chains.new) }
         ensures err { OnErr result (chains.new ≡ chains.old) }
     {
@@ -74,7 +74,7 @@ pub trait KeyForEach: KeyedCipher + Sized {
         }
         let mut lanes = LaneKeys::zeros();
         spread_batch::<S, Self>(&[*key; LARGEST_BATCH], &mut lanes);
-        ends::end(&lanes, chains, lists);
+        chaining_values::last_values(&lanes, chains, lists);
         Ok(())
     }
 
@@ -83,14 +83,14 @@ pub trait KeyForEach: KeyedCipher + Sized {
     /// the list at j. From blocks of zeros it makes the chains of CBC-MAC. The lists of a batch go
     /// in step, so that a batch takes the time of its longest list. If the numbers of keys,
     /// blocks and lists differ, the answer is `NotEqualError`, and the blocks are unchanged.
-    final fn chain_ends_each_by<S: Slice, L: BlockLists>(
+    final fn chaining_values_each_by<S: Slice, L: BlockLists>(
         keys: &[Self::Key],
         chains: &mut [[u8; 8]],
         lists: &L,
     ) -> Result<(), NotEqualError>
         ensures accepted { IsOk result ↔ ((length keys.now ≡ length chains.old)
             × (length chains.old ≡ L.list_count lists.now)) }
-        ensures ok { OnOk result (AreEnds
+        ensures ok { OnOk result (AreChainingValues
             (under_key Self.encryption (map Self.Key.bytes_of keys.now))
             (L.block_of lists.now) (L.count_of lists.now) chains.old chains.new) }
         ensures err { OnErr result (chains.new ≡ chains.old) }
@@ -98,7 +98,7 @@ pub trait KeyForEach: KeyedCipher + Sized {
         if keys.len() != chains.len() || chains.len() != lists.list_count() {
             return Err(NotEqualError);
         }
-        ends::end(&EachKey::<S, Self>::new(keys), chains, lists);
+        chaining_values::last_values(&EachKey::<S, Self>::new(keys), chains, lists);
         Ok(())
     }
 }
@@ -137,10 +137,10 @@ impl<'a, S: Slice, C: KeyForEach> ChainKeys for EachKey<'a, S, C> {
         &'b self,
         from: usize,
         count: usize,
-        room: &'b mut LaneKeys<S>,
+        buffer: &'b mut LaneKeys<S>,
     ) -> &'b [PassSlices<S>] {
-        C::spread_each::<S>(&self.keys[from..from + count], false, room);
-        room.passes()
+        C::spread_each::<S>(&self.keys[from..from + count], false, buffer);
+        buffer.passes()
     }
 }
 
@@ -155,7 +155,7 @@ fn spread_batch<S: Slice, C: KeyForEach>(keys: &[C::Key; LARGEST_BATCH], lanes: 
 
 // Takes at most a batch of blocks through a cipher, each under its key, which is spread over the
 // lanes.
-fn answer_part<S: Slice, C: KeyForEach>(
+fn process_part<S: Slice, C: KeyForEach>(
     keys: &[C::Key],
     blocks: &mut [[u8; 8]],
     deciphers: bool,
@@ -167,11 +167,11 @@ fn answer_part<S: Slice, C: KeyForEach>(
         (map C.Key.bytes_of keys.now) blocks.old }
 {
     C::spread_each(keys, deciphers, lanes);
-    answer_lanes_part::<S>(blocks, lanes.passes());
+    process_lanes_part::<S>(blocks, lanes.passes());
 }
 
 // Takes each block through a cipher under its key, batch after batch, and then what is left over.
-fn answer_each<S: Slice, C: KeyForEach>(keys: &[C::Key], blocks: &mut [[u8; 8]], deciphers: bool)
+fn process_each<S: Slice, C: KeyForEach>(keys: &[C::Key], blocks: &mut [[u8; 8]], deciphers: bool)
     requires { length keys.now ≡ length blocks.old }
     ensures { blocks.new ≡ zip2 (answer_in deciphers C.encryption C.decryption)
         (map C.Key.bytes_of keys.now) blocks.old }
@@ -181,13 +181,13 @@ fn answer_each<S: Slice, C: KeyForEach>(keys: &[C::Key], blocks: &mut [[u8; 8]],
     'parts: while from < blocks.len() {
         let count = S::BATCH.min(blocks.len() - from);
         let part = &keys[from..from + count];
-        answer_part::<S, C>(part, &mut blocks[from..from + count], deciphers, &mut lanes);
+        process_part::<S, C>(part, &mut blocks[from..from + count], deciphers, &mut lanes);
         from += count;
     }
 }
 
 // Encrypts or decrypts if there is a key for each block, and otherwise changes nothing.
-fn answer_equal<S: Slice, C: KeyForEach>(
+fn process_equal<S: Slice, C: KeyForEach>(
     keys: &[C::Key],
     blocks: &mut [[u8; 8]],
     deciphers: bool,
@@ -200,7 +200,7 @@ fn answer_equal<S: Slice, C: KeyForEach>(
     if keys.len() != blocks.len() {
         return Err(NotEqualError);
     }
-    answer_each::<S, C>(keys, blocks, deciphers);
+    process_each::<S, C>(keys, blocks, deciphers);
     Ok(())
 }
 
@@ -218,22 +218,22 @@ fn last_part<P: Parts>() -> usize
 }
 
 // The parts of a key under which the passes of a triple cipher are, in order.
-fn parts_of<P: Parts, F: Form>(deciphers: bool) -> [Part; 3]
+fn parts_of<P: Parts, F: Form>(deciphers: bool) -> [PassPart; 3]
     ensures { result ≡ triple_parts P.has_three F.DECIPHERS_SECOND deciphers }
 {
     let last = last_part::<P>();
     let second = F::DECIPHERS_SECOND;
     if deciphers {
         [
-            Part::new(last, true),
-            Part::new(2, !second),
-            Part::new(1, true),
+            PassPart::new(last, true),
+            PassPart::new(2, !second),
+            PassPart::new(1, true),
         ]
     } else {
         [
-            Part::new(1, false),
-            Part::new(2, second),
-            Part::new(last, false),
+            PassPart::new(1, false),
+            PassPart::new(2, second),
+            PassPart::new(last, false),
         ]
     }
 }

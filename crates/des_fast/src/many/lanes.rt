@@ -19,19 +19,19 @@ use des::tdes::key_part;
 
 /// A pass of DES under a part of a key.
 #[derive(Clone, Copy)]
-pub(super) struct Part {
+pub(super) struct PassPart {
     /// The number of the part, from 1.
     pub(super) number: usize,
     /// Whether the pass deciphers.
     pub(super) deciphers: bool,
 }
 
-impl Part {
+impl PassPart {
     /// The pass under a part that deciphers, or enciphers.
-    pub(super) fn new(number: usize, deciphers: bool) -> Part
+    pub(super) fn new(number: usize, deciphers: bool) -> PassPart
         ensures { result ≡ record { number = number; deciphers = deciphers } }
     {
-        Part { number, deciphers }
+        PassPart { number, deciphers }
     }
 }
 
@@ -73,12 +73,12 @@ impl<S: Slice> LaneKeys<S> {
             ≡ round_keys_of_parts (record { number = 1; deciphers = deciphers } ∷ [])
             (block_at keys.now k) }
     {
-        spread_part(&mut self.passes[0], keys, Part::new(1, deciphers));
+        spread_part(&mut self.passes[0], keys, PassPart::new(1, deciphers));
         self.is_triple = false;
     }
 
     /// Makes the lanes' keys three passes under parts of these keys.
-    pub(super) fn spread_three<K: KeyBytes>(&mut self, keys: &[K], parts: &[Part; 3])
+    pub(super) fn spread_three<K: KeyBytes>(&mut self, keys: &[K], parts: &[PassPart; 3])
         requires batch { length keys.now ≤ S.BATCH }
         requires there { IsTrue (list_all
             (λ p. nat_lt 0 p.number && nat_lt (8 * p.number) (K.LEN + 1)) parts.now) }
@@ -105,7 +105,7 @@ fn write_parts<K: KeyBytes>(parts: &mut [[u8; 8]; LARGEST_BATCH], keys: &[K], nu
 }
 
 // Makes the slices those of a pass under a part of each key.
-fn spread_part<S: Slice, K: KeyBytes>(pass: &mut PassSlices<S>, keys: &[K], by: Part)
+fn spread_part<S: Slice, K: KeyBytes>(pass: &mut PassSlices<S>, keys: &[K], by: PassPart)
     requires from_one { 1 ≤ by.number }
     requires within { 8 * by.number ≤ K.LEN }
     requires batch { length keys.now ≤ S.BATCH }
@@ -122,7 +122,7 @@ fn spread_part<S: Slice, K: KeyBytes>(pass: &mut PassSlices<S>, keys: &[K], by: 
 fn spread_pass<S: Slice, K: KeyBytes>(
     passes: &mut [PassSlices<S>; 3],
     keys: &[K],
-    parts: &[Part; 3],
+    parts: &[PassPart; 3],
     i: usize,
 )
     requires within { i < 3 }
@@ -144,7 +144,7 @@ fn spread_pass<S: Slice, K: KeyBytes>(
 fn spread_parts<S: Slice, K: KeyBytes>(
     passes: &mut [PassSlices<S>; 3],
     keys: &[K],
-    parts: &[Part; 3],
+    parts: &[PassPart; 3],
 )
     requires batch { length keys.now ≤ S.BATCH }
     requires there { IsTrue (list_all (λ p. nat_lt 0 p.number && nat_lt (8 * p.number) (K.LEN + 1))
@@ -158,7 +158,7 @@ fn spread_parts<S: Slice, K: KeyBytes>(
 }
 
 /// Takes a batch of blocks through passes, each by the round keys that the slices hold for it.
-pub(super) fn answer_lanes<S: Slice>(blocks: &mut [[u8; 8]], passes: &[PassSlices<S>])
+pub(super) fn process_lanes<S: Slice>(blocks: &mut [[u8; 8]], passes: &[PassSlices<S>])
     requires { length blocks.old ≡ S.BATCH }
     ensures count { length blocks.new ≡ length blocks.old }
     ensures lanes { InEachBlock S.BATCH (λ b. block_at blocks.new b
@@ -172,19 +172,19 @@ pub(super) fn answer_lanes<S: Slice>(blocks: &mut [[u8; 8]], passes: &[PassSlice
 
 /// A function for the proof alone: takes the first lanes, a batch, through passes. Of an array that is
 /// lent the proof knows the length if it is a parameter.
-pub(super) fn answer_filled<S: Slice>(
+pub(super) fn process_filled<S: Slice>(
     lanes: &mut [[u8; 8]; LARGEST_BATCH],
     passes: &[PassSlices<S>],
 )
     ensures { (k : ℕ) → k < S.BATCH
         → block_at lanes.new k ≡ lane_answer (S.bit k) passes.now (block_at lanes.old k) }
 {
-    answer_lanes(&mut lanes[..S::BATCH], passes);
+    process_lanes(&mut lanes[..S::BATCH], passes);
 }
 
 /// Makes the first blocks of an array what passes make of at most a batch of blocks. They go
 /// through the passes in a batch that is filled up with blocks of the array.
-pub(super) fn write_answers<S: Slice>(
+pub(super) fn write_processed<S: Slice>(
     answers: &mut [[u8; 8]; LARGEST_BATCH],
     blocks: &[[u8; 8]],
     passes: &[PassSlices<S>],
@@ -194,20 +194,20 @@ pub(super) fn write_answers<S: Slice>(
         ≡ lane_answer (S.bit k) passes.now (block_at blocks.now k) }
 {
     answers[..blocks.len()].copy_from_slice(blocks);
-    answer_filled(answers, passes);
+    process_filled(answers, passes);
 }
 
 /// Takes at most a batch of blocks through passes.
-pub(super) fn answer_lanes_part<S: Slice>(blocks: &mut [[u8; 8]], passes: &[PassSlices<S>])
+pub(super) fn process_lanes_part<S: Slice>(blocks: &mut [[u8; 8]], passes: &[PassSlices<S>])
     requires { length blocks.old ≤ S.BATCH }
     ensures count { length blocks.new ≡ length blocks.old }
     ensures lanes { (k : ℕ) → k < length blocks.old → block_at blocks.new k
         ≡ lane_answer (S.bit k) passes.now (block_at blocks.old k) }
 {
     if blocks.len() == S::BATCH {
-        return answer_lanes(blocks, passes);
+        return process_lanes(blocks, passes);
     }
     let mut answers = [[0; 8]; LARGEST_BATCH];
-    write_answers(&mut answers, blocks, passes);
+    write_processed(&mut answers, blocks, passes);
     blocks.copy_from_slice(&answers[..blocks.len()]);
 }

@@ -14,7 +14,7 @@ ghost use Rattle.des_fast.specs.RecordStates.{HasBlock, AreWritten, AreChainedBe
 ghost use Rattle.des_fast.specs.SpreadKeys.{AreSlicesFor};
 ghost use Rattle.des_fast.specs.Transposition.{block_at};
 
-use super::lanes::{answer_filled, write_answers};
+use super::lanes::{process_filled, write_processed};
 use super::{LARGEST_BATCH, Slice, xored};
 use crate::slices::PassSlices;
 
@@ -131,7 +131,7 @@ fn write_lanes(
 }
 
 // Chains the records of a group in step.
-fn chain_group<S: Slice>(
+fn cbc_encrypt_group<S: Slice>(
     vectors: &mut [[u8; 8]],
     sizes: &[usize],
     blocks: &mut [[u8; 8]],
@@ -157,14 +157,14 @@ fn chain_group<S: Slice>(
     let mut lanes = [[0; 8]; LARGEST_BATCH];
     'steps: for i in 0..steps {
         fill_lanes(&mut lanes, vectors, sizes, blocks, group, i);
-        answer_filled(&mut lanes, passes);
+        process_filled(&mut lanes, passes);
         write_lanes(&lanes, vectors, sizes, blocks, group, i);
     }
 }
 
 /// Chains each record from the vector at its place, a batch of records at a time, and makes the
 /// vector the one with which the chain goes on.
-pub(super) fn chain<S: Slice>(
+pub(super) fn cbc_encrypt<S: Slice>(
     vectors: &mut [[u8; 8]],
     sizes: &[usize],
     blocks: &mut [[u8; 8]],
@@ -188,7 +188,7 @@ pub(super) fn chain<S: Slice>(
         let count = S::BATCH.min(vectors.len() - from);
         let group = Group { from, count, start };
         let extent = group.extent(sizes);
-        chain_group(vectors, sizes, blocks, group, extent.steps, passes);
+        cbc_encrypt_group(vectors, sizes, blocks, group, extent.steps, passes);
         from += count;
         start = extent.end;
     }
@@ -265,7 +265,7 @@ fn take_out(
 }
 
 // Takes a span of the blocks, at most a batch, out of the chains, as `take_out` does.
-fn unchain_part<S: Slice>(
+fn cbc_decrypt_part<S: Slice>(
     vectors: &mut [[u8; 8]],
     sizes: &[usize],
     blocks: &mut [[u8; 8]],
@@ -290,13 +290,13 @@ fn unchain_part<S: Slice>(
 {
     let mut answers = [[0; 8]; LARGEST_BATCH];
     let part = &blocks[span.from..span.from + span.count];
-    write_answers(&mut answers, part, passes);
+    write_processed(&mut answers, part, passes);
     take_out(vectors, sizes, blocks, span, &answers)
 }
 
 /// Takes each record out of the chain that begins with the vector at its place, a batch of blocks at
 /// a time, and makes the vector the one with which the chain goes on.
-pub(super) fn unchain<S: Slice>(
+pub(super) fn cbc_decrypt<S: Slice>(
     vectors: &mut [[u8; 8]],
     sizes: &[usize],
     blocks: &mut [[u8; 8]],
@@ -325,7 +325,7 @@ pub(super) fn unchain<S: Slice>(
             count,
             current,
         };
-        current = unchain_part(vectors, sizes, blocks, span, passes);
+        current = cbc_decrypt_part(vectors, sizes, blocks, span, passes);
         from += count;
     }
 }

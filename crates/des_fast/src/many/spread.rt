@@ -9,7 +9,7 @@ ghost use Rattle.des_fast.specs.SpreadKeys.{AreSpreadKeys};
 
 use super::lanes::LaneKeys;
 use super::passes::{spread_one, spread_three};
-use super::{ManyBlocks, Slice, answer, chains, records};
+use super::{ManyBlocks, Slice, cbc_lists, process, records};
 use crate::Des;
 use des::cipher::{NotEqualError, are_blocks};
 use des::tdes::{Form, Parts, Triple};
@@ -41,7 +41,7 @@ impl<S: Slice> SpreadKeys<S> {
             → AreSpreadKeys S.BATCH S.bit self.now encrypted decrypted
             → blocks.new ≡ map encrypted blocks.old }
     {
-        answer::<S>(blocks, self.encryption.passes());
+        process::<S>(blocks, self.encryption.passes());
     }
 
     /// Decrypts each block of 8 bytes in place, in order, as `decrypt_many` of a cipher whose keys
@@ -52,7 +52,7 @@ impl<S: Slice> SpreadKeys<S> {
             → AreSpreadKeys S.BATCH S.bit self.now encrypted decrypted
             → blocks.new ≡ map decrypted blocks.old }
     {
-        answer::<S>(blocks, self.decryption.passes());
+        process::<S>(blocks, self.decryption.passes());
     }
 
     /// Decrypts in place a list of blocks of 8 bytes that CBC chained from the initialization
@@ -63,7 +63,7 @@ impl<S: Slice> SpreadKeys<S> {
             → AreSpreadKeys S.BATCH S.bit self.now encrypted decrypted
             → Unchains decrypted iv.now blocks.old blocks.new }
     {
-        chains::unchain::<S>(blocks, iv, self.decryption.passes());
+        cbc_lists::cbc_decrypt::<S>(blocks, iv, self.decryption.passes());
     }
 
     /// Encrypts records in place by CBC, in step: one record after another stands in `blocks`, of as
@@ -96,7 +96,7 @@ impl<S: Slice> SpreadKeys<S> {
         if !are_records(vectors, sizes, blocks) {
             return Err(NotEqualError);
         }
-        records::chain(vectors, sizes, blocks, self.encryption.passes());
+        records::cbc_encrypt(vectors, sizes, blocks, self.encryption.passes());
         Ok(())
     }
 
@@ -126,7 +126,7 @@ impl<S: Slice> SpreadKeys<S> {
         if !are_records(vectors, sizes, blocks) {
             return Err(NotEqualError);
         }
-        records::unchain(vectors, sizes, blocks, self.decryption.passes());
+        records::cbc_decrypt(vectors, sizes, blocks, self.decryption.passes());
         Ok(())
     }
 }

@@ -21,7 +21,7 @@ pub(crate) type KeyHalves<S> = [S; 112];
 /// A pass of DES: the last two round keys of its key, in which all bits of C and D stand, and
 /// whether it takes the round keys from the last to the first.
 #[derive(Clone, Copy)]
-pub(crate) struct Pass {
+pub(crate) struct PassKeys {
     pub(crate) fifteenth: RoundKey,
     pub(crate) sixteenth: RoundKey,
     pub(crate) deciphers: bool,
@@ -123,7 +123,7 @@ impl<S: Slice> PassSlices<S> {
 
     /// Makes the slices those of a pass.
     #[inline(always)]
-    pub(crate) fn spread(&mut self, pass: &Pass)
+    pub(crate) fn spread(&mut self, pass: &PassKeys)
         ensures { InEachBlock S.BATCH (λ b. round_keys_in (S.bit b) self.new
             ≡ round_keys_of_pass pass.now) }
     {

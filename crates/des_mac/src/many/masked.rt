@@ -2,7 +2,7 @@
 
 ghost use Rattle.std.specs.Prelude.{◌≡◌, ◌↔◌, ◌≤◌, ◌<◌, ℕ, List, [], ◌/◌, length, map, slice_index_or, IsOk, OnOk, OnErr};
 ghost use Rattle.std.specs.Simd.Lanes.{zip2};
-ghost use Rattle.des_fast.specs.ChainEnds.{under_key};
+ghost use Rattle.des_fast.specs.ChainingValues.{under_key};
 ghost use Rattle.des_mac.specs.Padding.{last_count, one_bit_after};
 ghost use Rattle.des_mac.specs.CbcMac.{block_after, zero_block};
 ghost use Rattle.des_mac.specs.Cmac.{subkey_1, subkey_2, masked_message, cmac};
@@ -165,7 +165,7 @@ fn write_group<S: Slice, C: KeyForEach>(keys: &[C::Key], messages: &[&[u8]], tag
     zeros_under_each::<S, C>(keys, zeros);
     clear(tags);
     let lists = MaskedByEach { messages, zeros };
-    C::chain_ends_each_by::<S, MaskedByEach>(keys, tags, &lists).unwrap();
+    C::chaining_values_each_by::<S, MaskedByEach>(keys, tags, &lists).unwrap();
 }
 
 /// The tags of CMAC of many messages under one key, `S::BATCH` at a time: as `Cmac::mac` makes
@@ -189,7 +189,7 @@ pub fn cmacs_by<S: Slice, C: KeyForEach + Drop>(
         messages,
         zeros: zeros_under::<S, C>(key),
     };
-    C::chain_ends_by::<S, MaskedMessages>(key, tags, &lists)
+    C::chaining_values_by::<S, MaskedMessages>(key, tags, &lists)
 }
 
 /// The tags of CMAC of many messages, each under the key at its place, at most 256 at a time.

@@ -5,7 +5,7 @@ use crate::libraries::known::{EEE2, EEE3, IV, Known, STEP, THREE, TWO, blocks, m
 use des::cbc;
 use des::cipher::{BlockCipher, BlockCipherDecrypt, BlockCipherEncrypt, KeyInit};
 use des_fast::many::{ManyBlocks, Slice, SpreadKeys, SpreadOnce};
-use des_fast::quiet;
+use des_fast::no_tables;
 use std::simd::prelude::*;
 
 type List = [[u8; 8]; 130];
@@ -53,14 +53,14 @@ fn three_parts_answer() -> bool {
     let cipher = des_fast::TdesEee3::new(&THREE);
     answers_many(&cipher, &EEE3)
         && spread_keys_answer(&cipher.spread_keys::<u64x2>(), &EEE3)
-        && answers(&quiet::TdesEee3::new(&THREE), &EEE3)
+        && answers(&no_tables::TdesEee3::new(&THREE), &EEE3)
 }
 
 fn two_parts_answer() -> bool {
     let cipher = des_fast::TdesEee2::new(&TWO);
     answers_many(&cipher, &EEE2)
         && spread_keys_answer(&cipher.spread_keys::<u64x4>(), &EEE2)
-        && answers(&quiet::TdesEee2::new(&TWO), &EEE2)
+        && answers(&no_tables::TdesEee2::new(&TWO), &EEE2)
 }
 
 #[test]

@@ -4,7 +4,7 @@
 ghost use Rattle.std.specs.Prelude.{◌≤◌};
 
 use des::cipher::KeyInit;
-use des_fast::quiet;
+use des_fast::no_tables;
 use des_payment::key_blocks::unwrap;
 use des_payment::{DecimalTable, Pin};
 use std::fmt;
@@ -126,13 +126,13 @@ fn single_ciphers_show_no_key() -> bool {
     let key = *b"01234567";
     show_alone(&des::Des::new(&key), "Des { ... }")
         && show_alone(&des_fast::Des::new(&key), "Des { ... }")
-        && show_alone(&quiet::Des::new(&key), "Des { ... }")
+        && show_alone(&no_tables::Des::new(&key), "Des { ... }")
 }
 
 fn triple_ciphers_show_no_key() -> bool {
     show_alone(&des::TdesEde3::new(&THREE), "TdesEde3 { ... }")
         && show_alone(&des_fast::TdesEee3::new(&THREE), "TdesEee3 { ... }")
-        && show_alone(&quiet::TdesEde2::new(&TWO), "TdesEde2 { ... }")
+        && show_alone(&no_tables::TdesEde2::new(&TWO), "TdesEde2 { ... }")
         && show_alone(&des::TdesEee2::new(&TWO), "TdesEee2 { ... }")
 }
 

@@ -1,11 +1,11 @@
 use Rattle.std.proofs.Common.{◌≡◌, ℕ, List, [], ◌∷◌, ◌++◌, codes, Result, Ok, Err, OnOk, append_assoc, ap, ◌∙◌}
 use Rattle.des_payment.specs.KeyBlockHeaders.{version_text, usage_text, algorithm_text, mode_text, exportability_text}
-use Rattle.des_commands.specs.declared.fault.Kind.{Kind}
+use Rattle.des_commands.specs.declared.fault.FaultKind.{FaultKind}
 use Rattle.des_commands.specs.KeyBlockLines.{field_line}
 use Rattle.des_commands.proofs.key_block_lines.add_header.Goals as goal
 
 -- what a call added last, after what was added before
-joined : (start a b c d e f before after : List ℕ) (result : Result (Unit {0}) Kind)
+joined : (start a b c d e f before after : List ℕ) (result : Result (Unit {0}) FaultKind)
     → before ≡ start ++ (a ++ (b ++ (c ++ (d ++ e)))) → OnOk result (after ≡ before ++ f)
     → OnOk result (after ≡ start ++ (a ++ (b ++ (c ++ (d ++ (e ++ f))))))
 joined start a b c d e f before after (Ok done) so_far added =

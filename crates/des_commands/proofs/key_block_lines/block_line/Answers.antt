@@ -3,7 +3,7 @@ use Rattle.std.specs.Option.{option_map}
 use Rattle.std.specs.Result.{result_err}
 use Rattle.std.proofs.lemmas.Bool.Decides.{nat_tests}
 use Rattle.std.proofs.lemmas.Result.{err_from_is_err_and}
-use Rattle.des_commands.specs.declared.fault.Kind.TheVariants.{KeyBlock}
+use Rattle.des_commands.specs.declared.fault.FaultKind.TheVariants.{KeyBlock}
 use Rattle.des_commands.proofs.Faults.{fails_as}
 use Rattle.des_commands.proofs.key_block_lines.block_line.Goals as goal
 

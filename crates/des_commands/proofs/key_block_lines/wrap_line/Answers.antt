@@ -1,6 +1,6 @@
 use Rattle.std.proofs.Common.{◌≡◌, Some, None, Err, ap, ◌∙◌}
 use Rattle.std.proofs.lemmas.Result.{err_from_is_err_and}
-use Rattle.des_commands.specs.declared.fault.Kind.TheVariants.{ToKeyLength, ToKeyText}
+use Rattle.des_commands.specs.declared.fault.FaultKind.TheVariants.{ToKeyLength, ToKeyText}
 use Rattle.des_commands.specs.Keys.{any_key_fault}
 use Rattle.des_commands.specs.KeyBlockLines.{protection_fault, header_text_fault, texts_fault}
 use Rattle.des_commands.proofs.Faults.{some_from, none_from, first_of, passed}

@@ -2,7 +2,7 @@ use Rattle.std.proofs.Common.{◌≡◌, ℕ, List, sym, ap, ◌∙◌}
 use Rattle.std.specs.Option.{option_map}
 use Rattle.std.specs.Result.{result_err}
 use Rattle.std.proofs.lemmas.Result.{err_from_is_err_and}
-use Rattle.des_commands.specs.declared.fault.Kind.TheVariants.{FillLength, FillText, Pin as PinFault}
+use Rattle.des_commands.specs.declared.fault.FaultKind.TheVariants.{FillLength, FillText, Pin as PinFault}
 use Rattle.des_commands.specs.Texts.{digits_fault, fill_of}
 use Rattle.des_commands.proofs.Faults.{some_from, none_from, fails_before, fails_second}
 use Rattle.des_commands.proofs.lines.block_of.Goals as goal

@@ -1,5 +1,5 @@
 use Rattle.std.proofs.Common.{rules, ◌≡◌}
-use Rattle.des_commands.specs.declared.fault.Kind.TheVariants.{KeyText}
+use Rattle.des_commands.specs.declared.fault.FaultKind.TheVariants.{KeyText}
 use Rattle.des_commands.specs.Lines.{component_size, components_fault}
 use Rattle.des_commands.specs.Texts.{text_fault}
 use Rattle.des_commands.proofs.lines.combine_line.Goals as goal

@@ -1,4 +1,4 @@
-use Rattle.des_commands.specs.declared.fault.Kind.TheVariants.{KeyText}
+use Rattle.des_commands.specs.declared.fault.FaultKind.TheVariants.{KeyText}
 use Rattle.des_commands.specs.Texts.{text_fault}
 use Rattle.des_commands.proofs.Components.{components-fail}
 use Rattle.des_commands.proofs.Faults.{none_from}

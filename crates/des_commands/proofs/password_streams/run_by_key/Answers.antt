@@ -1,7 +1,7 @@
 use Rattle.std.proofs.Common.{rules, ◌≡◌, ℕ, ◌+◌, List, ◌++◌, length, codes, Option, Some, None, Result, Ok, Err, IsOk, inl, inr, refl, ◌∙◌}
 use Rattle.std.proofs.lemmas.Result.{err_from_is_err_and, IfOk-weaker, IfErr-weaker}
 use Rattle.des_passwords.specs.Derivations.{derived}
-use Rattle.des_commands.specs.declared.fault.Kind.{Kind}
+use Rattle.des_commands.specs.declared.fault.FaultKind.{FaultKind}
 use Rattle.des_commands.specs.declared.notices.Notice.{Notice}
 use Rattle.des_commands.specs.declared.password_streams.PasswordJob.{PasswordJob}
 use Rattle.des_commands.specs.declared.streams.Job.{Job}
@@ -26,20 +26,20 @@ stream-of job salt stream size key vector bytes heading same told count given he
 }
 
 -- a call that does not fail has taken the key
-taken : (ruling : Result (Option Notice) Kind) (about : List ℕ) (done : Unit {0}) (old new : Option (List ℕ))
+taken : (ruling : Result (Option Notice) FaultKind) (about : List ℕ) (done : Unit {0}) (old new : Option (List ℕ))
     → IsRuledBy ruling about (Ok done) old new → IsOk ruling
 taken (Err kind) about done old new ruled = let bad = ruled.0 in cc
 taken (Ok notice) about done old new ruled = refl
 
 -- a call that fails has refused it
-refused : (ruling : Result (Option Notice) Kind) (about : List ℕ) (kind : Kind) (old new : Option (List ℕ))
+refused : (ruling : Result (Option Notice) FaultKind) (about : List ℕ) (kind : FaultKind) (old new : Option (List ℕ))
     → IsRuledBy ruling about (Err kind) old new → Err kind ≡ ruling
 refused (Err other) about kind old new ruled = let same = ruled.0 in cc
 refused (Ok None) about kind old new ruled = let bad = ruled.0 in cc
 refused (Ok (Some notice)) about kind old new ruled = let bad = ruled.0 in cc
 
 -- what the key's test told
-tells : (job : PasswordJob) (ruling : Result (Option Notice) Kind) (result : Result (Unit {0}) Kind)
+tells : (job : PasswordJob) (ruling : Result (Option Notice) FaultKind) (result : Result (Unit {0}) FaultKind)
     (old new : Option (List ℕ)) → IsRuledBy ruling job.name.now result old new → TellsOfKey job old new
 tells job (Err kind) result old new ruled = inl ruled.1
 tells job (Ok None) result old new ruled = inl ruled.1

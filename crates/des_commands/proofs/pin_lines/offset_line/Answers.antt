@@ -3,7 +3,7 @@ use Rattle.std.specs.Option.{option_map}
 use Rattle.std.specs.Result.{result_err}
 use Rattle.std.proofs.lemmas.Result.{err_from_is_err_and}
 use Rattle.des_payment.specs.PinVerification.{key_fault}
-use Rattle.des_commands.specs.declared.fault.Kind.TheVariants.{KeyLength, KeyText, Memory, Pin as PinFault, Verification as VerificationFault}
+use Rattle.des_commands.specs.declared.fault.FaultKind.TheVariants.{KeyLength, KeyText, Memory, Pin as PinFault, Verification as VerificationFault}
 use Rattle.des_commands.specs.Keys.{any_key_fault}
 use Rattle.des_commands.specs.PinLines.{validation_fault, table_text_fault, offset_fault}
 use Rattle.des_commands.proofs.Faults.{some_from, none_from, first_of, passed, fails_as}

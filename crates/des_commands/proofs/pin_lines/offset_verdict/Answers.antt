@@ -5,8 +5,8 @@ use Rattle.std.proofs.lemmas.Result.{err_from_is_err_and}
 use Rattle.des_payment.specs.Texts.{number_fault}
 use Rattle.des_payment.specs.PinVerification.{key_fault, IsRight}
 use Rattle.des_payment.specs.declared.verification_error.VerificationError.{VerificationError}
-use Rattle.des_commands.specs.declared.fault.Kind.{Kind}
-use Rattle.des_commands.specs.declared.fault.Kind.TheVariants.{KeyLength, KeyText, Offset, Pin as PinFault, Verification as VerificationFault}
+use Rattle.des_commands.specs.declared.fault.FaultKind.{FaultKind}
+use Rattle.des_commands.specs.declared.fault.FaultKind.TheVariants.{KeyLength, KeyText, Offset, Pin as PinFault, Verification as VerificationFault}
 use Rattle.des_commands.specs.Faults.{FailsBy}
 use Rattle.des_commands.specs.Keys.{any_key_fault}
 use Rattle.des_commands.specs.PinLines.{validation_fault, table_text_fault, offset_verdict_fault}
@@ -115,7 +115,7 @@ returns-clause-fault c =
     let fault : offset_verdict_fault c.args.by c.args.offset.now c.args.inputs
     ≡ option_map VerificationFault (key_fault (bytes_of c.args.inputs.key.now)) =
     passed _ _ key ∙ (passed _ _ pin ∙ (passed _ _ validation ∙ (passed _ _ table ∙ passed _ _ offset))) in
-    subst (λ (o : Option Kind). FailsBy o c.verdict.result) (sym fault) fails
+    subst (λ (o : Option FaultKind). FailsBy o c.verdict.result) (sym fault) fails
 
 -- the line says what was verified
 pub returns-clause-line : goal.returns-clause-line

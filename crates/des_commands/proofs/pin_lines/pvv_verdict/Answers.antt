@@ -3,7 +3,7 @@ use Rattle.std.specs.Result.{result_err}
 use Rattle.des_payment.specs.PinBlocks.{pin_fault}
 use Rattle.des_payment.specs.PinVerification.{pvv_fault}
 use Rattle.des_payment.specs.Texts.{number_fault}
-use Rattle.des_commands.specs.declared.fault.Kind.TheVariants.{Value}
+use Rattle.des_commands.specs.declared.fault.FaultKind.TheVariants.{Value}
 use Rattle.des_commands.specs.Keys.{pair_fault}
 use Rattle.des_commands.proofs.Faults.{none_from}
 use Rattle.des_commands.proofs.Verdicts.{verdict-fails}

@@ -3,7 +3,7 @@ use Rattle.std.specs.Option.{option_map}
 use Rattle.std.specs.Result.{result_err}
 use Rattle.std.proofs.lemmas.Result.{err_from_is_err_and}
 use Rattle.des_payment.specs.Translation.{rekeyed, rekeying_fault}
-use Rattle.des_commands.specs.declared.fault.Kind.TheVariants.{KeyLength, KeyText, ToKeyLength, ToKeyText, BlockLength, BlockText, Memory, Translation as TranslationFault}
+use Rattle.des_commands.specs.declared.fault.FaultKind.TheVariants.{KeyLength, KeyText, ToKeyLength, ToKeyText, BlockLength, BlockText, Memory, Translation as TranslationFault}
 use Rattle.des_commands.specs.Keys.{any_key_fault}
 use Rattle.des_commands.specs.Texts.{digits_fault, hex_line}
 use Rattle.des_commands.specs.PinLines.{rekeyed_fault}

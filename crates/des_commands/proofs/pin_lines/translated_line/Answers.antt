@@ -4,7 +4,7 @@ use Rattle.std.specs.Result.{result_err}
 use Rattle.std.proofs.lemmas.Result.{err_from_is_err_and}
 use Rattle.des_payment.specs.Translation.{translation_fault, IsTranslation}
 use Rattle.des_payment.specs.declared.translation.Format.{Format}
-use Rattle.des_commands.specs.declared.fault.Kind.TheVariants.{KeyLength, KeyText, ToKeyLength, ToKeyText, BlockLength, BlockText, Memory, Translation as TranslationFault}
+use Rattle.des_commands.specs.declared.fault.FaultKind.TheVariants.{KeyLength, KeyText, ToKeyLength, ToKeyText, BlockLength, BlockText, Memory, Translation as TranslationFault}
 use Rattle.des_commands.specs.Keys.{any_key_fault}
 use Rattle.des_commands.specs.Texts.{digits_fault}
 use Rattle.des_commands.specs.PinLines.{fill_text_fault, translated_fault}

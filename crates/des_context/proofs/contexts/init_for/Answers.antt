@@ -1,5 +1,5 @@
 use Rattle.std.proofs.Common.{◌≡◌, ℕ, ◌*◌, List, length, ◌∙◌, arith}
-use Rattle.des_context.specs.Forms.{parts_of}
+use Rattle.des_context.specs.CipherTypes.{parts_of}
 use Rattle.des_context.proofs.MadeContexts.{IsContextOf-written}
 use Rattle.des_context.proofs.contexts.init_for.Goals as goal
 

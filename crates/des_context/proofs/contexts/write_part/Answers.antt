@@ -8,7 +8,7 @@ returns-clause-made c =
     let end : ℕ = 16 * c.args.number in
     let start : ℕ = 16 * (c.args.number - 1) in
     let same = between-put_mid start (end - start) c.args.context.now c.round_key_words-words.result end
-    (omega (arith, c.requires.room)) (omega (arith, c.requires.from)) in
+    (omega (arith, c.requires.capacity)) (omega (arith, c.requires.from)) in
     rw (c.copy_from_slice.ensures.after, same)
     (c.round_key_words-words.ensures _ (rw (← c.key_part.ensures) c.new.ensures.made))
 
@@ -16,4 +16,4 @@ pub returns-clause-kept : goal.returns-clause-kept
 returns-clause-kept c n from before =
     let start : ℕ = 16 * (c.args.number - 1) in
     words-kept n _ c.args.context.now (take-put_mid_below start (16 * c.args.number - start) c.args.context.now
-    c.copy_from_slice.new.self (16 * n) (omega (arith, before, from)) (omega (arith, c.requires.room)))
+    c.copy_from_slice.new.self (16 * n) (omega (arith, before, from)) (omega (arith, c.requires.capacity)))

@@ -1,4 +1,4 @@
-use Rattle.des_context.specs.Forms.{encryption_of}
+use Rattle.des_context.specs.CipherTypes.{encryption_of}
 use Rattle.des_context.specs.MacContexts.{key_of_chain}
 use Rattle.des_context.proofs.macs.init.Goals as goal
 

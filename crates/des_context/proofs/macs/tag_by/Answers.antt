@@ -5,10 +5,10 @@ use Rattle.des_context.proofs.macs.tag_by.Goals as goal
 pub returns-else-algorithm-eq3 : goal.returns-else-algorithm-eq3
 returns-else-algorithm-eq3 g c padding key m is =
     let alone = chain-alone _ _ _ padding key m c.if-algorithm-eq3.false is in
-    rw (← is.padded_by) (c.chain_tag_by.ensures key m alone.0 alone.1)
+    rw (← is.padded_by) (c.one_cipher_tag_by.ensures key m alone.0 alone.1)
 
-pub of-requires-then-algorithm-eq3-clause-form : goal.of-requires-then-algorithm-eq3-clause-form
-of-requires-then-algorithm-eq3-clause-form g c =
+pub of-requires-then-algorithm-eq3-clause-cipher_type : goal.of-requires-then-algorithm-eq3-clause-cipher_type
+of-requires-then-algorithm-eq3-clause-cipher_type g c =
     rw c.split_at.ensures.back (two-contexts _ _ _ c.if-algorithm-eq3.true c.requires.1.1.1.made).1.2
 
 pub of-requires-then-algorithm-eq3-clause-made : goal.of-requires-then-algorithm-eq3-clause-made

@@ -5,7 +5,7 @@ use Rattle.des_context.proofs.macs.write_words.Goals as goal
 pub returns-then-algorithm-eq3-clause-made : goal.returns-then-algorithm-eq3-clause-made
 returns-then-algorithm-eq3-clause-made c =
     let three = c.if-algorithm-eq3.true in
-    let words = c.requires.form.1 three in
+    let words = c.requires.cipher_type.1 three in
     let size : length c.args.key.now ≡ 16 = omega (arith, c.requires.key, words) in
     let room : length c.init_for.new.context ≡ 17 =
     omega (arith, c.init_for.auto.context, c.split_at_mut-first.ensures.front_len) in

@@ -1,7 +1,7 @@
 -- The buffer begins with the plaintext of the blocks before the index.
 use Rattle.std.proofs.Common.{◌≡◌, ℕ, List, ◌*◌, ◌-◌, ◌≤◌, ◌++◌, length, take, drop}
 use Rattle.des_context.specs.Contexts.{IsContextOf}
-use Rattle.des_context.specs.Forms.{relation_of}
+use Rattle.des_context.specs.CipherTypes.{relation_of}
 use Rattle.des_context.specs.Salted.{IsPlainOf}
 use Rattle.des_context.proofs.salted.write_front.Given as goal
 

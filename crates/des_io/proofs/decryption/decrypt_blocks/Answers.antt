@@ -55,12 +55,12 @@ returns-then-n-bytes g c =
         holds = more.0;
         ends = elim (eq-or-lt_of_le c.in_ok-n.ensures.within) [
           | inl all ↦ elim c.next_count-count.ensures.full [
-            | inl room ↦ absurd (omega (
+            | inl capacity ↦ absurd (omega (
               arith,
               all,
-              room,
+              capacity,
               c.if-n-bytes.true,
-              c.in_ok-n.ensures.room,
+              c.in_ok-n.ensures.capacity,
               c.loop.invariant.count,
               c.as_flattened_mut-bytes.ensures.len,
             ))

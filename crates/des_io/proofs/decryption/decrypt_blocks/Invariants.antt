@@ -9,7 +9,7 @@ invariant-loop g l = record {
   count : length l.bytes ≡ length l.initial.bytes;
   so_far : HoldsLast (g.C.BlockCipherDecrypt.decrypted l.cipher) l.initial.mode
       (passage_of (g.R.Read.remaining l.initial.reader) (g.R.Read.remaining l.reader)
-      (g.W.Write.contents l.initial.writer) (g.W.Write.contents l.writer)) l.held;
+      (g.W.Write.contents l.initial.writer) (g.W.Write.contents l.writer)) l.pending;
   left : IsLeft l.initial.left (length so_far.q) l.left;
   after : l.mode ≡ mode_after l.initial.mode so_far.q;
 }

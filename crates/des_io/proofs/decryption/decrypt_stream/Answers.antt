@@ -1,7 +1,7 @@
 use Rattle.std.proofs.lemmas.Result.{err_from_is_err_and}
 use Rattle.std.proofs.Common.{None, [], append-nil}
 use Rattle.des_io.proofs.DecryptedEnds.{Decrypts-ended, WithinPrefix-ended, WithinPrefix-fault, FailsToDecrypt-ended}
-use Rattle.des_io.proofs.DecryptedPrefixes.{DecryptsPrefix-within, WithinPrefix-held}
+use Rattle.des_io.proofs.DecryptedPrefixes.{DecryptsPrefix-within, WithinPrefix-pending}
 use Rattle.des_io.proofs.LimitedBlocks.{ends_alone}
 use Rattle.des_io.proofs.decryption.decrypt_stream.Goals as goal
 
@@ -32,4 +32,4 @@ returns-clause-prefix g c =
 
 pub returns-in_err-last-clause-prefix : goal.returns-in_err-last-clause-prefix
 returns-in_err-last-clause-prefix g c =
-    DecryptsPrefix-within (WithinPrefix-held c.in_err-last.ensures.prefix)
+    DecryptsPrefix-within (WithinPrefix-pending c.in_err-last.ensures.prefix)

@@ -1,21 +1,21 @@
 use Rattle.std.proofs.Common.{rules, refl, sym, subst, ap, length, take, ◌∙◌}
 use Rattle.std.specs.Prelude.{IsOk}
 use Rattle.std.specs.Io.KnownBytes.{Appends}
-use Rattle.des_io.proofs.DecryptedPieces.{WritesPiece-held, WritesPiece-prefix, WritesPiece-whole, WritesPiece-none, length-last}
+use Rattle.des_io.proofs.DecryptedPieces.{WritesPiece-pending, WritesPiece-prefix, WritesPiece-whole, WritesPiece-none, length-last}
 use Rattle.des_io.proofs.decryption.write_piece.Goals as goal
 
-pub returns-in_err-write_held-clause-written : goal.returns-in_err-write_held-clause-written
-returns-in_err-write_held-clause-written g c =
+pub returns-in_err-write_pending-clause-written : goal.returns-in_err-write_pending-clause-written
+returns-in_err-write_pending-clause-written g c =
     let fails : IsOk c.from_residual.result → ⊥ = search rules in
-    let (k, within, written, full) = c.in_err-write_held.ensures.written in
-    WritesPiece-held c.in-Some.rest.now c.in-Some.last.now k fails
+    let (k, within, written, full) = c.in_err-write_pending.ensures.written in
+    WritesPiece-pending c.in-Some.rest.now c.in-Some.last.now k fails
     (length-last _ _ _ c.in-Some.ensures.cases.0 c.told-blocks) c.in-Some.ensures.cases.0
     written
 
 pub returns-in_err-write_whole-clause-written : goal.returns-in_err-write_whole-clause-written
 returns-in_err-write_whole-clause-written g c =
     let fails : IsOk c.from_residual-in_err-write_whole.result → ⊥ = search rules in
-    let (k, within, first, full) = c.in_ok-write_held.ensures.written in
+    let (k, within, first, full) = c.in_ok-write_pending.ensures.written in
     let (m, inside, put, all) = c.in_err-write_whole.ensures.written in
     let second = subst (Appends _ _) (ap (take m) c.as_flattened.ensures.value) put in
     WritesPiece-prefix c.in-Some.rest.now c.in-Some.last.now _ k m fails
@@ -24,7 +24,7 @@ returns-in_err-write_whole-clause-written g c =
 
 pub returns-in_ok-write_whole-clause-written : goal.returns-in_ok-write_whole-clause-written
 returns-in_ok-write_whole-clause-written g c =
-    let (k, within, first, full) = c.in_ok-write_held.ensures.written in
+    let (k, within, first, full) = c.in_ok-write_pending.ensures.written in
     let (m, inside, put, all) = c.in_ok-write_whole.ensures.written in
     let second = subst (Appends _ _) (ap (take m) c.as_flattened.ensures.value) put in
     let same = ap length c.as_flattened.ensures.value in

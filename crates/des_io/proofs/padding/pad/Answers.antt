@@ -9,5 +9,5 @@ returns-in-Iso7816-clause-padded c =
     let length-zeros : length c.fill-in-Iso7816.new.self ≡ end - (c.args.count + 1) = search rules in
     let zeros = c.fill-in-Iso7816.ensures.after (λ y e. e) ∙ ap (λ n. replicate n 0) (sym c.fill-in-Iso7816.ensures.len
     ∙ length-zeros) in
-    rw c.in-Iso7816.is (iso7816-put bytes c.fill-in-Iso7816.new.self c.args.count end c.requires.room (omega arith)
+    rw c.in-Iso7816.is (iso7816-put bytes c.fill-in-Iso7816.new.self c.args.count end c.requires.capacity (omega arith)
     zeros)

@@ -1,5 +1,5 @@
 use Rattle.std.proofs.Common.{◌≡◌, true, false, rules}
-use Rattle.des_io.proofs.DecryptedParts.{EndsPart-more, EndsPart-last, DecryptsPartPrefix-held, DecryptsPartPrefix-read, no_blocks}
+use Rattle.des_io.proofs.DecryptedParts.{EndsPart-more, EndsPart-last, DecryptsPartPrefix-pending, DecryptsPartPrefix-read, no_blocks}
 use Rattle.des_io.proofs.part.decrypt_part.Goals as goal
 
 pub returns-then-not-branch : goal.returns-then-not-branch
@@ -33,7 +33,7 @@ returns-in-Some g c =
     record { done = all.done; prefix = all.prefix; fault = all.fault }
 
 pub returns-in_err-last-clause-prefix : goal.returns-in_err-last-clause-prefix
-returns-in_err-last-clause-prefix g c = DecryptsPartPrefix-held c.in_err-last.ensures.prefix
+returns-in_err-last-clause-prefix g c = DecryptsPartPrefix-pending c.in_err-last.ensures.prefix
 
 pub returns-in_err-is_at_end-clause-prefix : goal.returns-in_err-is_at_end-clause-prefix
 returns-in_err-is_at_end-clause-prefix g c =

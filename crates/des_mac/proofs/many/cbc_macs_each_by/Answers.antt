@@ -10,11 +10,11 @@ pub returns-clause-ok : goal.returns-clause-ok
 returns-clause-ok g c =
     let tags : List (List ℕ) = c.args.tags.now in
     let same : length c.clear.new.blocks ≡ length tags = c.clear.auto.blocks in
-    on_ok_weaker c.chain_ends_each_by.result
+    on_ok_weaker c.chaining_values_each_by.result
     (ends-cbc_macs g.C.KeyedCipher.encryption (padded g.P.Padding.padding_after)
     (map g.C.Key.KeyBytes.bytes_of c.args.keys.now) (texts c.args.messages.now) c.clear.new.blocks
-    c.chain_ends_each_by.new.chains
+    c.chaining_values_each_by.new.chains
     (length-map c.args.keys.now g.C.Key.KeyBytes.bytes_of ∙ c.if-keys-tags.false ∙ sym same)
     (same ∙ c.if-tags-messages.false ∙ sym (length-map c.args.messages.now (λ m. m.now)))
-    c.chain_ends_each_by.auto.chains (λ k below. c.clear.ensures k (omega arith)))
-    c.chain_ends_each_by.ensures.ok
+    c.chaining_values_each_by.auto.chains (λ k below. c.clear.ensures k (omega arith)))
+    c.chaining_values_each_by.ensures.ok

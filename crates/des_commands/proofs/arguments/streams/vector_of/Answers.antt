@@ -1,6 +1,6 @@
 use Rattle.std.proofs.Common.{rules, ◌≡◌, ◌≢◌, codes, inr, refl}
 use Rattle.std.proofs.lemmas.Result.{err_from_is_err_and}
-use Rattle.des_commands.specs.declared.fault.Kind.TheVariants.{Vector as WrongVector}
+use Rattle.des_commands.specs.declared.fault.FaultKind.TheVariants.{Vector as WrongVector}
 use Rattle.des_commands.specs.Texts.{digits_fault}
 use Rattle.des_commands.proofs.Faults.{some_from}
 use Rattle.des_commands.proofs.arguments.streams.vector_of.Goals as goal

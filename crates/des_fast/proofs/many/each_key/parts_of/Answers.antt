@@ -1,10 +1,10 @@
 use Rattle.std.proofs.Common.{ℕ, Bool, true, false, not, [], ◌∷◌, ap, ap₂, sym, ◌∙◌}
-use Rattle.des_fast.specs.declared.many.lanes.Part.{Part}
+use Rattle.des_fast.specs.declared.many.lanes.PassPart.{PassPart}
 use Rattle.des_fast.specs.EachKey.{triple_parts}
 use Rattle.des_fast.proofs.many.each_key.parts_of.Goals as goal
 
 -- a pass under a part
-abbrev by : ℕ → Bool → Part
+abbrev by : ℕ → Bool → PassPart
 by number deciphers = record { number = number; deciphers = deciphers }
 
 pub returns-then-deciphers : goal.returns-then-deciphers

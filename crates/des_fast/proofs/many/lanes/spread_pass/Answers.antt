@@ -2,7 +2,7 @@
 use Rattle.std.proofs.Common.{◌≡◌, ℕ, List, [], Bool, false, map, get_or, sym, ◌∙◌, arith}
 use Rattle.std.proofs.lemmas.List.{get_or-map, length-map}
 use Rattle.des.specs.Blocks.{part}
-use Rattle.des_fast.specs.declared.many.lanes.Part.{Part}
+use Rattle.des_fast.specs.declared.many.lanes.PassPart.{PassPart}
 use Rattle.des_fast.specs.RoundKeySlices.{round_keys_in}
 use Rattle.des_fast.specs.EachKey.{round_keys_under, round_keys_of_parts}
 use Rattle.des_fast.proofs.SpreadParts.{mapped_written_below, round_keys_under-same}
@@ -10,12 +10,12 @@ use Rattle.des_fast.proofs.many.lanes.spread_pass.Goals as goal
 
 pub returns-then-parts-2-clause-spread : goal.returns-then-parts-2-clause-spread
 returns-then-parts-2-clause-spread g c m below k inside =
-    let parts : List Part = c.args.parts.now in
+    let parts : List PassPart = c.args.parts.now in
     let passes = c.args.passes.now in
     let key : List ℕ = get_or (map g.K.KeyBytes.bytes_of c.args.keys.now) k [] in
     let read = round_keys_in (g.S.Slice.bit k) in
-    let of_part : Part → List (List Bool) = λ p. round_keys_under p.deciphers (part p.number key) in
-    let none : Part = record { number = 0; deciphers = false } in
+    let of_part : PassPart → List (List Bool) = λ p. round_keys_under p.deciphers (part p.number key) in
+    let none : PassPart = record { number = 0; deciphers = false } in
     let last : c.args.i ≡ 2 = c.if-i-eq2.true in
     let first : get_or (map read passes) 0 [] ≡ of_part (get_or parts 0 none) =
     c.requires.before 0 (omega (arith, last)) k inside
@@ -31,9 +31,9 @@ returns-then-parts-2-clause-spread g c m below k inside =
 
 pub returns-else-i-eq2-clause-spread : goal.returns-else-i-eq2-clause-spread
 returns-else-i-eq2-clause-spread g c m below k inside =
-    let parts : List Part = c.args.parts.now in
+    let parts : List PassPart = c.args.parts.now in
     let key : List ℕ = get_or (map g.K.KeyBytes.bytes_of c.args.keys.now) k [] in
-    let of_part : Part → List (List Bool) = λ p. round_keys_under p.deciphers (part p.number key) in
+    let of_part : PassPart → List (List Bool) = λ p. round_keys_under p.deciphers (part p.number key) in
     mapped_written_below (round_keys_in (g.S.Slice.bit k)) []
     (λ n keys. keys ≡ get_or (round_keys_of_parts parts key) n [])
     c.args.passes.now c.args.i _ (omega (arith, c.told-passes))

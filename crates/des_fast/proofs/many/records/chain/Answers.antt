@@ -1,7 +1,7 @@
 -- A group more.
 use Rattle.std.proofs.Common.{refl, ◌∙◌, arith}
 use Rattle.des_fast.proofs.ChainedRecords.{AreChainedBelow-none, CbcEach-all, GoOn-chained}
-use Rattle.des_fast.proofs.many.records.chain.Goals as goal
+use Rattle.des_fast.proofs.many.records.cbc_encrypt.Goals as goal
 
 pub groups-init : goal.groups-init
 groups-init g c = record {
@@ -17,10 +17,10 @@ pub groups-preserved : goal.groups-preserved
 groups-preserved g c = record {
   within = omega (arith, c.min-count.ensures, c.groups.invariant.in_vectors);
   starts = c.extent-extent.ensures.end;
-  in_vectors = c.chain_group.ensures.vectors ∙ c.groups.invariant.in_vectors;
-  in_blocks = c.chain_group.ensures.count ∙ c.groups.invariant.in_blocks;
+  in_vectors = c.cbc_encrypt_group.ensures.vectors ∙ c.groups.invariant.in_vectors;
+  in_blocks = c.cbc_encrypt_group.ensures.count ∙ c.groups.invariant.in_blocks;
   chained = λ encryption are.
-      c.chain_group.ensures.chained encryption c.args.vectors.now c.args.blocks.now
+      c.cbc_encrypt_group.ensures.chained encryption c.args.vectors.now c.args.blocks.now
       are (c.groups.invariant.chained encryption are);
 }
 

@@ -3,7 +3,7 @@ use Rattle.std.proofs.Common.{◌≡◌, ◌-◌, ◌≤◌, ℕ, List, length}
 use Rattle.des_fast.specs.Records.{start}
 use Rattle.des_fast.specs.RecordStates.{AreChainedBelow}
 use Rattle.des_fast.specs.SpreadKeys.{AreSlicesFor}
-use Rattle.des_fast.proofs.many.records.chain.Given as goal
+use Rattle.des_fast.proofs.many.records.cbc_encrypt.Given as goal
 
 abbrev pub invariant-groups : goal.invariant-groups
 invariant-groups g l = record {

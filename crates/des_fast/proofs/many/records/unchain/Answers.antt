@@ -1,7 +1,7 @@
 -- A part more.
 use Rattle.std.proofs.Common.{refl, ◌∙◌, arith}
 use Rattle.des_fast.proofs.UnchainedRecords.{AreUnchainedBelow-none, UnchainsEach-all, GoOn-unchained}
-use Rattle.des_fast.proofs.many.records.unchain.Goals as goal
+use Rattle.des_fast.proofs.many.records.cbc_decrypt.Goals as goal
 
 pub parts-init : goal.parts-init
 parts-init g c = record {
@@ -17,12 +17,12 @@ parts-init g c = record {
 pub parts-preserved : goal.parts-preserved
 parts-preserved g c = record {
   within = omega (arith, c.min-count.ensures, c.parts.invariant.in_blocks);
-  starts = c.unchain_part-current.ensures.starts;
-  before = c.unchain_part-current.ensures.before;
-  in_vectors = c.unchain_part-current.ensures.vectors ∙ c.parts.invariant.in_vectors;
-  in_blocks = c.unchain_part-current.ensures.count ∙ c.parts.invariant.in_blocks;
+  starts = c.cbc_decrypt_part-current.ensures.starts;
+  before = c.cbc_decrypt_part-current.ensures.before;
+  in_vectors = c.cbc_decrypt_part-current.ensures.vectors ∙ c.parts.invariant.in_vectors;
+  in_blocks = c.cbc_decrypt_part-current.ensures.count ∙ c.parts.invariant.in_blocks;
   unchained = λ decryption are.
-      c.unchain_part-current.ensures.unchained decryption c.args.vectors.now c.args.blocks.now are
+      c.cbc_decrypt_part-current.ensures.unchained decryption c.args.vectors.now c.args.blocks.now are
       (c.parts.invariant.unchained decryption are);
 }
 

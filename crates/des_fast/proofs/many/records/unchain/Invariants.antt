@@ -3,7 +3,7 @@ use Rattle.std.proofs.Common.{◌≡◌, ◌-◌, ◌≤◌, ℕ, List, length}
 use Rattle.des_fast.specs.Records.{start}
 use Rattle.des_fast.specs.RecordStates.{AreUnchainedBelow}
 use Rattle.des_fast.specs.SpreadKeys.{AreSlicesFor}
-use Rattle.des_fast.proofs.many.records.unchain.Given as goal
+use Rattle.des_fast.proofs.many.records.cbc_decrypt.Given as goal
 
 abbrev pub invariant-parts : goal.invariant-parts
 invariant-parts g l = record {

@@ -1,7 +1,7 @@
 use Rattle.std.proofs.Common.{◌≡◌, ◌+◌, ℕ, ◌++◌, length, ◌-◌, ◌*◌, arith, length-append, ◌∙◌, sym}
 use Rattle.std.proofs.lemmas.List.{take-append-drop}
 use Rattle.des_mac.specs.Padding.{block_count}
-use Rattle.des_mac.proofs.Absorbing.{Absorbed-held, Absorbed-rest, chain_after-filled, block_after-rest}
+use Rattle.des_mac.proofs.Absorbing.{Absorbed-pending, Absorbed-rest, chain_after-filled, block_after-rest}
 use Rattle.des_mac.proofs.chaining.Chaining.update.Goals as goal
 
 -- there is room for the bytes
@@ -15,8 +15,8 @@ returns-then-bytes-room-clause-holds g c = λ key m holds.
       is_key = holds.is_key;
       made = rw c.hold.ensures.cipher holds.made;
       absorbed = rw (same, c.hold.ensures.chain)
-          (Absorbed-held _ _ _ _ _ m bytes _ _ state (c.hold.ensures.width ∙ state.width) c.hold.ensures.count
-          c.hold.ensures.held);
+          (Absorbed-pending _ _ _ _ _ m bytes _ _ state (c.hold.ensures.width ∙ state.width) c.hold.ensures.count
+          c.hold.ensures.pending);
     }
 
 -- their head fills the held block, their last block is held, and those between them are chained
@@ -38,10 +38,10 @@ returns-clause-holds g c = λ key m holds.
     let cut : whole ++ last ≡ rest =
     rw (c.split_at-2.ensures.front, c.split_at-2.ensures.back) (take-append-drop _ rest) in
     let full : c.hold-2.new.self.count ≡ 8 = omega (arith, c.hold-2.ensures.count) in
-    let width : length c.hold-2.new.self.held ≡ 8 = c.hold-2.ensures.width ∙ state.width in
+    let width : length c.hold-2.new.self.pending ≡ 8 = c.hold-2.ensures.width ∙ state.width in
     let first =
-    Absorbed-held e n _ _ _ m head c.hold-2.new.self.held c.hold-2.new.self.count state width c.hold-2.ensures.count
-    c.hold-2.ensures.held in
+    Absorbed-pending e n _ _ _ m head c.hold-2.new.self.pending c.hold-2.new.self.count state width c.hold-2.ensures.count
+    c.hold-2.ensures.pending in
     let made = rw (sym c.hold-2.ensures.cipher) at holds.made in
     let begun = rw c.hold-2.ensures.chain at (c.chain_block.ensures key holds.is_key made) in
     let chain = begun ∙ chain_after-filled e n m head rest bytes joined filled _ _ (rw full at first) in
@@ -60,5 +60,5 @@ returns-clause-holds g c = λ key m holds.
       absorbed = rw (same, c.hold-3.ensures.chain)
           (Absorbed-rest e n m head rest bytes joined filled whole last cut _ _ _ (length blocks)
           (c.hold-3.ensures.width ∙ width)
-          whole_long (omega (arith, c.hold-3.ensures.count)) c.hold-3.ensures.held between);
+          whole_long (omega (arith, c.hold-3.ensures.count)) c.hold-3.ensures.pending between);
     }

@@ -9,9 +9,9 @@ pub returns-clause-ok : goal.returns-clause-ok
 returns-clause-ok g c =
     let tags : List (List ℕ) = c.args.tags.now in
     let same : length c.clear.new.blocks ≡ length tags = c.clear.auto.blocks in
-    on_ok_weaker c.chain_ends_by.result
+    on_ok_weaker c.chaining_values_by.result
     (ends-cmacs_of (g.C.KeyedCipher.encryption (g.C.Key.KeyBytes.bytes_of c.args.key.now)) c.zeros_under.result
-    (texts c.args.messages.now) c.clear.new.blocks c.chain_ends_by.new.chains c.zeros_under.ensures
+    (texts c.args.messages.now) c.clear.new.blocks c.chaining_values_by.new.chains c.zeros_under.ensures
     (same ∙ c.if-tags-messages.false ∙ sym (length-map c.args.messages.now (λ m. m.now)))
-    c.chain_ends_by.auto.chains (λ k below. c.clear.ensures k (omega arith)))
-    c.chain_ends_by.ensures.ok
+    c.chaining_values_by.auto.chains (λ k below. c.clear.ensures k (omega arith)))
+    c.chaining_values_by.ensures.ok

@@ -16,5 +16,5 @@ returns-clause-related g c key made =
     let is_iv : IsBlock iv = (c.told-iv, All-from_get_or (λ byte. byte < 256) iv 0 (λ i within. c.fits-iv i)) in
     Chains-related_back (λ x y. Enciphers key x y) (encrypted cipher) (decrypted cipher)
     (IsGraphOf-alike (λ x y. Enciphers key x y) (Agree-encrypted cipher key made.0) made.1.0) iv
-    c.unchain_list.new.blocks c.args.blocks.now is_iv c.unchain_list.ensures.blocks pass.back_is_block pass.forth_back
-    (rw c.pass.ensures at c.unchain_list.ensures.unchained)
+    c.cbc_decrypt_list.new.blocks c.args.blocks.now is_iv c.cbc_decrypt_list.ensures.blocks pass.back_is_block pass.forth_back
+    (rw c.pass.ensures at c.cbc_decrypt_list.ensures.unchained)

@@ -8,7 +8,7 @@ use Rattle.des_fast.proofs.many.ciphers.DesManyBlocks.decrypt_list_by.Goals as g
 pub returns-clause-answered : goal.returns-clause-answered
 returns-clause-answered g c key made =
     let cipher = c.args.self.now in
-    rw (c.answer_list.ensures.answered, c.pass.ensures)
+    rw (c.process_list.ensures.answered, c.pass.ensures)
     (IsTheOne-map_turned (decrypted cipher) (λ x y. Enciphers key x y)
     (IsGraphOf-alike (λ y x. Enciphers key x y) (Agree-decrypted cipher key made.0) made.1.1)
-    c.args.blocks.now c.answer_list.ensures.blocks)
+    c.args.blocks.now c.process_list.ensures.blocks)

@@ -15,5 +15,5 @@ returns-clause-related c key made =
     let is_iv : IsBlock iv = (c.told-iv, All-from_get_or (λ byte. byte < 256) iv 0 (λ i within. c.fits-iv i)) in
     Chains-related (λ x y. Enciphers key x y) (encrypted cipher)
     (IsGraphOf-alike (λ x y. Enciphers key x y) (Agree-encrypted cipher key made.0) made.1.0) iv c.args.blocks.now
-    c.chain_list.new.blocks is_iv c.chain_list.ensures.blocks (IsPass-Des cipher).forth_is_block
-    (rw c.pass.ensures at c.chain_list.ensures.chained)
+    c.cbc_encrypt_list.new.blocks is_iv c.cbc_encrypt_list.ensures.blocks (IsPass-Des cipher).forth_is_block
+    (rw c.pass.ensures at c.cbc_encrypt_list.ensures.chained)

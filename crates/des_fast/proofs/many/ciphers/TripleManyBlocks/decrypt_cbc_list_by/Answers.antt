@@ -18,7 +18,7 @@ returns-clause-related g c key made =
     let is_iv : IsBlock iv = (c.told-iv, All-from_get_or (λ byte. byte < 256) iv 0 (λ i within. c.fits-iv i)) in
     Chains-related_back (λ x y. EnciphersTriple g.P.Parts.has_three deciphers key x y)
     (triple_encrypted encrypted decrypted deciphers ciphers) (triple_decrypted encrypted decrypted deciphers ciphers)
-    (encrypts-triple deciphers ciphers g.P.Parts.has_three key made) iv c.unchain_list.new.blocks c.args.blocks.now is_iv
-    c.unchain_list.ensures.blocks pass.back_is_block pass.forth_back
-    (subst (λ (f : List ℕ → List ℕ). Unchains f iv c.args.blocks.now c.unchain_list.new.blocks) c.decryption_passes.ensures
-    c.unchain_list.ensures.unchained)
+    (encrypts-triple deciphers ciphers g.P.Parts.has_three key made) iv c.cbc_decrypt_list.new.blocks c.args.blocks.now is_iv
+    c.cbc_decrypt_list.ensures.blocks pass.back_is_block pass.forth_back
+    (subst (λ (f : List ℕ → List ℕ). Unchains f iv c.args.blocks.now c.cbc_decrypt_list.new.blocks) c.decryption_passes.ensures
+    c.cbc_decrypt_list.ensures.unchained)

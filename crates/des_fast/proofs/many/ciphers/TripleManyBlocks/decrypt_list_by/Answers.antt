@@ -9,7 +9,7 @@ pub returns-clause-answered : goal.returns-clause-answered
 returns-clause-answered g c key made =
     let ciphers = g.P.Parts.ciphers c.args.self.now.parts in
     let deciphers = g.F.Form.DECIPHERS_SECOND in
-    rw (c.answer_list.ensures.answered, c.decryption_passes.ensures)
+    rw (c.process_list.ensures.answered, c.decryption_passes.ensures)
     (IsTheOne-map_turned (triple_decrypted encrypted decrypted deciphers ciphers)
     (λ x y. EnciphersTriple g.P.Parts.has_three deciphers key x y)
-    (decrypts-triple deciphers ciphers g.P.Parts.has_three key made) c.args.blocks.now c.answer_list.ensures.blocks)
+    (decrypts-triple deciphers ciphers g.P.Parts.has_three key made) c.args.blocks.now c.process_list.ensures.blocks)

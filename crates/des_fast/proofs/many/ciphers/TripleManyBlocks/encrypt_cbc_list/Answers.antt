@@ -17,7 +17,7 @@ returns-clause-related g c key made =
     let is_iv : IsBlock iv = (c.told-iv, All-from_get_or (λ byte. byte < 256) iv 0 (λ i within. c.fits-iv i)) in
     Chains-related (λ x y. EnciphersTriple g.P.Parts.has_three deciphers key x y)
     (triple_encrypted encrypted decrypted deciphers ciphers)
-    (encrypts-triple deciphers ciphers g.P.Parts.has_three key made) iv c.args.blocks.now c.chain_list.new.blocks is_iv
-    c.chain_list.ensures.blocks (IsPass-triple deciphers ciphers).forth_is_block
-    (subst (λ (f : List ℕ → List ℕ). Cbc f iv c.args.blocks.now c.chain_list.new.blocks) c.encryption_passes.ensures
-    c.chain_list.ensures.chained)
+    (encrypts-triple deciphers ciphers g.P.Parts.has_three key made) iv c.args.blocks.now c.cbc_encrypt_list.new.blocks is_iv
+    c.cbc_encrypt_list.ensures.blocks (IsPass-triple deciphers ciphers).forth_is_block
+    (subst (λ (f : List ℕ → List ℕ). Cbc f iv c.args.blocks.now c.cbc_encrypt_list.new.blocks) c.encryption_passes.ensures
+    c.cbc_encrypt_list.ensures.chained)

@@ -6,10 +6,10 @@ use Rattle.des_fast.proofs.many.spread.SpreadKeys.decrypt_cbc.Goals as goal
 pub passes-requires : goal.passes-requires
 passes-requires g c = omega (arith, lane_keys-le _ _ g.met.S.Slice.small_gaps g.met.S.Slice.few_bytes)
 
-pub unchain-requires : goal.unchain-requires
-unchain-requires g c = omega (arith, pass_slices-le _ _ g.met.S.Slice.small_gaps g.met.S.Slice.few_bytes)
+pub cbc_decrypt-requires : goal.cbc_decrypt-requires
+cbc_decrypt-requires g c = omega (arith, pass_slices-le _ _ g.met.S.Slice.small_gaps g.met.S.Slice.few_bytes)
 
 pub returns-clause-unchained : goal.returns-clause-unchained
 returns-clause-unchained g c encrypted decrypted are =
-    c.unchain.ensures.unchained decrypted
+    c.cbc_decrypt.ensures.unchained decrypted
     (subst (λ passes. AreSlicesFor g.S.Slice.BATCH g.S.Slice.bit passes decrypted) (sym c.passes.ensures) are.decryption)

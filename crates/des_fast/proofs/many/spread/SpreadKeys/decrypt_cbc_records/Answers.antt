@@ -8,10 +8,10 @@ passes-requires g c = omega (arith, lane_keys-le _ _ g.met.S.Slice.small_gaps g.
 
 pub returns-clause-unchained : goal.returns-clause-unchained
 returns-clause-unchained g c encrypted decrypted are =
-    c.unchain.ensures.unchained decrypted
+    c.cbc_decrypt.ensures.unchained decrypted
     (subst (λ passes. AreSlicesFor g.S.Slice.BATCH g.S.Slice.bit passes decrypted) (sym c.passes.ensures) are.decryption)
 
 pub returns-clause-goes_on : goal.returns-clause-goes_on
 returns-clause-goes_on g c encrypted decrypted are =
-    c.unchain.ensures.goes_on decrypted
+    c.cbc_decrypt.ensures.goes_on decrypted
     (subst (λ passes. AreSlicesFor g.S.Slice.BATCH g.S.Slice.bit passes decrypted) (sym c.passes.ensures) are.decryption)

@@ -8,10 +8,10 @@ passes-requires g c = omega (arith, lane_keys-le _ _ g.met.S.Slice.small_gaps g.
 
 pub returns-clause-chained : goal.returns-clause-chained
 returns-clause-chained g c encrypted decrypted are =
-    c.chain.ensures.chained encrypted
+    c.cbc_encrypt.ensures.chained encrypted
     (subst (λ passes. AreSlicesFor g.S.Slice.BATCH g.S.Slice.bit passes encrypted) (sym c.passes.ensures) are.encryption)
 
 pub returns-clause-goes_on : goal.returns-clause-goes_on
 returns-clause-goes_on g c encrypted decrypted are =
-    c.chain.ensures.goes_on encrypted
+    c.cbc_encrypt.ensures.goes_on encrypted
     (subst (λ passes. AreSlicesFor g.S.Slice.BATCH g.S.Slice.bit passes encrypted) (sym c.passes.ensures) are.encryption)

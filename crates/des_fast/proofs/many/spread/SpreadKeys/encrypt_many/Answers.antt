@@ -6,10 +6,10 @@ use Rattle.des_fast.proofs.many.spread.SpreadKeys.encrypt_many.Goals as goal
 pub passes-requires : goal.passes-requires
 passes-requires g c = omega (arith, lane_keys-le _ _ g.met.S.Slice.small_gaps g.met.S.Slice.few_bytes)
 
-pub answer-requires : goal.answer-requires
-answer-requires g c = omega (arith, pass_slices-le _ _ g.met.S.Slice.small_gaps g.met.S.Slice.few_bytes)
+pub process-requires : goal.process-requires
+process-requires g c = omega (arith, pass_slices-le _ _ g.met.S.Slice.small_gaps g.met.S.Slice.few_bytes)
 
 pub returns-clause-encrypted : goal.returns-clause-encrypted
 returns-clause-encrypted g c encrypted decrypted are =
-    c.answer.ensures.answered encrypted
+    c.process.ensures.answered encrypted
     (subst (λ passes. AreSlicesFor g.S.Slice.BATCH g.S.Slice.bit passes encrypted) (sym c.passes.ensures) are.encryption)

@@ -1,7 +1,0 @@
-use Rattle.std.proofs.Common.{arith}
-use Rattle.std.proofs.lemmas.List.{take_all}
-use Rattle.des_context.proofs.ciphers.DesOfContext.of.Goals as goal
-
-pub returns : goal.returns
-returns g c key made =
-    rw (take_all 8 key (omega (arith, made.0.0, made.1, c.requires.form))) at (c.single.ensures key made)

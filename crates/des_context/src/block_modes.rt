@@ -1,0 +1,238 @@
+//! ECB and CBC over any context and any width: what blocks become, by the relation of the key that
+//! the context is made from. A call refuses words that do not end with the mark of a cipher's init,
+//! by `ERR_CONTEXT`, before it looks at anything else. `size` is the caller's number of bytes; a call
+//! refuses it unless it is 8 for each block. The cipher is made by the type that reads tables, for
+//! contexts without tables too: the calls of lists are told which it is, and read none then.
+
+ghost use Rattle.std.specs.Prelude.{◌≡◌, ◌≢◌, ◌↔◌, ℕ, List, IsTrue};
+ghost use Rattle.des.specs.Blocks.{AnswersEach};
+ghost use Rattle.des.specs.Cbc.{Chains, next_vector};
+ghost use Rattle.des.specs.Relations.{IsTheOne};
+ghost use Rattle.des_context.specs.Bytes.{AreBytesOf, FitInto};
+ghost use Rattle.des_context.specs.Contexts.{HasCipherType, HasMark, IsContextOf, IsSoundIfMarked};
+ghost use Rattle.des_context.specs.CipherTypes.{relation_of};
+ghost use Rattle.des_context.specs.declared.contexts.TheConstants.{NO_MAC};
+
+use crate::ciphers::{ContextCipher, dispatch_cipher};
+use crate::contexts::{NO_MAC, has_mark, has_no_tables};
+use crate::status::{ERR_BLOCKS, ERR_CONTEXT, OK};
+use des::cbc::next_vector;
+use des_fast::box_lookup::Tables;
+use des_fast::many::{ManyBlocks, Slice};
+
+// Encrypts each block by itself, by a cipher.
+#[inline(never)]
+fn encrypt_by<C: ContextCipher + ManyBlocks, S: Slice>(context: &[u64], blocks: &mut [[u8; 8]])
+    requires cipher_type { HasCipherType C.CIPHER_TYPE context.now }
+    requires made { (key : List ℕ) × IsContextOf context.now key }
+    ensures { (key : List ℕ) → IsContextOf context.now key
+        → IsTheOne (λ answers. AnswersEach (relation_of key) blocks.old answers) blocks.new }
+{
+    C::of(context).encrypt_list_by::<S>(has_no_tables(NO_MAC, context), blocks);
+}
+
+// Encrypts each block by itself.
+fn encrypt<S: Slice>(context: &[u64], blocks: &mut [[u8; 8]])
+    requires { (key : List ℕ) × IsContextOf context.now key }
+    ensures { (key : List ℕ) → IsContextOf context.now key
+        → IsTheOne (λ answers. AnswersEach (relation_of key) blocks.old answers) blocks.new }
+{
+    dispatch_cipher!(encrypt_by::<Tables, S>(context, blocks));
+}
+
+// Decrypts each block by itself, by a cipher.
+#[inline(never)]
+fn decrypt_by<C: ContextCipher + ManyBlocks, S: Slice>(context: &[u64], blocks: &mut [[u8; 8]])
+    requires cipher_type { HasCipherType C.CIPHER_TYPE context.now }
+    requires made { (key : List ℕ) × IsContextOf context.now key }
+    ensures { (key : List ℕ) → IsContextOf context.now key
+        → IsTheOne (λ answers. AnswersEach (relation_of key) answers blocks.old) blocks.new }
+{
+    C::of(context).decrypt_list_by::<S>(has_no_tables(NO_MAC, context), blocks);
+}
+
+// Decrypts each block by itself.
+fn decrypt<S: Slice>(context: &[u64], blocks: &mut [[u8; 8]])
+    requires { (key : List ℕ) × IsContextOf context.now key }
+    ensures { (key : List ℕ) → IsContextOf context.now key
+        → IsTheOne (λ answers. AnswersEach (relation_of key) answers blocks.old) blocks.new }
+{
+    dispatch_cipher!(decrypt_by::<Tables, S>(context, blocks));
+}
+
+// Encrypts blocks by CBC from the vector, which becomes the last ciphertext block, by a cipher.
+#[inline(never)]
+fn encrypt_cbc_by<C: ContextCipher + ManyBlocks>(
+    context: &[u64],
+    iv: &mut [u8; 8],
+    blocks: &mut [[u8; 8]],
+)
+    requires cipher_type { HasCipherType C.CIPHER_TYPE context.now }
+    requires made { (key : List ℕ) × IsContextOf context.now key }
+    ensures chained { (key : List ℕ) → IsContextOf context.now key
+        → Chains (relation_of key) iv.old blocks.old blocks.new }
+    ensures goes_on { iv.new ≡ next_vector iv.old blocks.new }
+{
+    C::of(context).encrypt_cbc_list(has_no_tables(NO_MAC, context), iv, blocks);
+    *iv = next_vector(iv, blocks);
+}
+
+// Encrypts blocks by CBC from the vector, which becomes the last ciphertext block.
+fn encrypt_cbc_blocks(context: &[u64], iv: &mut [u8; 8], blocks: &mut [[u8; 8]])
+    requires { (key : List ℕ) × IsContextOf context.now key }
+    ensures chained { (key : List ℕ) → IsContextOf context.now key
+        → Chains (relation_of key) iv.old blocks.old blocks.new }
+    ensures goes_on { iv.new ≡ next_vector iv.old blocks.new }
+{
+    dispatch_cipher!(encrypt_cbc_by::<Tables>(context, iv, blocks));
+}
+
+// Decrypts blocks that CBC chained from the vector, by a cipher.
+#[inline(never)]
+fn decrypt_cbc_by<C: ContextCipher + ManyBlocks, S: Slice>(
+    context: &[u64],
+    iv: &[u8; 8],
+    blocks: &mut [[u8; 8]],
+)
+    requires cipher_type { HasCipherType C.CIPHER_TYPE context.now }
+    requires made { (key : List ℕ) × IsContextOf context.now key }
+    ensures { (key : List ℕ) → IsContextOf context.now key
+        → Chains (relation_of key) iv.now blocks.new blocks.old }
+{
+    C::of(context).decrypt_cbc_list_by::<S>(has_no_tables(NO_MAC, context), iv, blocks);
+}
+
+/// Decrypts blocks that CBC chained from the vector.
+pub(crate) fn decrypt_cbc_blocks<S: Slice>(context: &[u64], iv: &[u8; 8], blocks: &mut [[u8; 8]])
+    requires { (key : List ℕ) × IsContextOf context.now key }
+    ensures { (key : List ℕ) → IsContextOf context.now key
+        → Chains (relation_of key) iv.now blocks.new blocks.old }
+{
+    dispatch_cipher!(decrypt_cbc_by::<Tables, S>(context, iv, blocks))
+}
+
+/// Whether so many bytes are these blocks, and nothing beside.
+pub(crate) fn are_bytes_of(blocks: &[[u8; 8]], size: usize) -> bool
+    ensures { IsTrue result ↔ AreBytesOf blocks.now size }
+{
+    size % 8 == 0 && size / 8 == blocks.len()
+}
+
+/// Encrypts blocks in place, each by itself. The status is `ERR_BLOCKS` if the caller's bytes are
+/// not whole blocks; they are then unchanged.
+pub fn encrypt_ecb<S: Slice>(context: &[u64], blocks: &mut [[u8; 8]], size: usize) -> i32
+    requires { IsSoundIfMarked context.now }
+    ensures unmarked { (result ≡ ERR_CONTEXT) ↔ ¬ (HasMark NO_MAC context.now) }
+    ensures accepted { (result ≡ OK) ↔ (HasMark NO_MAC context.now × AreBytesOf blocks.old size) }
+    ensures refused { (result ≡ ERR_BLOCKS)
+        ↔ (HasMark NO_MAC context.now × ¬ (AreBytesOf blocks.old size)) }
+    ensures answered { result ≡ OK → (key : List ℕ) → IsContextOf context.now key
+        → IsTheOne (λ answers. AnswersEach (relation_of key) blocks.old answers) blocks.new }
+    ensures kept { result ≢ OK → blocks.new ≡ blocks.old }
+{
+    if !has_mark(NO_MAC, context) {
+        return ERR_CONTEXT;
+    }
+    if !are_bytes_of(blocks, size) {
+        return ERR_BLOCKS;
+    }
+    encrypt::<S>(context, blocks);
+    OK
+}
+
+/// Decrypts blocks in place, each by itself. The status is as of `encrypt_ecb`.
+pub fn decrypt_ecb<S: Slice>(context: &[u64], blocks: &mut [[u8; 8]], size: usize) -> i32
+    requires { IsSoundIfMarked context.now }
+    ensures unmarked { (result ≡ ERR_CONTEXT) ↔ ¬ (HasMark NO_MAC context.now) }
+    ensures accepted { (result ≡ OK) ↔ (HasMark NO_MAC context.now × AreBytesOf blocks.old size) }
+    ensures refused { (result ≡ ERR_BLOCKS)
+        ↔ (HasMark NO_MAC context.now × ¬ (AreBytesOf blocks.old size)) }
+    ensures answered { result ≡ OK → (key : List ℕ) → IsContextOf context.now key
+        → IsTheOne (λ answers. AnswersEach (relation_of key) answers blocks.old) blocks.new }
+    ensures kept { result ≢ OK → blocks.new ≡ blocks.old }
+{
+    if !has_mark(NO_MAC, context) {
+        return ERR_CONTEXT;
+    }
+    if !are_bytes_of(blocks, size) {
+        return ERR_BLOCKS;
+    }
+    decrypt::<S>(context, blocks);
+    OK
+}
+
+/// Encrypts blocks in place by CBC from the vector, which becomes the last ciphertext block. The
+/// status is `ERR_BLOCKS` if the caller's bytes are not whole blocks; they and the vector then
+/// are unchanged.
+pub fn encrypt_cbc(context: &[u64], iv: &mut [u8; 8], blocks: &mut [[u8; 8]], size: usize) -> i32
+    requires { IsSoundIfMarked context.now }
+    ensures unmarked { (result ≡ ERR_CONTEXT) ↔ ¬ (HasMark NO_MAC context.now) }
+    ensures accepted { (result ≡ OK) ↔ (HasMark NO_MAC context.now × AreBytesOf blocks.old size) }
+    ensures refused { (result ≡ ERR_BLOCKS)
+        ↔ (HasMark NO_MAC context.now × ¬ (AreBytesOf blocks.old size)) }
+    ensures chained { result ≡ OK → (key : List ℕ) → IsContextOf context.now key
+        → Chains (relation_of key) iv.old blocks.old blocks.new }
+    ensures goes_on { result ≡ OK → iv.new ≡ next_vector iv.old blocks.new }
+    ensures kept { result ≢ OK → (blocks.new ≡ blocks.old) × (iv.new ≡ iv.old) }
+{
+    if !has_mark(NO_MAC, context) {
+        return ERR_CONTEXT;
+    }
+    if !are_bytes_of(blocks, size) {
+        return ERR_BLOCKS;
+    }
+    encrypt_cbc_blocks(context, iv, blocks);
+    OK
+}
+
+/// Decrypts blocks in place that CBC chained from the vector, which becomes the last ciphertext
+/// block. The status is as of `encrypt_cbc`.
+pub fn decrypt_cbc<S: Slice>(
+    context: &[u64],
+    iv: &mut [u8; 8],
+    blocks: &mut [[u8; 8]],
+    size: usize,
+) -> i32
+    requires { IsSoundIfMarked context.now }
+    ensures unmarked { (result ≡ ERR_CONTEXT) ↔ ¬ (HasMark NO_MAC context.now) }
+    ensures accepted { (result ≡ OK) ↔ (HasMark NO_MAC context.now × AreBytesOf blocks.old size) }
+    ensures refused { (result ≡ ERR_BLOCKS)
+        ↔ (HasMark NO_MAC context.now × ¬ (AreBytesOf blocks.old size)) }
+    ensures chained { result ≡ OK → (key : List ℕ) → IsContextOf context.now key
+        → Chains (relation_of key) iv.old blocks.new blocks.old }
+    ensures goes_on { result ≡ OK → iv.new ≡ next_vector iv.old blocks.old }
+    ensures kept { result ≢ OK → (blocks.new ≡ blocks.old) × (iv.new ≡ iv.old) }
+{
+    if !has_mark(NO_MAC, context) {
+        return ERR_CONTEXT;
+    }
+    if !are_bytes_of(blocks, size) {
+        return ERR_BLOCKS;
+    }
+    let next = next_vector(iv, blocks);
+    decrypt_cbc_blocks::<S>(context, iv, blocks);
+    *iv = next;
+    OK
+}
+
+/// Copies blocks to a room of as many, if `size` is 8 for each: for a call from one buffer to
+/// another, which then goes on in place. Else the status is `ERR_BLOCKS`, and the room stays as it
+/// was.
+pub fn copy_whole(context: &[u64], input: &[[u8; 8]], output: &mut [[u8; 8]], size: usize) -> i32
+    ensures unmarked { (result ≡ ERR_CONTEXT) ↔ ¬ (HasMark NO_MAC context.now) }
+    ensures accepted { (result ≡ OK)
+        ↔ (HasMark NO_MAC context.now × FitInto output.old input.now size) }
+    ensures refused { (result ≡ ERR_BLOCKS)
+        ↔ (HasMark NO_MAC context.now × ¬ (FitInto output.old input.now size)) }
+    ensures made { result ≡ OK → output.new ≡ input.now }
+    ensures kept { result ≢ OK → output.new ≡ output.old }
+{
+    if !has_mark(NO_MAC, context) {
+        return ERR_CONTEXT;
+    }
+    if input.len() != output.len() || !are_bytes_of(input, size) {
+        return ERR_BLOCKS;
+    }
+    output.copy_from_slice(input);
+    OK
+}

@@ -1,0 +1,14 @@
+use Rattle.std.proofs.Common.{ℕ, List, Bool, refl, ap, ◌∙◌}
+use Rattle.des_fast.specs.SideBySide.{keys_of}
+use Rattle.des_fast.proofs.HalfPasses.{after, answer_by-three}
+use Rattle.des_fast.proofs.PassDirections.{through-keys}
+use Rattle.des_fast.proofs.lists.ThreePassesDesBlockTransform.process_halves.Goals as goal
+
+pub returns-clause-answered : goal.returns-clause-answered
+returns-clause-answered g c b within block starts =
+    let passes = c.args.self.now in
+    let k1 : List (List Bool) = keys_of passes.first in
+    answer_by-three k1 (keys_of passes.second) (keys_of passes.third) block _ _ _ _
+    (c.groups_after-left.ensures.halves b within ∙ ap (after k1) starts) (c.groups_after-left-2.ensures.halves b within)
+    (c.groups_after.ensures.halves b within) refl
+    ∙ ap (λ (f : List ℕ → List ℕ). f block) (through-keys passes)

@@ -1,9 +1,0 @@
-use Rattle.std.proofs.Common.{arith}
-use Rattle.des_fast.proofs.SpreadParts.{AreSlicesFor-one}
-use Rattle.des_fast.proofs.many.passes.PassDesByBatches.unchain_by_batches.Goals as goal
-
-pub returns-clause-unchained : goal.returns-clause-unchained
-returns-clause-unchained g c =
-    c.unchain.ensures.unchained _
-    (AreSlicesFor-one g.S.Slice.BATCH g.S.Slice.bit c.spread_one.new.slices _ (omega (arith, c.spread_one.ensures.count))
-    c.spread_one.ensures.spread)

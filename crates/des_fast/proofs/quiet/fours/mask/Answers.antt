@@ -1,5 +1,0 @@
-use Rattle.des_fast.proofs.EachByte.{masks}
-use Rattle.des_fast.proofs.quiet.fours.mask.Goals as goal
-
-pub returns : goal.returns
-returns c = masks c.args.bit c.args.bytes c.fits-bytes.0

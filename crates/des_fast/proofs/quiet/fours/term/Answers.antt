@@ -1,5 +1,0 @@
-use Rattle.des_fast.proofs.ChosenTerms.{splat_term}
-use Rattle.des_fast.proofs.quiet.fours.term.Goals as goal
-
-pub returns : goal.returns
-returns c bytes = splat_term c.args.k bytes c.requires

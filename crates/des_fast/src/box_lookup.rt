@@ -1,0 +1,66 @@
+//! How S-boxes are looked up: by tables, or without.
+
+ghost use Rattle.std.specs.Prelude.{◌≡◌};
+ghost use Rattle.des.specs.Rounds.{after_rounds};
+ghost use Rattle.des_fast.specs.Groups.{half_of};
+ghost use Rattle.des_fast.specs.HalfBlocks.{half_blocks_of};
+ghost use Rattle.des_fast.specs.SideBySide.{keys_of};
+
+use crate::halves::Halves;
+use crate::rounds::{Groups, halves_after_rounds};
+use crate::single::Des;
+use crate::three_blocks::ThreeGroups;
+use des::tdes::Pass;
+use std::simd::prelude::*;
+
+/// How S-boxes are looked up.
+pub trait BoxLookup: Copy {
+    /// The blocks that go side by side in a list.
+    type Groups: Groups;
+
+    /// The last blocks of a list go one by one up to this number: that is quicker.
+    const ONE_BY_ONE: usize;
+
+    /// The halves of one block after the sixteen rounds of a pass, with the round keys in their order
+    /// or, to decipher, from the last to the first (FIPS 46-3, enciphering and deciphering).
+    fn after_rounds<'a, W>(halves: Halves, pass: &Pass<'a, Des<W>>) -> Halves
+        ensures { half_blocks_of result ≡ after_rounds (keys_of pass.now)
+            (half_of halves.left.groups) (half_of halves.right.groups) };
+}
+
+/// By tables. The rounds of a block wait for its lookups, and those of two others go on meanwhile,
+/// so that three take little longer than one.
+#[derive(Clone, Copy)]
+pub struct Tables;
+
+impl BoxLookup for Tables {
+    type Groups = ThreeGroups;
+
+    const ONE_BY_ONE: usize = 1;
+
+    #[inline(always)]
+    fn after_rounds<'a, W>(halves: Halves, pass: &Pass<'a, Des<W>>) -> Halves {
+        let round_keys = &pass.cipher.schedule.round_keys;
+        if pass.deciphers {
+            halves.deciphered(round_keys)
+        } else {
+            halves.enciphered(round_keys)
+        }
+    }
+}
+
+/// By selections between vectors: no table is read at an index that depends on the key or a block.
+/// Four blocks share a vector, and take two to three times the time of one.
+#[derive(Clone, Copy)]
+pub struct NoTables;
+
+impl BoxLookup for NoTables {
+    type Groups = u64x4;
+
+    const ONE_BY_ONE: usize = 2;
+
+    #[inline(always)]
+    fn after_rounds<'a, W>(halves: Halves, pass: &Pass<'a, Des<W>>) -> Halves {
+        halves_after_rounds(halves, &pass.cipher.schedule.round_keys, pass.deciphers)
+    }
+}
