@@ -5,18 +5,12 @@ import textwrap
 
 from sources.text import Refused
 
-from .exports import exports
-from .over_context import OverContext
+from .exports import exports, shape, written
+from .over_export import OverExport
 
 WIDTH = 120
 # What calls of the header and the wiping take of the stack themselves. tests/stack.c sees whether it is enough.
 FRAMES = 350
-
-
-def shape(argument):
-    """What a caller has to know of an argument of C, without its name: int and uint32_t are passed alike, and char and uint8_t."""
-    const, kind, pointer, size = re.fullmatch(r"(const )?(\w+) (\*?)\w+(\[\d+\])?", argument).groups()
-    return bool(const), {"int": "uint32_t", "char": "uint8_t"}.get(kind, kind), pointer, size
 
 
 def name_of(argument):
@@ -24,15 +18,8 @@ def name_of(argument):
     return re.search(r"(\w+)(?:\[\d+\])?$", argument)[1]
 
 
-def written(kind, name):
-    """A type and a name as C declares them."""
-    const = "const " if kind.is_const else ""
-    sizes = "".join(f"[{size}]" for size in kind.sizes)
-    return f"{const}{kind.base} {'*' if kind.is_pointer and not sizes else ''}{name}{sizes}".strip()
-
-
 def arguments_of(call):
-    return [written(it.type, it.name) for it in call.parameters]
+    return [written(it.type, it.name) for it in call.parameters] or ["void"]
 
 
 def filled(text, end):
@@ -48,26 +35,32 @@ def declared(result, name, arguments, end=";"):
 class Library:
     """The calls of the header and the exports: `renamed` are the calls that wipe after the export of their name, which has another name in the
     library, of these `alike` those that have its arguments, and of those `handed` the ones that go on to it whatever they are given. An export
-    with the name of another call is that call itself."""
+    with the name of another call is that call itself. The others are `by_hand`, in a text of C, or made."""
 
-    def __init__(self, header, stack, code):
-        self.header, self.stack, self.exports = header, stack, exports()
+    def __init__(self, header, stack, errors, code):
+        self.header, self.stack, self.errors, self.exports = header, stack, errors, exports()
         named = [it for it in header.calls.values() if it.name in self.exports]
         self.renamed = [it for it in named if stack.wipes(it)]
         self.alike = [it for it in self.renamed if self._is_alike(it)]
-        by_hand = [it for it in self.renamed if re.search(rf"WIPES\(\w+, {it.name},", code)]
-        self.handed = [it for it in self.alike if it not in by_hand]
+        self.by_hand = set(re.findall(r"^\w.*?\bcukvashe_(\w+)\(.*\{", code, re.MULTILINE))
+        self.handed = [it for it in self.alike if it.name not in self.by_hand]
         for it in named:
-            if not self._is_alike(it) and it not in by_hand:
-                raise Refused(f"the export cukvashe_{it.name} of crates/des_c does not take and return what the header says, and C does not either")
+            if not self._is_alike(it) and it not in self.renamed:
+                raise Refused(f"the export cukvashe_{it.name} of crates/des_c does not take and return what the header says")
 
     def _is_alike(self, call):
-        """Whether the export takes and returns the same. A name that both have stands at one place: of two texts each is handed on as it is."""
+        """Whether the export takes and returns the same. A name that both have then stands at one place: of two texts that nothing but their
+        names tells apart, one would be taken for the other."""
         export = self.exports[call.name]
         names = [name_of(it) for it in export.arguments]
-        is_in_place = all(names.index(it.name) == at for at, it in enumerate(call.parameters) if it.name in names)
         shapes = [shape(it) for it in arguments_of(call)], [shape(it) for it in export.arguments]
-        return shapes[0] == shapes[1] and is_in_place and call.result.base == export.result
+        if shapes[0] != shapes[1] or call.result.base != export.result:
+            return False
+        if export.required:
+            raise Refused(f"the export cukvashe_{call.name} of crates/des_c requires '{export.required.pop()}', which no C sees to")
+        if any(names.index(it.name) != at for at, it in enumerate(call.parameters) if it.name in names):
+            raise Refused(f"the export cukvashe_{call.name} of crates/des_c has the names of the header's arguments at other places")
+        return True
 
     def internal(self):
         """The exports that serve several calls."""
@@ -101,28 +94,40 @@ class Library:
         yield from ["};", "", "#endif"]
 
     def definitions(self):
-        yield "/* Calls of the header that follow a rule: those whose export has their arguments, those with a context, and those that say in a bool"
-        yield "   what another says in a status. Made by bindings/describe of the header and the exports. */"
+        yield "/* Calls of the header over the proved exports, those that say in a bool what another says in a status, and those that give a number."
+        yield "   Made by bindings/describe of the header and the exports. */"
         yield '#include "internal.h"'
-        for it in self.header.calls.values():
-            given = ", ".join(one.name for one in it.parameters)
-            if it in self.handed:
-                yield from self._defined(it, f"cukvashe_unwiped_{it.name}({given})")
-            elif verify := self._verified(it):
-                yield from self._defined(it, f"cukvashe_{verify}({given}) == CUKVASHE_OK", wipes=False)
-            elif OverContext.is_one(self.header, it):
-                over = OverContext(self.header, it, self.exports)
-                yield from self._defined(it, over.made(), over.in_place())
+        absent = {}
+        made = [line for it in self.header.calls.values() for line in self._definition(it, absent)]
+        for name, size in absent.items():
+            yield from ["", f"/* In the place of `{name}` where a struct leaves it out. */", f"static const uint8_t no_{name}[{size}];"]
+        yield from made
+
+    def _definition(self, it, absent):
+        """The C of a call, if it is made; what structs may leave out is put into `absent`, with its size."""
+        given = ", ".join(one.name for one in it.parameters)
+        if it.name in self.by_hand:
+            return
+        if it.name in self.header.numbers:
+            yield from self._defined(it, self.header.numbers[it.name][1])
+        elif it in self.handed:
+            yield from self._defined(it, f"cukvashe_unwiped_{it.name}({given})")
+        elif verify := self._verified(it):
+            yield from self._defined(it, f"cukvashe_{verify}({given}) == CUKVASHE_OK", wipes=False)
+        elif it in self.renamed or it.name not in self.exports:
+            over = OverExport(self.header, self.errors, it, self.exports)
+            yield from self._defined(it, over.made(), over.before())
+            absent.update(over.absent)
 
     def _verified(self, call):
         """The name of the call that says in a status what a call named is_tag or is_pin says in a bool, or None."""
         name = re.sub("_is_(tag|pin)$", "_verify", call.name)
         return name if name != call.name and call.result.base == "bool" and name in self.header.calls else None
 
-    def _defined(self, call, made, before="", wipes=True):
-        """A call that goes on to what it makes, after a line or none, and wipes after it where it must."""
+    def _defined(self, call, made, before=(), wipes=True):
+        """A call that goes on to what it makes, after some lines, and wipes after it where it must."""
         yield from ["", declared(call.result.base, f"cukvashe_{call.name}", arguments_of(call), " {")]
-        yield from [f"  {before}"] * bool(before)
+        yield from (filled(f"  {it}", "") for it in before)
         if wipes and self.stack.wipes(call):
             result = "" if call.result.base == "void" else f"const {call.result.base} result = "
             yield filled(f"  {result}{made}", ";")

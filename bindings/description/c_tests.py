@@ -40,3 +40,10 @@ def handed(library):
         yield filled(f"  CHECK({made} == STATUS)" if it.result.base == "int" else f"  {made}", ";")
         yield filled(f'  WAS_WIPED("unwiped", "{it.name}", {", ".join(f"(uintptr_t){word}" for word in given)})', ";")
     yield "}"
+
+
+def numbers(header):
+    yield "/* What each call of the header gives that gives a number. Made by bindings/describe. */"
+    yield "static void gives_numbers(void) {"
+    yield from (f"  CHECK(cukvashe_{name}() == {number});" for name, (_, number) in header.numbers.items())
+    yield "}"

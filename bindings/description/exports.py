@@ -38,9 +38,22 @@ def passed(name, kind):
     return [f"{const}{NUMBERS[element]} *{name}", f"size_t {name}_count"]
 
 
+def shape(argument):
+    """What a caller has to know of an argument of C, without its name: int and uint32_t are passed alike, and char and uint8_t."""
+    const, kind, pointer, size = re.fullmatch(r"(const )?(\w+) (\*?)\w+(\[\d+\])?", argument).groups()
+    return bool(const), {"int": "uint32_t", "char": "uint8_t"}.get(kind, kind), pointer, size
+
+
+def written(kind, name):
+    """A type and a name as C declares them."""
+    const = "const " if kind.is_const else ""
+    sizes = "".join(f"[{size}]" for size in kind.sizes)
+    return f"{const}{kind.base} {'*' if kind.is_pointer and not sizes else ''}{name}{sizes}".strip()
+
+
 class Export:
-    """A proved export: its name without `cukvashe_`, what it returns, its arguments by name and kind, and as C passes them, and whether it
-    is made for both widths of vectors."""
+    """A proved export: its name without `cukvashe_`, what it returns, its arguments by name and kind, and as C passes them, what it requires,
+    and whether it is made for both widths of vectors."""
 
     def __init__(self, item, module):
         found = re.fullmatch(r"\((.*?),? ?\)(?: -> (\w+))?", item.head)
@@ -48,6 +61,7 @@ class Export:
         self.name = item.name.removeprefix("cukvashe_")
         self.result = NUMBERS[found[2]] if found[2] else "void"
         self.arguments = [it for name, kind in self.pairs for it in passed(name, kind)]
+        self.required = {it for clause in item.clauses if clause.kind == "requires" for it in clause.said.split(" × ")}
         self.is_wide = module.split("::")[0] == "lists"
 
 

@@ -16,7 +16,7 @@ PRELUDE = (
 # A conditional of these is for the compiler, and so is what stands within it; of the others only the directives are passed over.
 OF_COMPILER = ("#ifdef __cplusplus", "#ifndef CUKVASHE_CHECK")
 DIRECTIVE = re.compile(r"#(if|ifdef|ifndef|endif|else|include|pragma GCC visibility)\b")
-OF_NOBODY = re.compile(r"#define CUKVASHE_(DES_H|CHECK|VERSION)\b")
+OF_NOBODY = re.compile(r"#define CUKVASHE_(DES_H|CHECK|VERSION\w*)\b")
 
 
 @dataclass(frozen=True)
@@ -106,6 +106,14 @@ class Header:
         return [it for it in self.constants if it.name == "OK" or it.name.startswith("ERR_")]
 
     @property
+    def numbers(self):
+        """What each call gives that takes nothing but a number: the size of each struct, and each constant, as C writes it."""
+        sizes = {f"{name}_size": ("size_t", f"sizeof(cukvashe_{name})") for name in self.structs}
+        constants = [it for it in self.constants if it not in self.statuses]
+        named = {it.name.lower(): ("size_t" if it.name.endswith("_SIZE") else "int", f"CUKVASHE_{it.name}") for it in constants}
+        return {**sizes, **named}
+
+    @property
     def kinds(self):
         """The names of ciphers and MACs: those of contexts of words."""
         return [name for name, struct in self.structs.items() if struct.words]
@@ -136,9 +144,27 @@ def pieces_of(text):
         at = end
 
 
+# A line in capitals begins a section. One that is indented stays as it is, and so does one that declares a call, with what follows it.
+HEADING = re.compile(r"[A-Z][A-Z0-9 ,()-]+")
+DECLARES = re.compile(r"(int|void|bool|const char \*) ?cukvashe_")
+
+
+def parts_of(comment):
+    """The parts of a comment, each with its lines: a heading, a paragraph, or what stays as it is, where empty lines may stand within."""
+    parts = []
+    for block in comment.split("\n\n"):
+        for at, line in enumerate(block.split("\n")):
+            kind = "heading" if HEADING.fullmatch(line) else "verbatim" if line[0] == " " or DECLARES.match(line) else "paragraph"
+            if parts and parts[-1][0] == kind and (at > 0 or kind == "verbatim"):
+                parts[-1][1].extend([""] * (at == 0) + [line])
+            else:
+                parts.append((kind, [line]))
+    return parts
+
+
 def constants_of(text):
-    """The constants of the header, each with the comment beside it, which may go over lines."""
-    pattern = re.compile(r"^#define CUKVASHE_(\w+)[ \t]+(\S+)[ \t]*(?:/\*(.*?)\*/)?[ \t]*$", re.DOTALL | re.MULTILINE)
+    """The constants of the header, which are macros, and of statuses enumerators, each with the comment beside it, which may go over lines."""
+    pattern = re.compile(r"^(?:#define |  )CUKVASHE_(\w+)(?: =)?[ \t]+([^\s,]+),?[ \t]*(?:/\*(.*?)\*/)?[ \t]*$", re.DOTALL | re.MULTILINE)
     for found in pattern.finditer(text):
         name, value, said = found.groups()
         line = text.count("\n", 0, found.start()) + 1
@@ -210,6 +236,7 @@ def read(text):
     found.version = version[0]
     found.pieces = list(pieces_of(text))
     found.constants = list(constants_of(text))
+    statuses = []
     try:
         tree = c_parser.CParser().parse(code_of(text), "prelude")
     except c_parser.ParseError as it:
@@ -224,10 +251,26 @@ def read(text):
             if call.name in found.calls:
                 raise Refused(f"{node.coord}: {node.name} is declared twice")
             found.calls[call.name] = call
+        elif isinstance(node, c_ast.Decl) and isinstance(node.type, c_ast.Enum) and node.type.name == "cukvashe_status":
+            statuses = [it.name.removeprefix("CUKVASHE_") for it in node.type.values]
         elif not isinstance(node, c_ast.Typedef) or node.coord.file == PLACE:
             raise Refused(f"{node.coord}: neither a call nor a struct")
+    if statuses != [it.name for it in found.statuses]:
+        raise Refused(f"{PLACE}: enum cukvashe_status does not have the statuses, each in a line of its own")
     check_statuses(found.statuses)
+    check_numbers(found)
     return found
+
+
+def check_numbers(header):
+    """Each struct has a call that gives its size, and each constant one that gives it; the version is that of its three numbers."""
+    for name, (kind, number) in header.numbers.items():
+        call = header.calls.get(name)
+        if call is None or call.parameters or call.result != Type(kind) or call.is_checked:
+            raise Refused(f"{PLACE}: it does not have the call '{kind} cukvashe_{name}(void)', which gives {number}")
+    numbers = [header.number(f"VERSION_{part}") for part in ("MAJOR", "MINOR", "PATCH")]
+    if header.version != ".".join(map(str, numbers)):
+        raise Refused(f"{PLACE}: CUKVASHE_VERSION_MAJOR, _MINOR and _PATCH are not those of CUKVASHE_VERSION")
 
 
 def check_statuses(statuses):
@@ -283,7 +326,7 @@ class Stack:
         for name in self.secrets:
             if name not in names:
                 raise Refused(f"{PLACE}: {self.HEADING} has '{name}', which is no argument of a call")
-        without = [it.name for it in calls if not self.wipes(it) and not self._takes_context(it)]
+        without = [it.name for it in calls if it.parameters and not self.wipes(it) and not self._takes_context(it)]
         if differing := set(without) ^ set(others):
             raise Refused(f"{PLACE}: {self.HEADING} and the calls differ in who is given no secret: {', '.join(sorted(differing))}")
         named = [name for _, names in self.sizes[1:] for name in names]

@@ -1,7 +1,8 @@
-"""The manual page of the header. A comment is text: a line in capitals begins a section, a line that is indented and one that declares a
-call stay as they are. Code is shown as it is."""
+"""The manual page of the header. A comment is text; code is shown as it is."""
 
 import re
+
+from .header import parts_of
 
 HEAD = """\
 .TH CUKVASHE_DES 3 "" "Cukvashe {version}" "Library calls"
@@ -17,8 +18,6 @@ cukvashe_des \\- DES, triple DES and payment formats
 .fi
 .SH DESCRIPTION"""
 
-HEADING = re.compile(r"[A-Z][A-Z0-9 ,()-]+")
-AS_IT_IS = re.compile(r" |(int|void|bool) cukvashe_")
 # What is said of the version and of the macro of the warning is said where they are, and they are no part of the page.
 LEFT_OUT = ("The version of this header", "What a call that returns a status is declared with", "The library shows the calls")
 
@@ -27,12 +26,11 @@ class Page:
     """The lines of the page: text, and what stands as it is between .nf and .fi."""
 
     def __init__(self):
-        self.lines, self.is_verbatim, self.is_blank = [], False, False
+        self.lines, self.is_verbatim = [], False
 
     def verbatim(self, is_on):
         if is_on != self.is_verbatim:
             self.lines += [".PP", ".nf"] if is_on else [".fi", ".PP"]
-            self.is_blank = False
         self.is_verbatim = is_on
 
     def put(self, line):
@@ -40,20 +38,14 @@ class Page:
         self.lines.append(re.sub(r"^(?=[.'])", r"\\&", line))
 
     def comment(self, text):
-        for line in text.strip("\n").split("\n"):
-            if HEADING.fullmatch(line):
-                self.verbatim(False)
-                self.lines.append(f'.SH "{line}"')
-            elif line == "":
-                if self.is_verbatim:
-                    self.is_blank = True
-                else:
-                    self.lines.append(".PP")
-            else:
-                self.verbatim(AS_IT_IS.match(line) is not None)
-                if self.is_blank:
-                    self.lines.append("")
-                self.is_blank = False
+        for kind, lines in parts_of(text):
+            self.verbatim(kind == "verbatim")
+            if kind == "heading":
+                self.lines.append(f'.SH "{lines[0]}"')
+                continue
+            if self.lines and not self.lines[-1].startswith("."):
+                self.lines.append("" if self.is_verbatim else ".PP")
+            for line in lines:
                 self.put(line)
                 if not self.is_verbatim:
                     self.lines[-1] = re.sub(r"`([^`]*)`", r"\\fI\1\\fP", self.lines[-1])
@@ -63,7 +55,6 @@ class Page:
             self.verbatim(True)
             for line in lines:
                 self.put(line)
-            self.is_blank = True
 
 
 def page(header):

@@ -1,6 +1,8 @@
 """The package's declarations of the header, for ctypes."""
 
+import ast
 import math
+import textwrap
 
 from sources.text import Refused
 
@@ -26,7 +28,7 @@ def shown(kind, is_result=False):
 
 
 def field(header, kind):
-    """The type of a field; a struct of characters within another one is so many bytes."""
+    """The type of a field. A struct of characters within another struct is an array of bytes."""
     if not kind.struct:
         return shown(kind)
     inner = header.structs[kind.struct].fields
@@ -56,3 +58,19 @@ def declarations(header):
     yield from (f'    "{name}": {header.structs[name].words},' for name in header.kinds)
     yield "}"
     yield from structs(header)
+
+
+def imports_of_errors(text):
+    """The import of all classes of a text, the errors."""
+    yield "from ._faults import ("
+    yield from (f"    {name}," for name in sorted(node.name for node in ast.parse(text).body if isinstance(node, ast.ClassDef)))
+    yield ")"
+
+
+def names(text):
+    """The names that the package shows: those that its text imports from its own modules."""
+    imported = [it.name for node in ast.parse(text).body if isinstance(node, ast.ImportFrom) and node.level == 1 for it in node.names]
+    quoted = ", ".join(f'"{name}"' for name in sorted(imported))
+    yield "__all__ = ["
+    yield from textwrap.wrap(f"{quoted},", 130, initial_indent="    ", subsequent_indent="    ")
+    yield "]"

@@ -7,20 +7,19 @@ from sources.text import Refused
 
 from .c import filled
 
-# The arguments that a call reads, and its numbers; what it writes goes to room of the test's. `count` is the length of a list.
+# The arguments that a call reads, where any bytes won't do, and its numbers; what it writes goes to room of the test's. `count` is the length
+# of a list.
 BY_NAME = {
     "account": '"4012345678909"', "account_length": "13", "base": "key", "block": "sent", "buffer": "blocks", "bytes": "salted",
-    "capacity": "sizeof blocks", "card": "key", "code": "blocks", "count": "count", "counter": "blocks", "counts": "ones",
-    "cryptogram": "blocks", "data": "blocks", "digits": '"0123456789012345"', "expected": "blocks", "expiry": '"8701"',
-    "expiry_length": "4", "fill": "fill", "first": "key", "hash": "CUKVASHE_SHA256", "index": "1", "initial": "key", "input": "blocks",
-    "is_response": "true", "issuer": "key", "iterations": "2", "key": "key", "key_length": "24", "keys": "keys", "length": "8 * count",
-    "message": "blocks", "messages": "messages", "method": "1", "offset": "pin_digits", "offset_length": "12", "others": "others",
+    "capacity": "sizeof blocks", "card": "key", "count": "count", "counts": "ones", "digits": '"0123456789012345"',
+    "expiry": '"8701"', "expiry_length": "4", "fill": "fill", "first": "key", "hash": "CUKVASHE_SHA256", "index": "1",
+    "initial": "key", "is_response": "true", "issuer": "key", "iterations": "2", "key": "key", "key_length": "24", "keys": "keys",
+    "length": "8 * count", "messages": "messages", "method": "1", "offset": "pin_digits", "offset_length": "12", "others": "others",
     "others_count": "1", "parts": "&parts", "password": "others", "password_length": "sizeof others", "pin": "pin_digits",
-    "pin_length": "12", "place": "0", "protection": "key", "protection_length": "24", "records_count": "count", "salt": "blocks",
-    "salt_length": "8", "second": "others", "sequence": '"00"', "sequence_length": "2", "serial": "serial", "serials": "blocks",
-    "service": '"101"', "service_length": "3", "session": "key", "size": "sizeof blocks", "status": "3", "table": "&table",
-    "tag": "blocks", "tag_length": "8", "tags": "blocks", "terminal": "&terminal", "transaction": "key",
-    "translation": "&translations[0]", "validation": "blocks", "value": "pin_digits", "value_length": "4",
+    "pin_length": "12", "place": "0", "protection": "key", "protection_length": "24", "records_count": "count", "salt_length": "8",
+    "second": "others", "sequence": '"00"', "sequence_length": "2", "serial": "serial", "service": '"101"', "service_length": "3",
+    "session": "key", "size": "sizeof blocks", "status": "3", "table": "&table", "tag_length": "8", "terminal": "&terminal",
+    "transaction": "key", "translation": "&translations[0]", "value": "pin_digits", "value_length": "4",
 }  # fmt: skip
 # Of lists that have a length beside their count, the size of an element.
 ELEMENTS = {"keys_length": 16, "tags_length": 8, "expected_length": 8, "values_length": 3, "serials_length": 10, "vectors_length": 8}
@@ -63,6 +62,8 @@ class Samples:
             return f"{size if kind and one.name == 'keys_length' else ELEMENTS[one.name]} * count"
         if one.name == "others_length":
             return call.name.rpartition("_")[2]
+        if one.name not in BY_NAME and one.type.base == "uint8_t" and one.type.is_pointer:
+            return "blocks"
         if one.name not in BY_NAME:
             raise Refused(f"bindings/description/samples.py: it has no value for the argument '{one.name}' of {call.name}")
         return BY_NAME[one.name]
@@ -89,6 +90,6 @@ class Samples:
         yield "/* Each call that returns a status or an answer, which is thrown away: the compiler warns. Made by bindings/describe. */"
         yield from ["#include <cukvashe_des.h>", "void ignores(void);", "void ignores(void) {"]
         for call in self.header.calls.values():
-            if call.result.base in ("int", "bool"):
+            if call.result.base in ("int", "bool") and call.parameters:
                 yield f"  cukvashe_{call.name}({', '.join('0' for _ in call.parameters)});"
         yield "}"

@@ -66,6 +66,15 @@ def of_python(header):
     yield "}"
 
 
+def classes_of_python(header):
+    """The errors for Python. Those that say that something is not the right one are no ValueError."""
+    for it, name in errors(header):
+        bases = "VerificationError" if short(it) in ("TAG", "WRONG_PIN", "KEY_BLOCK_MAC") else "Error, ValueError"
+        yield f"class {name}Error({bases}):"
+        lines = textwrap.wrap(f'"""{capitalized(it.text)}."""', 126, break_on_hyphens=False)
+        yield from [*(f"    {line}" for line in lines), "", ""]
+
+
 def of_rust(header):
     yield "//! The statuses of `cukvashe_des.h` and the sentence of each: made of it by `bindings/describe`."
     yield "// All are here, also those that no call of this crate returns."

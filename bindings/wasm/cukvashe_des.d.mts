@@ -424,52 +424,55 @@ export function pinOffsetVerify(
   key: Uint8Array, table: DecimalTable, validation: Uint8Array, pin: Digits, offset: Digits,
 ): true;
 
-// ---- Card cryptograms (EMV 4.3, Book 2), the issuer's side. Keys have 16 bytes
+// ---- Card verification values, and card cryptograms (EMV 4.3, Book 2), the issuer's side. Keys have 16 bytes
 
+// Calls like those of cukvashe_des.h: made of it by bindings/describe.
 /**
- * The key of a card (option A), with odd parity, from the issuer's key, an account number of 8 to 19 digits and a
- * sequence number of two: "00" where the card has none. KeyLength, AccountLength, AccountDigit, SequenceLength,
- * SequenceDigit.
+ * The card verification value, three ASCII digits, under a key pair of 16 bytes, of an account number of 12 to 19
+ * digits, an expiry date of four, in the order that the issuer takes, and a service code of three. KeyLength,
+ * AccountLength, AccountDigit, ExpiryLength, ExpiryDigit, ServiceLength, ServiceDigit.
+ */
+export function cvv(key: Uint8Array, account: Digits, expiry: Digits, service: Digits): string;
+/**
+ * The key of a card (A1.4.1, option A), with odd parity, from the issuer's master key (IMK), an account number
+ * (PAN) of 8 to 19 digits and a sequence number (PSN) of two, `00` where the card has none. KeyLength,
+ * AccountLength, AccountDigit, SequenceLength, SequenceDigit.
  */
 export function emvCardKey(issuer: Uint8Array, account: Digits, sequence: Digits): Uint8Array;
 /**
- * The key of a card by option B, which differs where the account number has more than sixteen digits: take it if the
- * card scheme asks for it. Errors as of emvCardKey.
+ * The key of a card by option B (A1.4.2), which differs where the account number has more than sixteen digits: take
+ * it if the card scheme asks for it. KeyLength, AccountLength, AccountDigit, SequenceLength, SequenceDigit.
  */
 export function emvCardKeyB(issuer: Uint8Array, account: Digits, sequence: Digits): Uint8Array;
 /**
- * The session key of a card's key, from eight bytes that are different for each session: for secure messaging the
- * application cryptogram. The third of them plays no part. KeyLength, BlockLength.
- */
-export function emvSessionKey(card: Uint8Array, block: Uint8Array): Uint8Array;
-/**
- * The session key for application cryptograms, by the application transaction counter (ATC), two bytes. KeyLength,
- * DataLength.
+ * The session key for application cryptograms, from the card's key and the application transaction counter, two
+ * bytes. KeyLength, DataLength.
  */
 export function emvApplicationKey(card: Uint8Array, counter: Uint8Array): Uint8Array;
 /**
- * The application cryptogram (ARQC, TC or AAC) of data under a session key, 8 bytes. To check one that a card sent call
- * new RetailMacDes(session, 2, data).verify(cryptogram). KeyLength.
+ * The session key for other uses (A1.3), from the card's key and eight bytes that are different for each session:
+ * for secure messaging the application cryptogram. The third of them plays no part. KeyLength, BlockLength.
+ */
+export function emvSessionKey(card: Uint8Array, block: Uint8Array): Uint8Array;
+/**
+ * The application cryptogram (8.1.2), 8 bytes, under a session key, of the data that the card scheme names: the
+ * retail MAC with padding method 2. To check one that a card sent call new RetailMacDes(session, 2,
+ * data).verify(cryptogram). KeyLength.
  */
 export function emvApplicationCryptogram(session: Uint8Array, data: Uint8Array): Uint8Array;
 /**
- * The issuer's response (ARPC) by method 1 to an application cryptogram, 8 bytes, with a response code of two bytes.
- * KeyLength, BlockLength, DataLength.
+ * The issuer's response by method 1 (8.2.1), 8 bytes, to an application cryptogram, with a response code of two
+ * ASCII characters. KeyLength, BlockLength, DataLength.
  */
 export function emvResponse1(session: Uint8Array, cryptogram: Uint8Array, code: Uint8Array): Uint8Array;
 /**
- * The issuer's response (ARPC) by method 2, 4 bytes, with a card status update of four bytes and at most eight bytes of
- * the issuer's. Errors as of emvResponse1.
+ * The issuer's response by method 2 (8.2.2), 4 bytes, to an application cryptogram, with a card status update of
+ * four bytes and at most 8 bytes of the issuer's. KeyLength, BlockLength, DataLength.
  */
 export function emvResponse2(
   session: Uint8Array, cryptogram: Uint8Array, status: Uint8Array, data?: Uint8Array,
 ): Uint8Array;
-/**
- * The card verification value, three digits, under a key pair of 16 bytes, of an account number of 12 to 19 digits, an
- * expiry date of four and a service code of three. KeyLength, AccountLength, AccountDigit, ExpiryLength, ExpiryDigit,
- * ServiceLength, ServiceDigit.
- */
-export function cvv(key: Uint8Array, account: Digits, expiry: Digits, service: Digits): string;
+// This ends what bindings/describe made.
 
 // ---- Key blocks (TR-31)
 

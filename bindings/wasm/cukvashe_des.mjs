@@ -1280,64 +1280,89 @@ export function pinOffsetVerify(key, table, validation, pin, offset, ...more) {
   return true;
 }
 
-// ---- Card cryptograms (EMV 4.3, Book 2), the issuer's side. Keys have 16 bytes
+// ---- Card verification values, and card cryptograms (EMV 4.3, Book 2), the issuer's side. Keys have 16 bytes
 
-const cryptogramOf = (bytes) => dataOf(bytes, BLOCK_SIZE, "an application cryptogram", "has", BlockLength);
+// Calls like those of cukvashe_des.h: made of it by bindings/describe.
 
-function cardKeyBy(name, issuer, account, sequence) {
-  const key = keyOf(issuer, 16);
-  return written(name, { issuer: key, account: accountOf(account), sequence: textOf(sequence, "a sequence number") });
+export function cvv(key, account, expiry, service, ...more) {
+  refuseMore(more);
+  const given = {
+    key: keyOf(key, 16),
+    account: textOf(account, "an account number"),
+    expiry: textOf(expiry, "an expiry date"),
+    service: textOf(service, "a service code"),
+  };
+  return writtenText("cvv", given);
 }
 
 export function emvCardKey(issuer, account, sequence, ...more) {
   refuseMore(more);
-  return cardKeyBy("emv_card_key", issuer, account, sequence);
+  const given = {
+    issuer: keyOf(issuer, 16),
+    account: textOf(account, "an account number"),
+    sequence: textOf(sequence, "a sequence number"),
+  };
+  return written("emv_card_key", given);
 }
 
 export function emvCardKeyB(issuer, account, sequence, ...more) {
   refuseMore(more);
-  return cardKeyBy("emv_card_key_b", issuer, account, sequence);
-}
-
-export function emvSessionKey(card, block, ...more) {
-  refuseMore(more);
-  const bytes = dataOf(block, BLOCK_SIZE, "the block of a session", "has", BlockLength);
-  return written("emv_session_key", { card: keyOf(card, 16), block: bytes });
+  const given = {
+    issuer: keyOf(issuer, 16),
+    account: textOf(account, "an account number"),
+    sequence: textOf(sequence, "a sequence number"),
+  };
+  return written("emv_card_key_b", given);
 }
 
 export function emvApplicationKey(card, counter, ...more) {
   refuseMore(more);
-  const bytes = dataOf(counter, 2, "a transaction counter", "has", DataLength);
-  return written("emv_application_key", { card: keyOf(card, 16), counter: bytes });
+  const given = {
+    counter: dataOf(counter, 2, "a transaction counter", "has", DataLength),
+    card: keyOf(card, 16),
+  };
+  return written("emv_application_key", given);
+}
+
+export function emvSessionKey(card, block, ...more) {
+  refuseMore(more);
+  const given = {
+    block: dataOf(block, 8, "the block of a session", "has", BlockLength),
+    card: keyOf(card, 16),
+  };
+  return written("emv_session_key", given);
 }
 
 export function emvApplicationCryptogram(session, data, ...more) {
   refuseMore(more);
-  return written("emv_application_cryptogram", { session: keyOf(session, 16), bytes: bytesOf(data, "data") });
+  const given = {
+    bytes: bytesOf(data, "data"),
+    session: keyOf(session, 16),
+  };
+  return written("emv_application_cryptogram", given);
 }
 
 export function emvResponse1(session, cryptogram, code, ...more) {
   refuseMore(more);
-  const request = cryptogramOf(cryptogram);
-  const word = dataOf(code, 2, "a response code", "has", DataLength);
-  return written("emv_response_1", { session: keyOf(session, 16), cryptogram: request, code: word });
+  const given = {
+    cryptogram: dataOf(cryptogram, 8, "an application cryptogram", "has", BlockLength),
+    code: dataOf(code, 2, "a response code", "has", DataLength),
+    session: keyOf(session, 16),
+  };
+  return written("emv_response_1", given);
 }
 
 export function emvResponse2(session, cryptogram, status, data = new Uint8Array(), ...more) {
   refuseMore(more);
-  const request = cryptogramOf(cryptogram);
-  const word = dataOf(status, 4, "a card status update", "has", DataLength);
-  const bytes = bytesOf(data, "data");
-  return written("emv_response_2", { session: keyOf(session, 16), cryptogram: request, status: word, bytes });
+  const given = {
+    cryptogram: dataOf(cryptogram, 8, "an application cryptogram", "has", BlockLength),
+    status: dataOf(status, 4, "a card status update", "has", DataLength),
+    bytes: bytesOf(data, "data"),
+    session: keyOf(session, 16),
+  };
+  return written("emv_response_2", given);
 }
-
-// ---- Card verification values
-
-export function cvv(key, account, expiry, service, ...more) {
-  refuseMore(more);
-  const given = { key: keyOf(key, 16), account: accountOf(account), expiry: textOf(expiry, "an expiry date") };
-  return writtenText("cvv", { ...given, service: textOf(service, "a service code") });
-}
+// This ends what bindings/describe made.
 
 // ---- Key blocks (ANSI X9.143, ASC X9 TR-31): a key with what it is for, encrypted and authenticated under another -----
 

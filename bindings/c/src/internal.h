@@ -41,6 +41,11 @@ struct processor cukvashe_internal_processor(void);
 #define CHOOSE(COUNT, CALL, ...) cukvashe_internal_##CALL(__VA_ARGS__)
 #endif
 
+/* Whether `length` bytes are `count` elements of a size. It divides, since a product could overflow. */
+static inline bool are_elements(size_t count, size_t size, size_t length) {
+  return length % size == 0 && length / size == count;
+}
+
 /* Writes zeros over `size` bytes of the stack below its caller's frame: there lies what the caller's calls left. */
 void cukvashe_internal_wipe_stack(size_t size);
 

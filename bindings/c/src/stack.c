@@ -1,7 +1,6 @@
 /*
  * No call leaves a key, a password or a PIN on the stack that it was given or gives: it writes zeros over the part of the stack that it
- * may take, by the header, with few bytes less for its own frame. Calls whose export has the header's arguments are in calls.c; those of
- * ciphers and MACs in cukvashe_des.c. tests/stack.c looks at what is left.
+ * may take, by the header, with few bytes less for its own frame. tests/stack.c looks at what is left.
  */
 #include "internal.h"
 

@@ -281,6 +281,52 @@ static void call_tdes_ede2_open_salted(void) { returned = cukvashe_tdes_ede2_ope
     sizeof others, salted, sizeof salted, (void *)rooms[0], sizeof salted, (void *)rooms[1]); }
 static void call_tdes_ede3_open_salted(void) { returned = cukvashe_tdes_ede3_open_salted(CUKVASHE_SHA256, 0, others,
     sizeof others, salted, sizeof salted, (void *)rooms[0], sizeof salted, (void *)rooms[1]); }
+static void call_des_size(void) { returned = cukvashe_des_size(); }
+static void call_tdes_ede2_size(void) { returned = cukvashe_tdes_ede2_size(); }
+static void call_tdes_ede3_size(void) { returned = cukvashe_tdes_ede3_size(); }
+static void call_cbc_mac_des_size(void) { returned = cukvashe_cbc_mac_des_size(); }
+static void call_cbc_mac_tdes_ede2_size(void) { returned = cukvashe_cbc_mac_tdes_ede2_size(); }
+static void call_cbc_mac_tdes_ede3_size(void) { returned = cukvashe_cbc_mac_tdes_ede3_size(); }
+static void call_retail_mac_des_size(void) { returned = cukvashe_retail_mac_des_size(); }
+static void call_cmac_tdes_ede2_size(void) { returned = cukvashe_cmac_tdes_ede2_size(); }
+static void call_cmac_tdes_ede3_size(void) { returned = cukvashe_cmac_tdes_ede3_size(); }
+static void call_message_size(void) { returned = cukvashe_message_size(); }
+static void call_dukpt_terminal_size(void) { returned = cukvashe_dukpt_terminal_size(); }
+static void call_pin_translation_size(void) { returned = cukvashe_pin_translation_size(); }
+static void call_decimal_table_size(void) { returned = cukvashe_decimal_table_size(); }
+static void call_key_block_fields_size(void) { returned = cukvashe_key_block_fields_size(); }
+static void call_key_block_parts_size(void) { returned = cukvashe_key_block_parts_size(); }
+static void call_version_major(void) { returned = cukvashe_version_major(); }
+static void call_version_minor(void) { returned = cukvashe_version_minor(); }
+static void call_version_patch(void) { returned = cukvashe_version_patch(); }
+static void call_block_size(void) { returned = cukvashe_block_size(); }
+static void call_tag_size(void) { returned = cukvashe_tag_size(); }
+static void call_des_key_size(void) { returned = cukvashe_des_key_size(); }
+static void call_tdes_ede2_key_size(void) { returned = cukvashe_tdes_ede2_key_size(); }
+static void call_tdes_ede3_key_size(void) { returned = cukvashe_tdes_ede3_key_size(); }
+static void call_cbc_mac_des_key_size(void) { returned = cukvashe_cbc_mac_des_key_size(); }
+static void call_cbc_mac_tdes_ede2_key_size(void) { returned = cukvashe_cbc_mac_tdes_ede2_key_size(); }
+static void call_cbc_mac_tdes_ede3_key_size(void) { returned = cukvashe_cbc_mac_tdes_ede3_key_size(); }
+static void call_retail_mac_des_key_size(void) { returned = cukvashe_retail_mac_des_key_size(); }
+static void call_cmac_tdes_ede2_key_size(void) { returned = cukvashe_cmac_tdes_ede2_key_size(); }
+static void call_cmac_tdes_ede3_key_size(void) { returned = cukvashe_cmac_tdes_ede3_key_size(); }
+static void call_check_value_size(void) { returned = cukvashe_check_value_size(); }
+static void call_short_check_value_size(void) { returned = cukvashe_short_check_value_size(); }
+static void call_dukpt_key_size(void) { returned = cukvashe_dukpt_key_size(); }
+static void call_dukpt_serial_size(void) { returned = cukvashe_dukpt_serial_size(); }
+static void call_fill_size(void) { returned = cukvashe_fill_size(); }
+static void call_pin_size(void) { returned = cukvashe_pin_size(); }
+static void call_cvv_size(void) { returned = cukvashe_cvv_size(); }
+static void call_pvv_size(void) { returned = cukvashe_pvv_size(); }
+static void call_key_data_size(void) { returned = cukvashe_key_data_size(); }
+static void call_key_block_size(void) { returned = cukvashe_key_block_size(); }
+static void call_pkcs7(void) { returned = cukvashe_pkcs7(); }
+static void call_iso7816(void) { returned = cukvashe_iso7816(); }
+static void call_md5(void) { returned = cukvashe_md5(); }
+static void call_sha1(void) { returned = cukvashe_sha1(); }
+static void call_sha256(void) { returned = cukvashe_sha256(); }
+static void call_mac_padding_1(void) { returned = cukvashe_mac_padding_1(); }
+static void call_mac_padding_2(void) { returned = cukvashe_mac_padding_2(); }
 
 /* The name of each call, the most that it uses of the stack, whether it wipes that, and whether it takes a list, and a context. */
 static const struct call calls[] = {
@@ -443,4 +489,50 @@ static const struct call calls[] = {
     {"des_open_salted", call_des_open_salted, 27000, 1, 0, 0},
     {"tdes_ede2_open_salted", call_tdes_ede2_open_salted, 27000, 1, 0, 0},
     {"tdes_ede3_open_salted", call_tdes_ede3_open_salted, 27000, 1, 0, 0},
+    {"des_size", call_des_size, 6000, 0, 0, 0},
+    {"tdes_ede2_size", call_tdes_ede2_size, 6000, 0, 0, 0},
+    {"tdes_ede3_size", call_tdes_ede3_size, 6000, 0, 0, 0},
+    {"cbc_mac_des_size", call_cbc_mac_des_size, 6000, 0, 0, 0},
+    {"cbc_mac_tdes_ede2_size", call_cbc_mac_tdes_ede2_size, 6000, 0, 0, 0},
+    {"cbc_mac_tdes_ede3_size", call_cbc_mac_tdes_ede3_size, 6000, 0, 0, 0},
+    {"retail_mac_des_size", call_retail_mac_des_size, 6000, 0, 0, 0},
+    {"cmac_tdes_ede2_size", call_cmac_tdes_ede2_size, 6000, 0, 0, 0},
+    {"cmac_tdes_ede3_size", call_cmac_tdes_ede3_size, 6000, 0, 0, 0},
+    {"message_size", call_message_size, 6000, 0, 0, 0},
+    {"dukpt_terminal_size", call_dukpt_terminal_size, 6000, 0, 0, 0},
+    {"pin_translation_size", call_pin_translation_size, 6000, 0, 0, 0},
+    {"decimal_table_size", call_decimal_table_size, 6000, 0, 0, 0},
+    {"key_block_fields_size", call_key_block_fields_size, 27000, 0, 0, 0},
+    {"key_block_parts_size", call_key_block_parts_size, 27000, 0, 0, 0},
+    {"version_major", call_version_major, 6000, 0, 0, 0},
+    {"version_minor", call_version_minor, 6000, 0, 0, 0},
+    {"version_patch", call_version_patch, 6000, 0, 0, 0},
+    {"block_size", call_block_size, 6000, 0, 0, 0},
+    {"tag_size", call_tag_size, 6000, 0, 0, 0},
+    {"des_key_size", call_des_key_size, 6000, 0, 0, 0},
+    {"tdes_ede2_key_size", call_tdes_ede2_key_size, 6000, 0, 0, 0},
+    {"tdes_ede3_key_size", call_tdes_ede3_key_size, 6000, 0, 0, 0},
+    {"cbc_mac_des_key_size", call_cbc_mac_des_key_size, 6000, 0, 0, 0},
+    {"cbc_mac_tdes_ede2_key_size", call_cbc_mac_tdes_ede2_key_size, 6000, 0, 0, 0},
+    {"cbc_mac_tdes_ede3_key_size", call_cbc_mac_tdes_ede3_key_size, 6000, 0, 0, 0},
+    {"retail_mac_des_key_size", call_retail_mac_des_key_size, 6000, 0, 0, 0},
+    {"cmac_tdes_ede2_key_size", call_cmac_tdes_ede2_key_size, 6000, 0, 0, 0},
+    {"cmac_tdes_ede3_key_size", call_cmac_tdes_ede3_key_size, 6000, 0, 0, 0},
+    {"check_value_size", call_check_value_size, 6000, 0, 0, 0},
+    {"short_check_value_size", call_short_check_value_size, 6000, 0, 0, 0},
+    {"dukpt_key_size", call_dukpt_key_size, 6000, 0, 0, 0},
+    {"dukpt_serial_size", call_dukpt_serial_size, 6000, 0, 0, 0},
+    {"fill_size", call_fill_size, 6000, 0, 0, 0},
+    {"pin_size", call_pin_size, 6000, 0, 0, 0},
+    {"cvv_size", call_cvv_size, 6000, 0, 0, 0},
+    {"pvv_size", call_pvv_size, 6000, 0, 0, 0},
+    {"key_data_size", call_key_data_size, 6000, 0, 0, 0},
+    {"key_block_size", call_key_block_size, 27000, 0, 0, 0},
+    {"pkcs7", call_pkcs7, 6000, 0, 0, 0},
+    {"iso7816", call_iso7816, 6000, 0, 0, 0},
+    {"md5", call_md5, 6000, 0, 0, 0},
+    {"sha1", call_sha1, 6000, 0, 0, 0},
+    {"sha256", call_sha256, 6000, 0, 0, 0},
+    {"mac_padding_1", call_mac_padding_1, 6000, 0, 0, 0},
+    {"mac_padding_2", call_mac_padding_2, 6000, 0, 0, 0},
 };

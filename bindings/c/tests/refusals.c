@@ -1,6 +1,7 @@
 /* What is refused, and that nothing is changed then: every wrong length from 0 to 33, other padding methods, tags, contexts that no
    init of their type made; every status once, and its sentence; the header's numbers; null pointers where a length is 0. */
 #include "mac_calls.h"
+#include "numbers.h"
 #include <limits.h>
 
 enum { MOST = 33, PAINT = 0x77 };
@@ -510,6 +511,7 @@ static void has_numbers(void) {
   CHECK(sizeof(cukvashe_cmac_tdes_ede2) == 296 && sizeof(cukvashe_cmac_tdes_ede3) == 424);
   CHECK(sizeof(cukvashe_dukpt_terminal) == 346 && sizeof(cukvashe_decimal_table) == 16);
   CHECK(strcmp(cukvashe_version(), CUKVASHE_VERSION) == 0);
+  gives_numbers();
 }
 
 /* All of a buffer, a part of it, nothing, and a long one. */

@@ -62,8 +62,21 @@ a `bytearray` you can overwrite.
 
 from __future__ import annotations
 
+# Calls like those of cukvashe_des.h: made of it by bindings/describe.
+from ._cards import (
+    cvv,
+    emv_application_cryptogram,
+    emv_application_key,
+    emv_card_key,
+    emv_card_key_b,
+    emv_response_1,
+    emv_response_2,
+    emv_session_key,
+)
+# This ends what bindings/describe made.
 from ._ciphers import Cipher, Des, TdesEde2, TdesEde3
 from ._data import BLOCK_SIZE
+# The errors: made by bindings/describe.
 from ._faults import (
     AccountDigitError,
     AccountLengthError,
@@ -114,15 +127,7 @@ from ._faults import (
     WeakKeyError,
     WrongPinError,
 )
-from ._emv import (
-    emv_application_cryptogram,
-    emv_application_key,
-    emv_card_key,
-    emv_card_key_b,
-    emv_response_1,
-    emv_response_2,
-    emv_session_key,
-)
+# This ends what bindings/describe made.
 from ._key_blocks import (
     KeyBlockHeader,
     key_block_context,
@@ -165,7 +170,6 @@ from ._macs import TAG_SIZE, CbcMacDes, CbcMacTdesEde2, CbcMacTdesEde3, CmacTdes
 from ._padding import pad, unpad
 from ._passwords import bytes_to_key, open_salted, pbkdf2
 from ._payment import (
-    cvv,
     pin_decode_0,
     pin_decode_1,
     pin_decode_2,
@@ -182,6 +186,7 @@ from ._terminal import DukptTerminal
 from ._verification import DecimalTable, natural_pin, pin_offset, pin_offset_verify, pvv, pvv_verify
 from ._version import __version__
 
+# All that is imported here: made by bindings/describe.
 __all__ = [
     "AccountDigitError", "AccountLengthError", "BLOCK_SIZE", "BlockLengthError", "CbcMacDes", "CbcMacTdesEde2", "CbcMacTdesEde3",
     "Cipher", "ClosedError", "CmacTdesEde2", "CmacTdesEde3", "CountMismatchError", "DataLengthError", "DecimalTable", "Des",
@@ -204,6 +209,7 @@ __all__ = [
     "pin_translate_to_3", "pvv", "pvv_verify", "short_key_check_value", "unpad", "unwrap_key_block", "with_odd_parity",
     "wrap_key_block", "wrong_tags",
 ]
+# This ends what bindings/describe made.
 
 # Texts of errors and of `help` name the package, and not the file that defines a class.
 for _name in __all__:

@@ -16,24 +16,8 @@ class VerificationError(Error):
     it."""
 
 
-class KeyLengthError(Error, ValueError):
-    """A key has a length that no key of the cipher has."""
-
-
-class BlockLengthError(Error, ValueError):
-    """Data are not whole blocks of 8 bytes."""
-
-
 class VectorLengthError(Error, ValueError):
     """An initialization vector does not have 8 bytes."""
-
-
-class PaddingMethodError(Error, ValueError):
-    """There is no padding method of this name or number."""
-
-
-class PaddingMismatchError(Error, ValueError):
-    """Data do not end with the padding."""
 
 
 class SerialLengthError(Error, ValueError):
@@ -48,160 +32,177 @@ class StateLengthError(Error, ValueError):
     """The state of a terminal does not have 346 bytes."""
 
 
-class CountMismatchError(Error, ValueError):
-    """Numbers of elements do not agree: lists differ in length, or counts or lengths do not add up to what is given."""
-
-
 class WeakKeyError(Error, ValueError):
     """The weak key test refuses a key."""
-
-
-class TagMismatchError(VerificationError):
-    """A tag is not that of the message, or does not have a length that the call takes."""
 
 
 class ClosedError(Error, ValueError):
     """The cipher, MAC or terminal was closed, so that its key is gone."""
 
 
-class FormatError(Error, ValueError):
-    """The first digit of a PIN block is not that of the format."""
-
-
-class PinLengthError(Error, ValueError):
-    """A PIN does not have 4 to 12 digits, or the second digit of a PIN block is not the length of such a PIN."""
-
-
-class PinDigitError(Error, ValueError):
-    """A character of a PIN is not a digit, or a digit of the PIN of a PIN block is above 9."""
-
-
-class AccountLengthError(Error, ValueError):
-    """An account number has fewer digits than the call takes, or more than 19."""
-
-
-class AccountDigitError(Error, ValueError):
-    """A character of an account number is not a digit."""
-
-
-class FillError(Error, ValueError):
-    """A fill digit of a PIN block is none of those of the format."""
-
-
 class FillLengthError(Error, ValueError):
     """There are not ten fill digits."""
 
 
+# The errors of the statuses of cukvashe_des.h, with the sentence of each: made of it by bindings/describe.
+class KeyLengthError(Error, ValueError):
+    """The key does not have a length that the call takes."""
+
+
+class BlockLengthError(Error, ValueError):
+    """The length is not a multiple of 8 bytes."""
+
+
+class PaddingMethodError(Error, ValueError):
+    """The padding method is not one that the call takes."""
+
+
+class TagMismatchError(VerificationError):
+    """The tag is not that of the message."""
+
+
+class FormatError(Error, ValueError):
+    """The first digit of the PIN block is not that of the format."""
+
+
+class PinLengthError(Error, ValueError):
+    """The PIN does not have 4 to 12 digits."""
+
+
+class PinDigitError(Error, ValueError):
+    """A character of the PIN is not a digit."""
+
+
+class AccountLengthError(Error, ValueError):
+    """The account number does not have 8 to 19 digits, for a PVV or a CVV 12 to 19."""
+
+
+class AccountDigitError(Error, ValueError):
+    """A character of the account number is not a digit."""
+
+
+class FillError(Error, ValueError):
+    """A fill digit is not one that the format allows."""
+
+
 class ExpiryLengthError(Error, ValueError):
-    """An expiry date does not have four digits."""
+    """The expiry date does not have four digits."""
 
 
 class ExpiryDigitError(Error, ValueError):
-    """A character of an expiry date is not a digit."""
+    """A character of the expiry date is not a digit."""
 
 
 class ServiceLengthError(Error, ValueError):
-    """A service code does not have three digits."""
+    """The service code does not have three digits."""
 
 
 class ServiceDigitError(Error, ValueError):
-    """A character of a service code is not a digit."""
+    """A character of the service code is not a digit."""
+
+
+class PaddingMismatchError(Error, ValueError):
+    """The data do not end with the padding."""
+
+
+class CountMismatchError(Error, ValueError):
+    """The numbers of elements do not agree: a count, or a sum of counts, and a length."""
 
 
 class KeyIndexError(Error, ValueError):
-    """The index of a key pair is none of 1 to 6."""
+    """The index of the key pair is not 1 to 6."""
 
 
 class TableLengthError(Error, ValueError):
-    """A decimalization table does not have sixteen digits."""
+    """The decimalization table does not have sixteen digits."""
 
 
 class TableDigitError(Error, ValueError):
-    """A character of a decimalization table is not a digit."""
+    """A character of the decimalization table is not a digit."""
 
 
 class TableVarietyError(Error, ValueError):
-    """A decimalization table has fewer than eight different digits."""
+    """The decimalization table has fewer than eight different digits."""
 
 
 class WrongPinError(VerificationError):
-    """A PIN is wrong."""
+    """The PIN is wrong."""
 
 
 class FormatsError(Error, ValueError):
-    """There is no translation of PIN blocks from this format."""
+    """There is no translation of PIN blocks from this format, only from 0, 1 and 3."""
 
 
 class PinBlockError(Error, ValueError):
-    """Decrypted, a PIN block is not one of its format and account number."""
+    """Decrypted, the PIN block is not one of its format and account number."""
 
 
 class SequenceLengthError(Error, ValueError):
-    """The sequence number of a card does not have two digits."""
+    """The sequence number does not have two digits."""
 
 
 class SequenceDigitError(Error, ValueError):
-    """A character of the sequence number of a card is not a digit."""
+    """A character of the sequence number is not a digit."""
 
 
 class DataLengthError(Error, ValueError):
-    """Data of a card cryptogram do not have the number of bytes that the call takes."""
+    """The issuer's data have more than 8 bytes."""
 
 
 class ProtectionKeyLengthError(Error, ValueError):
-    """A protection key of key blocks does not have 16 or 24 bytes."""
+    """The protection key does not have 16 or 24 bytes."""
 
 
 class KeyBlockLengthError(Error, ValueError):
-    """A key block has another length than its header says, or more characters than a key block can have."""
+    """The key block is not as long as its header says, longer than 9999 characters, or too long for its buffer."""
 
 
 class KeyBlockVersionError(Error, ValueError):
-    """The version of a key block is none of A, B and C, or one is to be made of another than B and C."""
+    """The version of the key block is not one that the call takes."""
 
 
 class KeyBlockFieldError(Error, ValueError):
-    """The header of a key block does not end with two digits, a context of 0 to 2 and 0, or a field to be written is not as many
-    letters and digits as it has."""
+    """The header does not end with two digits, 0, 1 or 2, and 0, or a field to be written is not letters and digits."""
 
 
 class OptionalBlockError(Error, ValueError):
-    """The optional blocks of a key block can't be read, or do not end at a multiple of eight characters; or those of a block that
-    is to be made have a name that is not two letters or digits or a content that is not printable ASCII, are more than 99, or one
-    is a PB that is not the last, or does not end at a multiple of eight characters."""
+    """The optional blocks can't be read or written: a wrong length, name, content or PB, an end off a multiple of eight, or more
+    than 99."""
 
 
 class KeyDataLengthError(Error, ValueError):
-    """The encrypted key of a key block does not have a length that it can have."""
+    """The encrypted key data do not have a length that they can have."""
 
 
 class KeyBlockDigitError(Error, ValueError):
-    """A character of the encrypted key of a key block, or of its MAC, is none of 0 to 9 and A to F."""
+    """A character of the encrypted key data or the MAC is not 0 to 9 or A to F."""
 
 
 class KeyBlockMacError(VerificationError):
-    """The MAC is not that of a key block: the block was changed, or is under another protection key."""
+    """The MAC is not that of the key block."""
 
 
 class PaddingLengthError(Error, ValueError):
-    """The padding of the key of a key block does not have a length that it can have."""
+    """The padding of the key does not have 6, 14 or 22 bytes, or has more than 30 with the key."""
 
 
 class HashNameError(Error, ValueError):
-    """There is no hash function of this name that the call takes."""
+    """The hash function is not one that the call takes."""
 
 
 class IterationCountError(Error, ValueError):
-    """There is no iteration, or there are more than PBKDF2 counts."""
+    """The number of iterations is not 1 to 2^32 - 1."""
 
 
 class NotSaltedError(Error, ValueError):
-    """Data do not begin with Salted__."""
+    """The bytes do not begin with Salted__."""
 
 
 class SaltLengthError(Error, ValueError):
-    """Data end within the salt, or the salt of bytes_to_key does not have 0 or 8 bytes."""
+    """The bytes end within the salt, or it does not have 0 or 8 bytes."""
 
+
+# This ends what bindings/describe made.
 
 _FAULTS: Dict[int, Type[Error]] = {status: globals()[name] for status, name in _statuses.ERRORS.items()}
 

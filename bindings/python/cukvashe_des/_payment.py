@@ -1,4 +1,4 @@
-"""PIN blocks (ISO 9564-1), their translation, and card verification values."""
+"""PIN blocks (ISO 9564-1), and their translation."""
 
 from __future__ import annotations
 
@@ -13,7 +13,6 @@ from ._library import function
 from ._types import ReadableBuffer, Text
 
 _PIN_SIZE = 13
-_CVV_SIZE = 4
 
 _encode_0 = function("pin_encode_0")
 _encode_1 = function("pin_encode_1")
@@ -26,7 +25,6 @@ _decode_3 = function("pin_decode_3")
 _to_0 = function("pin_translate_to_0")
 _to_1 = function("pin_translate_to_1")
 _to_3 = function("pin_translate_to_3")
-_cvv = function("cvv")
 
 
 def _translation(
@@ -153,13 +151,3 @@ def pin_translate_to_3(
     with key_of(incoming_key, *KEY_SIZES) as held, key_of(outgoing_key, *KEY_SIZES) as other:
         with text_of(account) as of, block_of(block) as given:
             return _encoded(_to_3, _translation(held, number, other, of, digits), given)
-
-
-def cvv(key: ReadableBuffer, account: Text, expiry: Text, service: Text) -> str:
-    """The card verification value (CVV), three digits, under a key pair of 16 bytes, of an account number of 12 to 19 digits, an expiry
-    date of four and a service code of three, as str or bytes of digits. KeyLengthError, AccountLengthError, AccountDigitError,
-    ExpiryLengthError, ExpiryDigitError, ServiceLengthError, ServiceDigitError."""
-    value = room(_CVV_SIZE)
-    with key_of(key, 16) as held, text_of(account) as number, text_of(expiry) as date, text_of(service) as code:
-        check(_cvv(held, *number, *date, *code, value))
-    return text_from(value)

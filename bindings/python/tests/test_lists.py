@@ -192,10 +192,6 @@ class Tags(unittest.TestCase):
         tags = cukvashe_des.macs_each(RetailMacDes, keys, 2, lengths, text)
         self.assertEqual(cukvashe_des.wrong_tags(tags[:16] + bytes(8), tags), [2])
 
-    def test_refused(self):
-        for tags, expected in ((8, 0), (0, 8), (8, 16), (8, 7), (7, 8), (7, 7), (4, 4), (12, 12)):
-            self.assertRaises(CountMismatchError, cukvashe_des.wrong_tags, bytes(tags), bytes(expected))
-
 
 def views_of_list(value, size):
     """Elements of a size as data of other kinds: in one piece or not, in rows, in rows of rows, in big-endian words."""
@@ -381,24 +377,6 @@ class Kinds(unittest.TestCase):
 
 
 class Refused(unittest.TestCase):
-    def test_lengths(self):
-        for length in range(34):
-            for kind in ANSWERS:
-                size, data = kind.key_size, some(length)
-                if length % size:
-                    self.assertRaises(KeyLengthError, encrypt_each, kind, data, TEXT)
-                    self.assertRaises(KeyLengthError, check_values, kind, data)
-                elif length // size != 3:
-                    self.assertRaises(CountMismatchError, decrypt_each, kind, data, TEXT)
-                if length % 8:
-                    self.assertRaises(BlockLengthError, encrypt_each, kind, KEY[:size], data)
-                elif length != 8:
-                    self.assertRaises(CountMismatchError, decrypt_each, kind, KEY[:size], data)
-            if length % 10:
-                self.assertRaises(SerialLengthError, dukpt_transaction_keys_from_base, PAIR, some(length))
-            if length != 16:
-                self.assertRaises(KeyLengthError, dukpt_transaction_keys_from_base, some(length), SERIALS)
-
     def test_stays(self):
         for call in (encrypt_each_into, decrypt_each_into):
             for keys, fault in ((KEY * 2, CountMismatchError), (KEY * 4, CountMismatchError), (KEY[:23], KeyLengthError), (b"", CountMismatchError)):

@@ -7,85 +7,21 @@ import unittest
 import cukvashe_des
 from cukvashe_des import Des, KeyBlockHeader
 
-from .values import ACCOUNT, BLOCK, BLOCK_HEADER, CALLS, IV, KEY, LISTS, MESSAGE, OBJECTS, PADDED_MACS, SALTED, faults_of_package, in_places, opens, to_format_0
+from .values import ACCOUNT, BLOCK, BLOCK_HEADER, CALLS, IV, KEY, LISTS, MESSAGE, OBJECTS, PADDED_MACS, SALTED
+from .values import faults_of_package, in_places, lines_of, opens, to_format_0
 
 
-# Each error and its text, which tells a length, here #, and nothing else that is not the same at every call.
-SENTENCES = {
-    ("AccountDigitError", "a character of the account number is not a digit"),
-    ("AccountLengthError", "the account number does not have 8 to 19 digits, for a PVV or a CVV 12 to 19"),
-    ("BlockLengthError", "# bytes are not whole blocks of 8"),
-    ("BlockLengthError", "a PIN block has 8 bytes, not #"),
-    ("BlockLengthError", "an application cryptogram has 8 bytes, not #"),
-    ("BlockLengthError", "the block of a session has 8 bytes, not #"),
-    ("BlockLengthError", "validation data have 8 bytes, not #"),
+# Each error and its text, which tells a length, here #, and nothing else that is not the same at every call: those of the known calls, and
+# of other ones.
+KNOWN = (re.match("! ([A-Za-z]+) (.*)", line) for line in lines_of("bindings", "known_calls.txt") if line.startswith("!"))
+SENTENCES = {(known[1] + "Error", known[2]) for known in KNOWN} | {
     ("ClosedError", "the object was closed"),
-    ("CountMismatchError", "# bytes are not whole tags of 8"),
-    ("CountMismatchError", "the lengths do not add up to the messages"),
-    ("CountMismatchError", "the numbers of keys and blocks differ"),
     ("CountMismatchError", "the numbers of vectors and counts differ"),
-    ("DataLengthError", "a card status update has 4 bytes, not #"),
-    ("DataLengthError", "a response code has 2 bytes, not #"),
-    ("DataLengthError", "a transaction counter has 2 bytes, not #"),
-    ("DataLengthError", "the issuer's data have more than 8 bytes"),
-    ("ExpiryDigitError", "a character of the expiry date is not a digit"),
-    ("ExpiryLengthError", "the expiry date does not have four digits"),
-    ("FillError", "a fill digit is not one that the format allows"),
-    ("FillLengthError", "there are ten fill digits, not #"),
-    ("FormatError", "the first digit of the PIN block is not that of the format"),
-    ("FormatsError", "there is no translation of PIN blocks from this format, only from 0, 1 and 3"),
-    ("HashNameError", 'a hash function is "md5", "sha1" or "sha256"'),
-    ("HashNameError", 'the hash function is not one that the call takes: for PBKDF2 "sha1" or "sha256"'),
-    ("IterationCountError", "the number of iterations is not 1 to 2^32 - 1"),
-    ("KeyBlockDigitError", "a key block has ASCII characters alone"),
-    ("KeyBlockDigitError", "a character of the encrypted key data or the MAC is not 0 to 9 or A to F"),
-    ("KeyBlockFieldError", "the header does not end with two digits, 0, 1 or 2, and 0, or a field to be written is not letters and digits"),
-    ("KeyBlockFieldError", "the usage and the key's version have two characters, the other fields one"),
-    ("KeyBlockLengthError", "the key block is not as long as its header says, longer than 9999 characters, or too long for its buffer"),
     ("KeyBlockLengthError", "a key block has at most 9999 characters"),
-    ("KeyBlockMacError", "the MAC is not that of the key block"),
-    ("KeyBlockVersionError", "a key block is made of version B or C"),
-    ("KeyBlockVersionError", "the version of the key block is not one that the call takes: A, B or C to read, B or C to make"),
-    ("KeyDataLengthError", "the encrypted key data do not have a length that they can have"),
-    ("KeyIndexError", "the index of the key pair is not 1 to 6"),
-    ("KeyLengthError", "a key has 8 bytes, not #"),
-    ("KeyLengthError", "a key has 16 bytes, not #"),
-    ("KeyLengthError", "a key has 24 bytes, not #"),
-    ("KeyLengthError", "a key has 8 or 16 or 24 bytes, not #"),
-    ("KeyLengthError", "# bytes are not whole keys of 8"),
-    ("KeyLengthError", "# bytes are not whole keys of 16"),
-    ("KeyLengthError", "# bytes are not whole keys of 24"),
-    ("KeyLengthError", "the key does not have a length that the call takes: 8, 16 or 24 bytes"),
-    ("KeyLengthError", "a key that is derived has one byte at least, and less than 2^32"),
     ("NoSerialError", "the terminal has no key for a next transaction"),
-    ("NotSaltedError", "the bytes do not begin with Salted__"),
-    ("OptionalBlockError", "the name of an optional block has two characters, letters or digits"),
-    ("OptionalBlockError", "the optional blocks can't be read or written: a wrong length, name, content or PB, an end off a multiple of eight, or more than 99"),
-    ("PaddingLengthError", "the padding of the key does not have 6, 14 or 22 bytes, or has more than 30 with the key"),
-    ("PaddingMethodError", "the padding method is not one that the call takes: 1 or 2"),
-    ("PaddingMethodError", 'padding is by "pkcs7" or "iso7816"'),
-    ("PaddingMismatchError", "the data do not end with the padding"),
-    ("PinBlockError", "decrypted, the PIN block is not one of its format and account number"),
-    ("PinDigitError", "a character of the PIN is not a digit"),
-    ("PinLengthError", "the PIN does not have 4 to 12 digits"),
-    ("ProtectionKeyLengthError", "the protection key does not have 16 or 24 bytes"),
-    ("SaltLengthError", "the bytes end within the salt, or it does not have 0 or 8 bytes"),
-    ("SaltLengthError", "the salt of bytes_to_key has 0 or 8 bytes, not #"),
-    ("SequenceDigitError", "a character of the sequence number is not a digit"),
-    ("SequenceLengthError", "the sequence number does not have two digits"),
-    ("SerialLengthError", "a key serial number has 10 bytes, not #"),
-    ("SerialLengthError", "# bytes are not whole key serial numbers of 10"),
-    ("ServiceDigitError", "a character of the service code is not a digit"),
-    ("ServiceLengthError", "the service code does not have three digits"),
-    ("StateLengthError", "the state of a terminal has 346 bytes, not #"),
-    ("TableDigitError", "a character of the decimalization table is not a digit"),
-    ("TableLengthError", "the decimalization table does not have sixteen digits"),
-    ("TableVarietyError", "the decimalization table has fewer than eight different digits"),
     ("TagMismatchError", "the tag is not that of the message"),
     ("VectorLengthError", "# bytes are not whole vectors of 8"),
     ("VectorLengthError", "an initialization vector has 8 bytes, not #"),
-    ("WeakKeyError", "the weak key test refuses the key that the components make"),
-    ("WrongPinError", "the PIN is wrong"),
 }
 
 # What no text hides, since all have it.
@@ -203,7 +139,7 @@ class Texts(unittest.TestCase):
         for cut in (7, 15):
             names |= self.faults(opens, KEY, SALTED[:cut])
         self.assertEqual(names, {fault.__name__ for fault in faults_of_package()} | {"TypeError"})
-        self.assertEqual(self.sentences, SENTENCES)
+        self.assertLessEqual(self.sentences, SENTENCES)
 
     def test_method(self):
         """A key, or a message, in the place of the padding method."""

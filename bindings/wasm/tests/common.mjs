@@ -43,3 +43,24 @@ export async function exportsOf(changed = (exports) => exports) {
   }
   return exports;
 }
+
+// What a text of an error is made of: few characters, and no value.
+export const TEXT = /^[a-z0-9":,(){}^'_ .%-]+$/i;
+
+let faults = 0;
+
+/** How many errors were seen. */
+export const countOfFaults = () => faults;
+
+/** A call throws this error, whose text is one of few words, and shows nothing that was given. */
+export function throwsFault(run, name, text) {
+  assert.throws(run, (error) => {
+    assert.equal(error.name, name, `${error}`);
+    assert(error instanceof library[name] && error instanceof library.CukvasheError && error instanceof Error);
+    assert.equal(library[name].name, name);
+    if (text !== undefined) assert.equal(error.message, text);
+    assert.match(error.message, TEXT);
+    return true;
+  });
+  faults += 1;
+}

@@ -4,24 +4,11 @@ import assert from "node:assert/strict";
 import { spawnSync } from "node:child_process";
 import { readFileSync } from "node:fs";
 import { runInNewContext } from "node:vm";
-import { exportsOf, folder, hex, is, library, moduleFile, unhex } from "./common.mjs";
+import { TEXT, countOfFaults, exportsOf, folder, hex, is, library, moduleFile, throwsFault, unhex } from "./common.mjs";
 import { ACCOUNT, BLOCK, FILL, IV, KEY, KEYS, MESSAGE, ONE, OTHER, PAIR, PROTECTION } from "./calls.mjs";
-import { SALTED, SECRET, SENT, SERIAL, TEXT, allCalls, isNumbers } from "./calls.mjs";
+import { SALTED, SECRET, SENT, SERIAL, allCalls, isNumbers } from "./calls.mjs";
 
-let faults = 0;
-
-/** A call throws this error, whose text is one of few words, and shows nothing that was given. */
-function throwsFault(run, name, text) {
-  assert.throws(run, (error) => {
-    assert.equal(error.name, name, `${error}`);
-    assert(error instanceof library[name] && error instanceof library.CukvasheError && error instanceof Error);
-    assert.equal(library[name].name, name);
-    if (text !== undefined) assert.equal(error.message, text);
-    assert.match(error.message, TEXT);
-    return true;
-  });
-  faults += 1;
-}
+let types = 0;
 
 const throwsType = (run, what) => {
   assert.throws(run, (error) => {
@@ -29,7 +16,7 @@ const throwsType = (run, what) => {
     assert.match(error.message, TEXT);
     return true;
   }, what);
-  faults += 1;
+  types += 1;
 };
 
 /** A call that was made otherwise says how it is made. */
@@ -117,11 +104,6 @@ for (const [Cipher, size] of CIPHERS) {
   assert.deepEqual([Cipher.keySize, Cipher.blockSize], [size, 8]);
   const cipher = new Cipher(KEY.subarray(0, size));
   for (const length of LENGTHS) {
-    if (length !== size) {
-      const text = `a key has ${size} bytes, not ${length}`;
-      throwsFault(() => new Cipher(of(length)), "KeyLength", text);
-      throwsFault(() => library.checkValue(Cipher, of(length)), "KeyLength", text);
-    }
     if (length !== 8) {
       const text = `an initialization vector has 8 bytes, not ${length}`;
       for (const call of CBC) throwsFault(() => cipher[call](of(8), { iv: of(length) }), "VectorLength", text);
@@ -130,17 +112,6 @@ for (const [Cipher, size] of CIPHERS) {
       const text = `${length} bytes are not whole blocks of 8`;
       for (const call of ["encryptEcb", "decryptEcb"]) throwsFault(() => cipher[call](of(length)), "BlockLength", text);
       for (const call of CBC) throwsFault(() => cipher[call](of(length), { iv: IV }), "BlockLength", text);
-      for (const call of ["encryptEach", "decryptEach"]) {
-        throwsFault(() => library[call](Cipher, KEY.subarray(0, size), of(length)), "BlockLength", text);
-      }
-    }
-    if (length % size !== 0) {
-      const text = `${length} bytes are not whole keys of ${size}`;
-      throwsFault(() => library.checkValues(Cipher, of(length)), "KeyLength", text);
-      throwsFault(() => library.encryptEach(Cipher, of(length), IV), "KeyLength", text);
-    } else if (length !== size) {
-      const text = "the numbers of keys and blocks differ";
-      throwsFault(() => library.decryptEach(Cipher, of(length), IV), "CountMismatch", text);
     }
   }
   for (const call of ["encryptEcb", "decryptEcb", "encryptCbc", "decryptCbc"]) {
@@ -180,14 +151,9 @@ for (const [Cipher, size] of CIPHERS) {
   }
 }
 
-const METHOD_TEXT = "the padding method is not one that the call takes: 1 or 2";
 for (const [Mac, size] of [...PADDED, ...CMACS]) {
   const padding = PADDED.some(([it]) => it === Mac) ? [2] : [];
   assert.deepEqual([Mac.keySize, Mac.digestSize], [size, 8]);
-  for (const length of LENGTHS.filter((it) => it !== size)) {
-    throwsFault(() => new Mac(of(length), ...padding), "KeyLength", `a key has ${size} bytes, not ${length}`);
-    throwsFault(() => library.macs(Mac, of(length), padding[0] ?? null, [], new Uint8Array()), "KeyLength");
-  }
   const key = KEY.subarray(0, size);
   const mac = new Mac(key, ...padding, MESSAGE);
   for (const length of LENGTHS) {
@@ -201,11 +167,7 @@ for (const [Mac, size] of [...PADDED, ...CMACS]) {
   throwsType(() => mac.digest(8), "a length in the place of an encoding");
   const method = padding[0] ?? null;
   const many = (lengths, messages) => library.macs(Mac, key, method, lengths, messages);
-  throwsFault(() => many([23], MESSAGE), "CountMismatch", "the lengths do not add up to the messages");
   throwsFault(() => many([25, -1], MESSAGE), "CountMismatch");
-  const each = (keys, lengths) => library.macsEach(Mac, keys, method, lengths, MESSAGE);
-  throwsFault(() => each(key, [12, 12]), "CountMismatch", "the numbers of keys and messages differ");
-  throwsFault(() => each(of(size + 1), [24]), "KeyLength", `${size + 1} bytes are not whole keys of ${size}`);
   is(many([], new Uint8Array()), "");
   if (method === null) {
     throwsType(() => new Mac(key, 2), "CMAC with a padding method");
@@ -213,9 +175,9 @@ for (const [Mac, size] of [...PADDED, ...CMACS]) {
       throwsType(() => library.macs(Mac, key, wrong, [24], MESSAGE), "CMAC with a padding method");
     }
   } else {
-    for (const wrong of [0, 3, -1, 1.5, NaN, 2 ** 32 + 1]) {
-      throwsFault(() => new Mac(key, wrong), "PaddingMethod", METHOD_TEXT);
-      throwsFault(() => library.macs(Mac, key, wrong, [24], MESSAGE), "PaddingMethod", METHOD_TEXT);
+    for (const wrong of [0, 3, 1.5, NaN]) {
+      throwsFault(() => new Mac(key, wrong), "PaddingMethod");
+      throwsFault(() => library.macs(Mac, key, wrong, [24], MESSAGE), "PaddingMethod");
     }
     for (const wrong of [undefined, null, "2", true, 2n, MESSAGE]) {
       throwsType(() => new Mac(key, wrong), "a padding method");
@@ -240,261 +202,37 @@ for (const [Cipher, size] of CIPHERS) {
   throwsFault(() => library.encryptCbcRecords(cipher, IV, { vectors: IV, counts: [1] }), "Closed", "the object was closed");
 }
 
-throwsFault(() => library.wrongTags(of(7), of(8)), "CountMismatch", "7 bytes are not whole tags of 8");
-throwsFault(() => library.wrongTags(of(16), of(8)), "CountMismatch", "the numbers of tags and expected tags differ");
-for (const method of ["pkcs5", "PKCS7", "", "zeros"]) {
-  throwsFault(() => library.pad(IV, method), "PaddingMethod", 'padding is by "pkcs7" or "iso7816"');
-  throwsFault(() => library.unpad(IV, method), "PaddingMethod", 'padding is by "pkcs7" or "iso7816"');
-}
-throwsFault(() => library.unpad(of(9), "pkcs7"), "BlockLength", "9 bytes are not whole blocks of 8");
-for (const wrong of ["", "0000000000000000", "0000000000000009", "0707070707070702"]) {
-  throwsFault(() => library.unpad(unhex(wrong), "pkcs7"), "PaddingMismatch", "the data do not end with the padding");
-}
-for (const wrong of ["", "0000000000000000", "8000000000000001"]) {
-  throwsFault(() => library.unpad(unhex(wrong), "iso7816"), "PaddingMismatch", "the data do not end with the padding");
-}
+// ---- Numbers that are whole in no integer of the module, and what the calls of bindings/known_calls.txt can't say
 
-for (const length of LENGTHS) {
-  if (![8, 16, 24].includes(length)) {
-    const text = `a key has 8 or 16 or 24 bytes, not ${length}`;
-    for (const call of ["isWeakKey", "withOddParity"]) throwsFault(() => library[call](of(length)), "KeyLength", text);
-    for (const call of ["equalButParity", "combine"]) {
-      throwsFault(() => library[call](of(length), of(length)), "KeyLength", text);
-    }
-  }
-  if (length !== 16) {
-    const calls = [
-      ...[library.dukptPinKey, library.dukptMacKey, library.dukptDataKey],
-      (key) => library.dukptInitialKey(key, SERIAL),
-      (key) => library.dukptTransactionKey(key, SERIAL),
-      (key) => library.dukptTransactionKeysFromBase(key, SERIAL),
-      (key) => library.cvv(key, ACCOUNT, "8701", "101"),
-      (key) => library.equalButParity(PAIR, key),
-      (key) => library.combine(PAIR, PAIR, key),
-    ];
-    for (const call of calls) throwsFault(() => call(of(length)), "KeyLength", `a key has 16 bytes, not ${length}`);
-  }
-  if (length !== 10) {
-    for (const call of [library.dukptIsUsable, library.dukptNextSerial, (serial) => library.dukptInitialKey(PAIR, serial),
-      (serial) => library.dukptTransactionKey(PAIR, serial)]) {
-      throwsFault(() => call(of(length)), "SerialLength", `a key serial number has 10 bytes, not ${length}`);
-    }
-    for (const call of [(fill) => library.pinEncode1("1234", fill), (fill) => library.pinEncode3("1234", ACCOUNT, fill)]) {
-      throwsFault(() => call(of(length)), "FillLength", `there are ten fill digits, not ${length}`);
-    }
-  }
-  if (length % 10 !== 0) {
-    const text = `${length} bytes are not whole key serial numbers of 10`;
-    throwsFault(() => library.dukptTransactionKeysFromBase(PAIR, of(length)), "SerialLength", text);
-  }
-  if (length !== 8) {
-    for (const [call, ...account] of [["pinDecode0", ACCOUNT], ["pinDecode1"], ["pinDecode3", ACCOUNT]]) {
-      throwsFault(() => library[call](of(length), ...account), "BlockLength", `a PIN block has 8 bytes, not ${length}`);
-    }
-  }
-}
-throwsFault(() => library.combine(PAIR, PAIR), "WeakKey", "the weak key test refuses the key that the components make");
-
-const PINS = {
-  PinLength: ["the PIN does not have 4 to 12 digits", "", "123", "1".repeat(13)],
-  PinDigit: [
-    ...["a character of the PIN is not a digit", "123:", "/234", "1 34", "12\x0034"],
-    ...["123\uff14", "\u0661\u0662\u0663\u0664", "123\u{1f600}"],
-  ],
-};
-for (const [name, [text, ...pins]] of Object.entries(PINS)) {
-  for (const pin of pins) {
-    throwsFault(() => library.pinEncode0(pin, ACCOUNT), name, text);
-    throwsFault(() => library.pinEncode1(pin, FILL), name, text);
-    throwsFault(() => library.pinEncode3(pin, ACCOUNT, FILL), name, text);
-  }
-}
-const ACCOUNTS = {
-  AccountLength: [
-    "the account number does not have 8 to 19 digits, for a PVV or a CVV 12 to 19", "", "4".repeat(7), "4".repeat(20),
-  ],
-  AccountDigit: ["a character of the account number is not a digit", "401234567890:", "4012 3456 78909"],
-};
-for (const [name, [text, ...accounts]] of Object.entries(ACCOUNTS)) {
-  for (const account of accounts) {
-    throwsFault(() => library.pinEncode0("1234", account), name, text);
-    throwsFault(() => library.pinEncode3("1234", account, FILL), name, text);
-    throwsFault(() => library.pinDecode0(IV, account), name, text);
-    throwsFault(() => library.pinDecode3(IV, account), name, text);
-    throwsFault(() => library.cvv(PAIR, account, "8701", "101"), name, text);
-  }
-}
-for (let at = 0; at < 10; at += 1) {
-  const text = "a fill digit is not one that the format allows";
-  throwsFault(() => library.pinEncode1("1234", FILL.with(at, 16)), "Fill", text);
-  for (const digit of [9, 16]) throwsFault(() => library.pinEncode3("1234", ACCOUNT, FILL.with(at, digit)), "Fill", text);
-}
-const BLOCKS = {
-  "141274edcba9876f": "Format",
-  "031274edcba9876f": "PinLength",
-  "0d1274edcba9876f": "PinLength",
-  "04a274edcba9876f": "PinDigit",
-  "041274edcba9876e": "Fill",
-};
-for (const [block, name] of Object.entries(BLOCKS)) throwsFault(() => library.pinDecode0(unhex(block), ACCOUNT), name);
-throwsFault(() => library.pinDecode1(unhex("041234fe09a51234")), "Format", "the first digit of the PIN block is not that of the format");
-throwsFault(() => library.pinDecode3(unhex("341274b9f9b9d359"), ACCOUNT), "Fill");
 const TABLE = new library.DecimalTable("0123456789012345");
-const TABLES = {
-  TableLength: ["the decimalization table does not have sixteen digits", "", "0".repeat(15), "0123456701234567" + "8"],
-  TableDigit: ["a character of the decimalization table is not a digit", "012345678901234:", "\uff10" + "1".repeat(15)],
-  TableVariety: ["the decimalization table has fewer than eight different digits", "0123456001234560", "0".repeat(16)],
-};
-for (const [name, [text, ...texts]] of Object.entries(TABLES)) {
-  for (const digits of texts) {
-    throwsFault(() => new library.DecimalTable(digits), name, text);
-    if (name !== "TableVariety") throwsFault(() => library.DecimalTable.ofAnyVariety(digits), name, text);
-  }
+for (const wrong of [1.5, NaN, 0.5, 2 ** 32 + 1, Infinity]) {
+  throwsFault(() => library.pvv(PAIR, ACCOUNT, wrong, "1234"), "KeyIndex");
+  throwsFault(() => library.pvvVerify(PAIR, ACCOUNT, wrong, "1234", "1894"), "KeyIndex");
+  throwsFault(() => library.naturalPin(PAIR, TABLE, IV, 3 + wrong), "PinLength");
+  throwsFault(() => library.pinTranslateTo0(wrong, "", SENT, KEYS), "Formats");
+  throwsFault(() => library.pinTranslateTo3(wrong, "", FILL, SENT, KEYS), "Formats");
+  throwsFault(() => library.pbkdf2("sha1", SECRET, IV, wrong, 24), "IterationCount");
+  throwsFault(() => library.pbkdf2("sha1", SECRET, IV, 1, wrong), "KeyLength");
+  throwsFault(() => library.bytesToKey("sha1", SECRET, IV, wrong), "KeyLength");
 }
-for (const index of [0, 7, -1, 1.5, NaN, 257, 2 ** 32 + 1]) {
-  throwsFault(() => library.pvv(PAIR, ACCOUNT, index, "1234"), "KeyIndex", "the index of the key pair is not 1 to 6");
-  throwsFault(() => library.pvvVerify(PAIR, ACCOUNT, index, "1234", "1894"), "KeyIndex");
-}
-throwsFault(() => library.pvv(PAIR, "1".repeat(11), 1, "1234"), "AccountLength");
-throwsFault(() => library.pvv(PAIR, ACCOUNT, 1, "123"), "PinLength");
-for (const length of [0, 3, 13, -4, 4.5, 2 ** 32 + 4]) {
-  throwsFault(() => library.naturalPin(PAIR, TABLE, IV, length), "PinLength", "the PIN does not have 4 to 12 digits");
-}
-for (const pin of ["123", "123/"]) {
-  throwsFault(() => library.pinOffset(PAIR, TABLE, IV, pin), pin === "123" ? "PinLength" : "PinDigit");
-  throwsFault(() => library.pinOffsetVerify(PAIR, TABLE, IV, pin, "1234"), pin === "123" ? "PinLength" : "PinDigit");
-}
-throwsFault(() => library.pinOffsetVerify(PAIR, TABLE, IV, "12345", "0000"), "WrongPin", "the PIN is wrong");
-for (const format of [2, 4, -1, 0.5, 2 ** 32, 2 ** 32 + 3]) {
-  const text = "there is no translation of PIN blocks from this format, only from 0, 1 and 3";
-  throwsFault(() => library.pinTranslateTo0(format, "", SENT, KEYS), "Formats", text);
-  throwsFault(() => library.pinTranslateTo3(format, "", FILL, SENT, KEYS), "Formats", text);
-}
-throwsFault(() => library.pinTranslateTo3(0, ACCOUNT, new Uint8Array(10), SENT, KEYS), "Fill");
-for (const block of ["141274edcba9876f", "031274edcba9876f", "041a74edcba9876f", "041274edcba9876e"]) {
-  const sent = new library.TdesEde2(PAIR).encryptEcb(unhex(block));
-  const text = "decrypted, the PIN block is not one of its format and account number";
-  throwsFault(() => library.pinTranslateTo0(0, ACCOUNT, sent, KEYS), "PinBlock", text);
-}
-for (const block of ["041274edcba9876f", "1312340123456789", "1d12340123456789", "141a340123456789"]) {
-  throwsFault(() => library.pinTranslateTo1(new library.TdesEde2(PAIR).encryptEcb(unhex(block)), KEYS), "PinBlock");
-}
-for (const [sequence, name, text] of [["0", "SequenceLength", "the sequence number does not have two digits"], ["0:", "SequenceDigit", "a character of the sequence number is not a digit"]]) {
-  throwsFault(() => library.emvCardKey(PAIR, ACCOUNT, sequence), name, text);
-  throwsFault(() => library.emvCardKeyB(PAIR, ACCOUNT, sequence), name, text);
-}
-for (const length of LENGTHS) {
-  if (![8, 16, 24].includes(length)) {
-    const text = `a key has 8 or 16 or 24 bytes, not ${length}`;
-    for (const call of ["keyCheckValue", "shortKeyCheckValue"]) throwsFault(() => library[call](of(length)), "KeyLength", text);
-    throwsFault(() => library.naturalPin(of(length), TABLE, IV, 4), "KeyLength", text);
-    throwsFault(() => library.pinTranslateTo0(0, ACCOUNT, SENT, { ...KEYS, incomingKey: of(length) }), "KeyLength", text);
-    throwsFault(() => library.pinTranslateTo3(0, ACCOUNT, FILL, SENT, { ...KEYS, outgoingKey: of(length) }), "KeyLength", text);
-    throwsFault(() => library.pinTranslateTo1(ONE, { ...KEYS, incomingKey: of(length) }), "KeyLength", text);
-    throwsFault(() => library.pinTranslateTo1(ONE, { ...KEYS, outgoingKey: of(length) }), "KeyLength", text);
-  }
-  if (length !== 8) {
-    throwsFault(() => library.naturalPin(PAIR, TABLE, of(length), 4), "BlockLength", `validation data have 8 bytes, not ${length}`);
-    throwsFault(() => library.emvSessionKey(PAIR, of(length)), "BlockLength", `the block of a session has 8 bytes, not ${length}`);
-    const text = `an application cryptogram has 8 bytes, not ${length}`;
-    throwsFault(() => library.emvResponse1(PAIR, of(length), of(2)), "BlockLength", text);
-    throwsFault(() => library.emvResponse2(PAIR, of(length), of(4)), "BlockLength", text);
-  }
-  if (length !== 2) {
-    throwsFault(() => library.emvApplicationKey(PAIR, of(length)), "DataLength", `a transaction counter has 2 bytes, not ${length}`);
-    throwsFault(() => library.emvResponse1(PAIR, IV, of(length)), "DataLength", `a response code has 2 bytes, not ${length}`);
-  }
-  if (length !== 4) {
-    const text = `a card status update has 4 bytes, not ${length}`;
-    throwsFault(() => library.emvResponse2(PAIR, IV, of(length)), "DataLength", text);
-  }
-  if (length > 8) {
-    const text = "the issuer's data have more than 8 bytes";
-    throwsFault(() => library.emvResponse2(PAIR, IV, of(4), of(length)), "DataLength", text);
-  }
-  throwsFault(() => library.DukptTerminal.fromState(of(length)), "StateLength", `the state of a terminal has 346 bytes, not ${length}`);
-}
+
 // ---- Key blocks
 
 const HEADER = library.keyBlockHeader(BLOCK);
-const changed = (place, character) => BLOCK.slice(0, place) + character + BLOCK.slice(place + 1);
-const BLOCK_CALLS = [
-  (block) => library.unwrapKeyBlock(PROTECTION, block), library.keyBlockHeader, library.keyBlockContext, library.keyBlockOptionalBlocks,
-];
 const NO_OPTIONAL = "the optional blocks can't be read or written: a wrong length, name, content or PB, an end off a multiple of eight, or more than 99";
-const OF_BLOCKS = {
-  KeyBlockLength: ["the key block is not as long as its header says, longer than 9999 characters, or too long for its buffer", "", `${BLOCK}\n`, BLOCK.slice(1), changed(4, "1")],
-  KeyBlockVersion: ["the version of the key block is not one that the call takes: A, B or C to read, B or C to make", changed(0, "D"), changed(0, "b")],
-  KeyBlockField: ["the header does not end with two digits, 0, 1 or 2, and 0, or a field to be written is not letters and digits", changed(12, "x"), changed(14, "3"), changed(15, "1")],
-  OptionalBlock: [NO_OPTIONAL, changed(13, "1")],
-  KeyDataLength: ["the encrypted key data do not have a length that they can have", changed(0, "A"), changed(0, "C")],
-};
-for (const [name, [text, ...blocks]] of Object.entries(OF_BLOCKS)) {
-  for (const form of blocks.flatMap((block) => [block, Buffer.from(block)])) {
-    for (const call of BLOCK_CALLS) throwsFault(() => call(form), name, text);
-  }
-}
-for (const block of [changed(79, "\uff15"), changed(5, "\u00e9"), changed(0, "\u{1f600}")]) {
-  for (const call of BLOCK_CALLS) throwsFault(() => call(block), "KeyBlockDigit", "a key block has ASCII characters alone");
-}
-for (const block of [changed(16, "a"), changed(79, "G")]) {
-  const text = "a character of the encrypted key data or the MAC is not 0 to 9 or A to F";
-  throwsFault(() => library.unwrapKeyBlock(PROTECTION, block), "KeyBlockDigit", text);
-}
-for (const block of [changed(5, "K"), changed(14, "1"), changed(63, "0"), changed(79, "F")]) {
-  throwsFault(() => library.unwrapKeyBlock(PROTECTION, block), "KeyBlockMac", "the MAC is not that of the key block");
-}
-// Authenticated by the `cryptography` package for Python: the key data say a length of no key.
-throwsFault(() => library.unwrapKeyBlock(PROTECTION,
-  "B0080P0TE00E000046AD3EFD0DCF51A1FFDD4D468C4DC235EC217D6B8557FF68335F3126A5C1C8B5"), "KeyLength", "the key does not have a length that the call takes: 8, 16 or 24 bytes");
 const wraps = (header, key = PAIR, options = {}) => library.wrapKeyBlock(PROTECTION, { ...HEADER, ...header }, key, options);
-for (const length of LENGTHS) {
-  if (![16, 24].includes(length)) {
-    const text = "the protection key does not have 16 or 24 bytes";
-    throwsFault(() => library.unwrapKeyBlock(of(length), BLOCK), "ProtectionKeyLength", text);
-    throwsFault(() => library.wrapKeyBlock(of(length), HEADER, PAIR), "ProtectionKeyLength", text);
-  }
-  if (![8, 16, 24].includes(length)) throwsFault(() => wraps({}, of(length)), "KeyLength", "the key does not have a length that the call takes: 8, 16 or 24 bytes");
-  if (![6, 14].includes(length)) {
-    const text = "the padding of the key does not have 6, 14 or 22 bytes, or has more than 30 with the key";
-    throwsFault(() => wraps({}, PAIR, { padding: of(length) }), "PaddingLength", text);
-  }
-}
-for (const version of ["A", "D", "b", "", "BB", "\u{1f600}"]) throwsFault(() => wraps({ version }), "KeyBlockVersion");
-const FIELDS = { usage: ["P", "P00", "", "P ", "P\0", "P\u00e9"], algorithm: ["", "TT", "-"], mode: ["\uff25", "EE"],
-  keyVersion: ["0", "000", "\0\0"], exportability: [" ", "", "\u{1f600}"] };
-for (const [name, texts] of Object.entries(FIELDS)) {
-  for (const text of texts) throwsFault(() => wraps({ [name]: text }), "KeyBlockField");
+throwsFault(() => wraps({ version: "\u{1f600}" }), "KeyBlockVersion");
+for (const name of ["usage", "algorithm", "mode", "keyVersion", "exportability"]) {
+  for (const text of ["P\u00e9", "\u{1f600}", "\uff25"]) throwsFault(() => wraps({ [name]: text }), "KeyBlockField");
   for (const wrong of [undefined, null, 0, 5n, unhex("5030")]) throwsType(() => wraps({ [name]: wrong }), name);
 }
-for (const name of ["", "K", "KSX"]) {
-  const text = "the name of an optional block has two characters, letters or digits";
-  throwsFault(() => wraps({}, PAIR, { optional: [[name, ""]] }), "OptionalBlock", text);
-}
-for (const name of ["K\u00e9", "\u{1f600}", "K-", " S", "K\n", "\0S"]) {
+for (const name of ["K\u00e9", "\u{1f600}"]) {
   throwsFault(() => wraps({}, PAIR, { optional: [[name, "0123"]] }), "OptionalBlock", NO_OPTIONAL);
 }
 throwsFault(() => wraps({}, PAIR, { optional: Array(100).fill(["KS", ""]) }), "OptionalBlock");
-// A PB that does not fill, or is not the last; one that does, and names that are alike, are taken.
-for (const optional of [[["PB", "00"]], [["PB", ""]], [["KV", "ABCDEF"], ["PB", "000"]], [["PB", "0000"], ["KS", "0123"]], [["PB", ""], ["KS", ""]]]) {
-  throwsFault(() => wraps({}, PAIR, { optional }), "OptionalBlock", NO_OPTIONAL);
-}
-for (const optional of [[["KV", "ABCDEF"], ["PB", "00"]], [["PB", "0000"]]]) {
+// A PB that fills, and names that are alike.
+for (const optional of [[["KV", "ABCDEF"], ["PB", "00"]], ...["PB", "pb", "Pb", "BP", "P0"].map((name) => [[name, "0000"]])]) {
   assert.deepEqual(library.keyBlockOptionalBlocks(wraps({}, PAIR, { optional })), optional);
-}
-for (const name of ["pb", "Pb", "BP", "P0"]) {
-  assert.deepEqual(library.keyBlockOptionalBlocks(wraps({}, PAIR, { optional: [[name, "0123"]] })), [[name, "0123"]]);
-}
-const CODES = Array.from({ length: 256 }, (_, code) => code);
-for (const character of [...CODES.map((code) => String.fromCharCode(code)), "\uff10", "\u{1f600}"]) {
-  const optional = [["KS", `01${character}3`]];
-  if (character >= " " && character <= "~") {
-    assert.deepEqual(library.keyBlockOptionalBlocks(wraps({}, PAIR, { optional })), optional);
-  } else {
-    for (const content of [`01${character}3`, character, `0123${character}`]) {
-      throwsFault(() => wraps({}, PAIR, { optional: [["KV", ""], ["KS", content]] }), "OptionalBlock", NO_OPTIONAL);
-    }
-  }
 }
 for (const length of [9900, 10001, 70000]) {
   throwsFault(() => wraps({}, PAIR, { optional: [["CT", "x".repeat(length)]] }), "KeyBlockLength");
@@ -504,43 +242,7 @@ for (const optional of ["KS04", ["KS"], [["KS"]], [["KS", "", ""]], [["KS", unhe
 }
 for (const wrong of [null, "1c2965473ce2", 6, [1, 2, 3, 4, 5, 6]]) throwsType(() => wraps({}, PAIR, { padding: wrong }), "padding");
 
-// ---- Keys from passwords
-
 const opens = (data, options = {}) => library.openSalted(library.TdesEde3, SECRET, data, options);
-is(opens(SALTED), hex(Buffer.from("Now is the time for all good men")));
-for (let cut = 0; cut < SALTED.length; cut += 1) {
-  const name = cut < 8 ? "NotSalted" : cut < 16 ? "SaltLength" : cut % 8 === 0 ? "PaddingMismatch" : "BlockLength";
-  throwsFault(() => opens(SALTED.subarray(0, cut)), name);
-}
-for (const options of [{ hashName: "md5" }, { hashName: "sha1" }, { iterations: 1 }, { iterations: 10000 }]) {
-  throwsFault(() => opens(SALTED, options), "PaddingMismatch", "the data do not end with the padding");
-}
-const PBKDF2_HASHES = 'the hash function is not one that the call takes: for PBKDF2 "sha1" or "sha256"';
-for (const iterations of [0, 1]) {
-  throwsFault(() => opens(SALTED, { hashName: "md5", iterations }), "HashName", PBKDF2_HASHES);
-  throwsFault(() => library.pbkdf2("md5", SECRET, IV, iterations, 24), "HashName", PBKDF2_HASHES);
-}
-for (const hashName of ["SHA256", "sha512", ""]) {
-  throwsFault(() => opens(SALTED, { hashName }), "HashName", 'a hash function is "md5", "sha1" or "sha256"');
-  throwsFault(() => library.bytesToKey(hashName, SECRET, IV, 24), "HashName", 'a hash function is "md5", "sha1" or "sha256"');
-  throwsFault(() => opens(SALTED, { hashName, iterations: 1 }), "HashName", PBKDF2_HASHES);
-  throwsFault(() => library.pbkdf2(hashName, SECRET, IV, 1, 24), "HashName", PBKDF2_HASHES);
-}
-for (const iterations of [0, -1, 1.5, NaN, 2 ** 32, 2 ** 32 + 1, 2 ** 64, Infinity]) {
-  throwsFault(() => opens(SALTED, { iterations }), "IterationCount");
-  throwsFault(() => library.pbkdf2("sha1", SECRET, IV, iterations, 24), "IterationCount");
-}
-for (const length of [0, -1, 1.5, NaN, 2 ** 32, 2 ** 64]) {
-  throwsFault(() => library.pbkdf2("sha1", SECRET, IV, 1, length), "KeyLength");
-  throwsFault(() => library.bytesToKey("sha1", SECRET, IV, length), "KeyLength");
-}
-// OpenSSL's function reads eight bytes of salt, or none; PBKDF2 takes any number.
-for (const length of LENGTHS) {
-  const call = () => library.bytesToKey("md5", SECRET, of(length), 24);
-  if (length === 0 || length === 8) assert.equal(call().length, 24);
-  else throwsFault(call, "SaltLength", `the salt of bytesToKey has 0 or 8 bytes, not ${length}`);
-  assert.equal(library.pbkdf2("sha1", SECRET, of(length), 1, 24).length, 24);
-}
 for (const wrong of [null, 5n, "1", true]) throwsType(() => opens(SALTED, { iterations: wrong }), "iterations");
 for (const wrong of [null, 22, SECRET]) throwsType(() => opens(SALTED, { hashName: wrong }), "a hash function");
 
@@ -730,16 +432,6 @@ is(other.state(), digits);
 terminal.close();
 for (const call of ["nextKey", "state"]) throwsFault(() => terminal[call](), "Closed", "the object was closed");
 
-const CARDS = [
-  ["870", "101", "ExpiryLength", "the expiry date does not have four digits"],
-  ["87/1", "101", "ExpiryDigit", "a character of the expiry date is not a digit"],
-  ["8701", "1010", "ServiceLength", "the service code does not have three digits"],
-  ["8701", "10a", "ServiceDigit", "a character of the service code is not a digit"],
-];
-for (const [expiry, service, name, text] of CARDS) {
-  throwsFault(() => library.cvv(PAIR, ACCOUNT, expiry, service), name, text);
-}
-
 // ---- Wrong types: each of these in the place of each argument
 
 /** Arrays that lie outside their buffer, which was shrunk, or taken away by another thread: nothing of them is there. */
@@ -908,4 +600,4 @@ for (const name of Object.keys(library)) {
 for (const [, name] of declared.matchAll(/^export (?:class|function|const) (\w+)/gm)) {
   assert(name in library, `${name} is declared alone`);
 }
-console.log(`JavaScript: ${faults} errors and wrong types`);
+console.log(`JavaScript: ${countOfFaults() + types} errors and wrong types`);

@@ -244,7 +244,7 @@ def other_values(browser):
     choose(browser, "pin")
     is_answer(browser, "pin", {"Block in clear": "241234FFFFFFFFFF"}, format="2", under="nothing")
 
-    # As in bindings/python/tests/test_pins.py: blocks of formats 3 and 1, under keys of two parts and of DES.
+    # As in bindings/known_calls.txt: blocks of formats 3 and 1, under keys of two parts and of DES.
     other = "89e88cf7931444f334bd7547fc3f380c"
     choose(browser, "translate")
     is_answer(browser, "translate", {"Translated block": "8856DB66D89E9EFF"}, block="ba041cb9b3034d36", **{"from": "3"}, incoming=other,

@@ -10,7 +10,6 @@ from pycparser import c_ast, c_parser
 from .text import ROOT, Refused
 
 PLACES = tuple(f"bindings/c/src/{name}.c" for name in ("cukvashe_des", "calls", "stack", "processor"))
-CALLS = "bindings/c/src/calls.c"
 
 # What no parser of plain C knows, and the processor that is meant.
 WORDS = ["-D__attribute__(x)=", "-D__typeof__(x)=int", "-D__asm__=", "-D__volatile__(...)=", "-D__x86_64__=1", "-U_WIN32"]
@@ -44,10 +43,7 @@ class Code:
             for name in ("string", "cpuid", "stdint", "stddef", "stdbool", "cukvashe_des"):
                 with open(f"{folder}/{name}.h", "w", encoding="utf-8") as file:
                     file.write(code_of(header.text) if name == "cukvashe_des" else "")
-            read = {place: dict(self._functions(place, folder)) for place in PLACES}
-        self.functions = {name: body for functions in read.values() for name, body in functions.items()}
-        # The exports that have the arguments of a call of the header.
-        self.alike = {it for body in read[CALLS].values() for it in body.called if it.startswith("cukvashe_unwiped_")}
+            self.functions = {name: body for place in PLACES for name, body in self._functions(place, folder)}
 
     @staticmethod
     def _functions(place, folder):

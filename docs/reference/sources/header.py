@@ -2,7 +2,9 @@
 
 import re
 
-from description.header import PLACE
+from description.c import Library
+from description.errors import Errors
+from description.header import DECLARES, PLACE, Stack, parts_of
 from description.header import read as read_header
 
 from .c_code import Code
@@ -10,9 +12,7 @@ from .documents import contents
 from .rattle import Crate
 from .text import Refused, filled, listed, read, table
 
-KEPT_WORDS = {"ECB", "CBC", "MAC", "MACs", "DES", "DUKPT", "PIN", "EMV", "ISO"}
-
-DECLARES = re.compile(r"(int|void|bool|const char \*) ?cukvashe_")
+KEPT_WORDS = {"C", "ECB", "CBC", "MAC", "MACs", "DES", "DUKPT", "PIN", "EMV", "ISO"}
 
 
 def declarations(piece):
@@ -29,9 +29,7 @@ def declarations(piece):
 
 
 def heading_of(line):
-    """The text of a heading, which stands in capitals in the header; None of another line."""
-    if not re.fullmatch(r"[A-Z][A-Z0-9 ,()-]+", line):
-        return None
+    """The text of a heading, which stands in capitals in the header."""
     words = re.sub(r"\w+", lambda word: word[0] if word[0] in KEPT_WORDS else word[0].lower(), line)
     return words[0].upper() + words[1:]
 
@@ -51,37 +49,16 @@ def marked(text):
 
 def comment_lines(comment):
     """The lines of a comment: headings, paragraphs, and what stands as it is."""
-    paragraph, verbatim = [], []
-
-    def ended():
-        if paragraph:
-            yield from [*filled(marked(" ".join(paragraph))).split("\n"), ""]
-        while verbatim and not verbatim[-1]:
-            verbatim.pop()
-        if verbatim:
-            yield from ["```c" if DECLARES.match(verbatim[0]) else "```", *verbatim, "```", ""]
-        paragraph.clear()
-        verbatim.clear()
-
-    for line in comment.split("\n"):
-        heading = heading_of(line)
-        is_verbatim = line.startswith(" ") or DECLARES.match(line)
-        if heading:
-            yield from ended()
-            yield from [f"## {heading}", ""]
-        elif line == "" and verbatim:
-            verbatim.append("")
-        elif line == "":
-            yield from ended()
-        elif is_verbatim:
-            if not verbatim:
-                yield from ended()
-            verbatim.append(re.sub("^    ", "", line) if not DECLARES.match(verbatim[0] if verbatim else line) else line)
+    for kind, lines in parts_of(comment):
+        if kind == "heading":
+            yield f"## {heading_of(lines[0])}"
+        elif kind == "paragraph":
+            yield from filled(marked(" ".join(lines))).split("\n")
+        elif DECLARES.match(lines[0]):
+            yield from ["```c", *lines, "```"]
         else:
-            if verbatim:
-                yield from ended()
-            paragraph.append(line)
-    yield from ended()
+            yield from ["```", *(re.sub("^    ", "", line) for line in lines), "```"]
+        yield ""
 
 
 def sections(header):
@@ -93,7 +70,8 @@ def sections(header):
             if "\n" in after:
                 yield from comment_lines(after)
             continue
-        found = [it for it in header.constants if piece.line <= it.line < piece.line + piece.text.count("\n")]
+        within = range(piece.line, piece.line + piece.text.count("\n"))
+        found = [it for it in header.constants if it.line in within and not it.name.startswith("VERSION_")]
         if any(it in header.statuses for it in found):
             yield from ["## Statuses by their numbers", "", marked(after), ""]
             yield from table(["Number", "Status", "What it says"], ((str(it.number), f"`CUKVASHE_{it.name}`", it.text) for it in found))
@@ -123,10 +101,12 @@ def exports():
 
 
 def carriers(header):
-    """For each call of the header: the proved exports behind it, and what C adds to them."""
+    """For each call of the header but those that give a number, which are C alone: the proved exports behind it, and what C adds to them."""
     proved = exports()
     code = Code(header)
-    for name in (f"cukvashe_{call}" for call in header.calls):
+    library = Library(header, Stack(header), Errors(header), read("bindings/c/src/cukvashe_des.c"))
+    alike = {f"cukvashe_unwiped_{it.name}" for it in library.alike}
+    for name in (f"cukvashe_{call}" for call in header.calls if call not in header.numbers):
         if name not in code.functions:
             if name not in proved:
                 raise Refused(f"{PLACE}: no export and no C is {name}")
@@ -140,7 +120,7 @@ def carriers(header):
                 behind[export] = None
             elif it.startswith(("cukvashe_internal_", "cukvashe_wide_", "cukvashe_unwiped_")) and it not in code.functions:
                 raise Refused(f"{PLACE}: {name} calls {it}, which is no proved export")
-        if behind and code.alike.isdisjoint(called):
+        if behind and alike.isdisjoint(called):
             adds.append("arguments")
         if any(it.startswith("cukvashe_wide_") for it in called):
             adds.append("width")
@@ -177,7 +157,7 @@ def made():
             "A proved export is a call of the crate `des_c`, with clauses that stand in [the list of clauses](proved.md#des_c). `C over` names the "
             "exports that a few lines of C hand on to; those lines are not proved. An export with `internal` in its name is hidden: it serves "
             "several calls, or takes other arguments. Where C adds the width, there is a second one, made and proved of the same source, for batches "
-            "of 256 blocks."
+            "of 256 blocks. Calls that give a number are C alone."
         ),
         "",
         "What C adds to the export:",

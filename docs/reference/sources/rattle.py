@@ -13,10 +13,10 @@ CLOSING = {"(": ")", "[": "]", "{": "}"}
 
 
 class Clause:
-    """A clause of a function: `ensures` or `requires`, its name, or "", and the comment on it."""
+    """A clause of a function: `ensures` or `requires`, its name, or "", the comment on it, and what it says."""
 
-    def __init__(self, kind, name, comment):
-        self.kind, self.name, self.comment = kind, name, comment
+    def __init__(self, kind, name, comment, said):
+        self.kind, self.name, self.comment, self.said = kind, name, comment, said
 
 
 class Item:
@@ -213,8 +213,7 @@ class Reader:
                 break
             kind = self.take()
             label = self.take() if self.peek() != "{" else ""
-            self.group()
-            clauses.append(Clause(kind, label, comment))
+            clauses.append(Clause(kind, label, comment, " ".join(self.group().split())))
         if self.peek() == ";":
             self.take()
         else:

@@ -5,6 +5,9 @@
 use super::Context;
 use core::ffi::{c_char, c_int, c_void};
 
+pub const VERSION_MAJOR: c_int = 0;
+pub const VERSION_MINOR: c_int = 1;
+pub const VERSION_PATCH: c_int = 0;
 pub const PKCS7: c_int = 11;
 pub const ISO7816: c_int = 12;
 pub const MD5: c_int = 21;
@@ -783,4 +786,50 @@ extern "C" {
         capacity: usize,
         plain_length: *mut usize,
     ) -> c_int;
+    pub fn cukvashe_des_size() -> usize;
+    pub fn cukvashe_tdes_ede2_size() -> usize;
+    pub fn cukvashe_tdes_ede3_size() -> usize;
+    pub fn cukvashe_cbc_mac_des_size() -> usize;
+    pub fn cukvashe_cbc_mac_tdes_ede2_size() -> usize;
+    pub fn cukvashe_cbc_mac_tdes_ede3_size() -> usize;
+    pub fn cukvashe_retail_mac_des_size() -> usize;
+    pub fn cukvashe_cmac_tdes_ede2_size() -> usize;
+    pub fn cukvashe_cmac_tdes_ede3_size() -> usize;
+    pub fn cukvashe_message_size() -> usize;
+    pub fn cukvashe_dukpt_terminal_size() -> usize;
+    pub fn cukvashe_pin_translation_size() -> usize;
+    pub fn cukvashe_decimal_table_size() -> usize;
+    pub fn cukvashe_key_block_fields_size() -> usize;
+    pub fn cukvashe_key_block_parts_size() -> usize;
+    pub fn cukvashe_version_major() -> c_int;
+    pub fn cukvashe_version_minor() -> c_int;
+    pub fn cukvashe_version_patch() -> c_int;
+    pub fn cukvashe_block_size() -> usize;
+    pub fn cukvashe_tag_size() -> usize;
+    pub fn cukvashe_des_key_size() -> usize;
+    pub fn cukvashe_tdes_ede2_key_size() -> usize;
+    pub fn cukvashe_tdes_ede3_key_size() -> usize;
+    pub fn cukvashe_cbc_mac_des_key_size() -> usize;
+    pub fn cukvashe_cbc_mac_tdes_ede2_key_size() -> usize;
+    pub fn cukvashe_cbc_mac_tdes_ede3_key_size() -> usize;
+    pub fn cukvashe_retail_mac_des_key_size() -> usize;
+    pub fn cukvashe_cmac_tdes_ede2_key_size() -> usize;
+    pub fn cukvashe_cmac_tdes_ede3_key_size() -> usize;
+    pub fn cukvashe_check_value_size() -> usize;
+    pub fn cukvashe_short_check_value_size() -> usize;
+    pub fn cukvashe_dukpt_key_size() -> usize;
+    pub fn cukvashe_dukpt_serial_size() -> usize;
+    pub fn cukvashe_fill_size() -> usize;
+    pub fn cukvashe_pin_size() -> usize;
+    pub fn cukvashe_cvv_size() -> usize;
+    pub fn cukvashe_pvv_size() -> usize;
+    pub fn cukvashe_key_data_size() -> usize;
+    pub fn cukvashe_key_block_size() -> usize;
+    pub fn cukvashe_pkcs7() -> c_int;
+    pub fn cukvashe_iso7816() -> c_int;
+    pub fn cukvashe_md5() -> c_int;
+    pub fn cukvashe_sha1() -> c_int;
+    pub fn cukvashe_sha256() -> c_int;
+    pub fn cukvashe_mac_padding_1() -> c_int;
+    pub fn cukvashe_mac_padding_2() -> c_int;
 }

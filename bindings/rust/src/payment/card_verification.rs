@@ -1,12 +1,13 @@
 //! Card verification values (CVV): three digits of a card's data under a key.
 
+// Calls like those of `cukvashe_des.h`: made of it by `bindings/describe`.
 use crate::error::sentences;
 use crate::ffi;
 use crate::statuses::{
     sentence, ACCOUNT_DIGIT, ACCOUNT_LENGTH, EXPIRY_DIGIT, EXPIRY_LENGTH, OK, SERVICE_DIGIT, SERVICE_LENGTH,
 };
 
-/// Why there is no card verification value. The first of them is reported, in this order.
+/// Why a call of this module refuses what it is given. The first of them is reported, in this order.
 #[non_exhaustive]
 #[derive(Clone, Copy, Debug, PartialEq, Eq)]
 pub enum CvvError {
@@ -33,11 +34,26 @@ sentences!(CvvError:
     CvvError::ServiceDigit => sentence(SERVICE_DIGIT),
 );
 
-/// The card verification value, three ASCII digits, of an account number of 12 to 19 digits with the check digit, an expiry
-/// date of four and a service code of three, under a key pair of 16 bytes.
+/// What a call made, or the fault that its status says.
+fn checked<T>(status: i32, made: T) -> Result<T, CvvError> {
+    match status {
+        OK => Ok(made),
+        ACCOUNT_LENGTH => Err(CvvError::AccountLength),
+        ACCOUNT_DIGIT => Err(CvvError::AccountDigit),
+        EXPIRY_LENGTH => Err(CvvError::ExpiryLength),
+        EXPIRY_DIGIT => Err(CvvError::ExpiryDigit),
+        SERVICE_LENGTH => Err(CvvError::ServiceLength),
+        _ => Err(CvvError::ServiceDigit),
+    }
+}
+
+// SAFETY of each call below: the pointers are of references, those of texts and data good for their lengths, and don't
+// overlap what is written.
+
+/// The card verification value, three ASCII digits, under a key pair of 16 bytes, of an account number of 12 to 19 digits, an
+/// expiry date of four, in the order that the issuer takes, and a service code of three.
 pub fn cvv(key: &[u8; 16], account: &[u8], expiry: &[u8], service: &[u8]) -> Result<[u8; 3], CvvError> {
-    let mut value = [0; 4];
-    // SAFETY: the pointers are of references, those of texts good for their lengths, and don't overlap what is written.
+    let mut made = [0; 4];
     let status = unsafe {
         ffi::cukvashe_cvv(
             key,
@@ -47,17 +63,10 @@ pub fn cvv(key: &[u8; 16], account: &[u8], expiry: &[u8], service: &[u8]) -> Res
             expiry.len(),
             service.as_ptr().cast(),
             service.len(),
-            &mut value,
+            &mut made,
         )
     };
-    let [first, second, third, _] = value;
-    match status {
-        OK => Ok([first, second, third]),
-        ACCOUNT_LENGTH => Err(CvvError::AccountLength),
-        ACCOUNT_DIGIT => Err(CvvError::AccountDigit),
-        EXPIRY_LENGTH => Err(CvvError::ExpiryLength),
-        EXPIRY_DIGIT => Err(CvvError::ExpiryDigit),
-        SERVICE_LENGTH => Err(CvvError::ServiceLength),
-        _ => Err(CvvError::ServiceDigit),
-    }
+    let [text @ .., _] = made;
+    checked(status, text)
 }
+// This ends what bindings/describe made.

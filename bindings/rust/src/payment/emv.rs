@@ -17,11 +17,12 @@
 //! # Ok::<(), cukvashe_des::payment::EmvError>(())
 //! ```
 
+// Calls like those of `cukvashe_des.h`: made of it by `bindings/describe`.
 use crate::error::sentences;
 use crate::ffi;
 use crate::statuses::{sentence, ACCOUNT_DIGIT, ACCOUNT_LENGTH, DATA_LENGTH, OK, SEQUENCE_DIGIT, SEQUENCE_LENGTH};
 
-/// Why there is no key of a card, or no response to it. The first of them is reported, in this order.
+/// Why a call of this module refuses what it is given. The first of them is reported, in this order.
 #[non_exhaustive]
 #[derive(Clone, Copy, Debug, PartialEq, Eq)]
 pub enum EmvError {
@@ -33,7 +34,7 @@ pub enum EmvError {
     SequenceLength,
     /// A character of the sequence number is not a digit.
     SequenceDigit,
-    /// The issuer's data have more than eight bytes.
+    /// The issuer's data have more than 8 bytes.
     DataLength,
 }
 
@@ -57,76 +58,90 @@ fn checked<T>(status: i32, made: T) -> Result<T, EmvError> {
     }
 }
 
-// SAFETY of each call below: the pointers are of references, those of texts and data good for their lengths, and don't overlap what
-// is written.
+// SAFETY of each call below: the pointers are of references, those of texts and data good for their lengths, and don't
+// overlap what is written.
 
-/// The key of a card (A1.4.1, option A), from the issuer's master key (IMK), the account number (PAN), a text of 8 to
-/// 19 digits with the check digit, and the sequence number of the card (PSN), a text of two digits: `00` where the card
-/// has none. Each byte has odd parity.
+/// The key of a card (A1.4.1, option A), with odd parity, from the issuer's master key (IMK), an account number (PAN) of 8 to
+/// 19 digits and a sequence number (PSN) of two, `00` where the card has none.
 pub fn card_key(issuer: &[u8; 16], account: &[u8], sequence: &[u8]) -> Result<[u8; 16], EmvError> {
-    let mut key = [0; 16];
-    let (account, length) = (account.as_ptr().cast(), account.len());
-    let (sequence, digits) = (sequence.as_ptr().cast(), sequence.len());
-    let status = unsafe { ffi::cukvashe_emv_card_key(issuer, account, length, sequence, digits, &mut key) };
-    checked(status, key)
+    let mut made = [0; 16];
+    let status = unsafe {
+        ffi::cukvashe_emv_card_key(
+            issuer,
+            account.as_ptr().cast(),
+            account.len(),
+            sequence.as_ptr().cast(),
+            sequence.len(),
+            &mut made,
+        )
+    };
+    checked(status, made)
 }
 
-/// The key of a card by option B (A1.4.2), which differs where the account number has more than sixteen digits: take it if the card
-/// scheme asks for it.
+/// The key of a card by option B (A1.4.2), which differs where the account number has more than sixteen digits: take it if
+/// the card scheme asks for it.
 pub fn card_key_b(issuer: &[u8; 16], account: &[u8], sequence: &[u8]) -> Result<[u8; 16], EmvError> {
-    let mut key = [0; 16];
-    let (account, length) = (account.as_ptr().cast(), account.len());
-    let (sequence, digits) = (sequence.as_ptr().cast(), sequence.len());
-    let status = unsafe { ffi::cukvashe_emv_card_key_b(issuer, account, length, sequence, digits, &mut key) };
-    checked(status, key)
+    let mut made = [0; 16];
+    let status = unsafe {
+        ffi::cukvashe_emv_card_key_b(
+            issuer,
+            account.as_ptr().cast(),
+            account.len(),
+            sequence.as_ptr().cast(),
+            sequence.len(),
+            &mut made,
+        )
+    };
+    checked(status, made)
 }
 
-/// The session key of a card's key by the common derivation (A1.3), from eight bytes that are different for each session: for secure
-/// messaging the application cryptogram. Their third byte plays no part.
-#[must_use]
-pub fn session_key(card: &[u8; 16], block: &[u8; 8]) -> [u8; 16] {
-    let mut key = [0; 16];
-    unsafe { ffi::cukvashe_emv_session_key(card, block, &mut key) };
-    key
-}
-
-/// The session key for application cryptograms, by the application transaction counter (ATC), two bytes.
+/// The session key for application cryptograms, from the card's key and the application transaction counter, two bytes.
 #[must_use]
 pub fn application_key(card: &[u8; 16], counter: &[u8; 2]) -> [u8; 16] {
-    let mut key = [0; 16];
-    unsafe { ffi::cukvashe_emv_application_key(card, counter, &mut key) };
-    key
+    let mut made = [0; 16];
+    unsafe { ffi::cukvashe_emv_application_key(card, counter, &mut made) };
+    made
 }
 
-/// The application cryptogram (ARQC, TC or AAC) of bytes under a session key (8.1.2): the retail MAC with padding
-/// method 2. To check one that a card sent, call `verify` of [`RetailMacDes`](crate::mac::RetailMacDes), and do not
-/// compare by `==`.
+/// The session key for other uses (A1.3), from the card's key and eight bytes that are different for each session: for secure
+/// messaging the application cryptogram. The third of them plays no part.
 #[must_use]
-pub fn application_cryptogram(session: &[u8; 16], bytes: &[u8]) -> [u8; 8] {
-    let mut cryptogram = [0; 8];
-    unsafe { ffi::cukvashe_emv_application_cryptogram(session, bytes.as_ptr(), bytes.len(), &mut cryptogram) };
-    cryptogram
+pub fn session_key(card: &[u8; 16], block: &[u8; 8]) -> [u8; 16] {
+    let mut made = [0; 16];
+    unsafe { ffi::cukvashe_emv_session_key(card, block, &mut made) };
+    made
 }
 
-/// The response (ARPC) by method 1 (8.2.1) to an application cryptogram, with a response code of two bytes, ASCII
+/// The application cryptogram (8.1.2), 8 bytes, under a session key, of the data that the card scheme names: the retail MAC
+/// with padding method 2. To check one that a card sent, call `verify` of [`RetailMacDes`](crate::mac::RetailMacDes), and do
+/// not compare by `==`.
+#[must_use]
+pub fn application_cryptogram(session: &[u8; 16], data: &[u8]) -> [u8; 8] {
+    let mut made = [0; 8];
+    unsafe { ffi::cukvashe_emv_application_cryptogram(session, data.as_ptr(), data.len(), &mut made) };
+    made
+}
+
+/// The issuer's response by method 1 (8.2.1), 8 bytes, to an application cryptogram, with a response code of two ASCII
 /// characters.
 #[must_use]
 pub fn response_1(session: &[u8; 16], cryptogram: &[u8; 8], code: &[u8; 2]) -> [u8; 8] {
-    let mut response = [0; 8];
-    unsafe { ffi::cukvashe_emv_response_1(session, cryptogram, code, &mut response) };
-    response
+    let mut made = [0; 8];
+    unsafe { ffi::cukvashe_emv_response_1(session, cryptogram, code, &mut made) };
+    made
 }
 
-/// The response (ARPC) by method 2 (8.2.2) to an application cryptogram, with a card status update of four bytes and at
-/// most eight bytes of the issuer's; `DataLength` where there are more.
+/// The issuer's response by method 2 (8.2.2), 4 bytes, to an application cryptogram, with a card status update of four bytes
+/// and at most 8 bytes of the issuer's.
 pub fn response_2(
     session: &[u8; 16],
     cryptogram: &[u8; 8],
     status: &[u8; 4],
-    bytes: &[u8],
+    data: &[u8],
 ) -> Result<[u8; 4], EmvError> {
-    let mut response = [0; 4];
-    let (data, length) = (bytes.as_ptr(), bytes.len());
-    let answer = unsafe { ffi::cukvashe_emv_response_2(session, cryptogram, status, data, length, &mut response) };
-    checked(answer, response)
+    let mut made = [0; 4];
+    let status =
+        unsafe { ffi::cukvashe_emv_response_2(session, cryptogram, status, data.as_ptr(), data.len(), &mut made) };
+    checked(status, made)
 }
+// This ends what bindings/describe made.

@@ -86,3 +86,65 @@ pub fn tags(name: &str, method: &str) -> Vec<Tag> {
     assert!(COUNTS.iter().all(|count| tags.iter().any(|tag| tag.message.len() == 8 * count)));
     tags
 }
+
+/// The words of a line, between which stand blanks that are in no text.
+fn words_of(line: &str) -> Vec<String> {
+    let (mut words, mut is_text, mut is_escaped) = (vec![String::new()], false, false);
+    for letter in line.chars() {
+        if letter == ' ' && !is_text {
+            words.push(String::new());
+            continue;
+        }
+        is_text ^= letter == '"' && !is_escaped;
+        is_escaped = letter == '\\' && !is_escaped;
+        words.last_mut().unwrap().push(letter);
+    }
+    words.retain(|word| !word.is_empty());
+    words
+}
+
+/// The words that a line beginning with `for` says.
+fn each_of(words: &[String]) -> Vec<String> {
+    let [kind, but, lengths @ ..] = words else { return words.to_vec() };
+    if but != "but" {
+        return words.to_vec();
+    }
+    let number = |digits: &str| digits.parse::<usize>().unwrap();
+    let but = |length| {
+        lengths.iter().any(|word| {
+            let (first, last) = word.split_once('-').unwrap_or((word, word));
+            (number(first)..=number(last)).contains(&length)
+        })
+    };
+    let word = if kind == "bytes" { "x5a*" } else { "\"1\"*" };
+    LENGTHS.filter(|&length| !but(length)).map(|length| format!("{word}{length}")).collect()
+}
+
+/// Gives the words of each call of known_calls.txt, and those of the line that says what comes of it; and for a name no call, the name and its
+/// word.
+pub fn known_calls(mut give: impl FnMut(&[String], &[String])) {
+    let (mut outcome, mut each) = (vec![], vec![]);
+    for line in lines_of("../known_calls.txt") {
+        let words = words_of(&line);
+        if ["=", "!"].contains(&&*words[0]) {
+            outcome = words;
+            continue;
+        }
+        for call in line.split(" ; ") {
+            let words = words_of(call);
+            match words.iter().position(|word| word == "=") {
+                _ if words[0] == "for" => each = each_of(&words[1..]),
+                Some(_) if is_name(&words[0]) => give(&[], &[words[0].clone(), words[2].clone()]),
+                Some(at) => give(&words[..at], &words[at..]),
+                None if call.contains('?') => {
+                    each.iter().for_each(|word| give(&words_of(&call.replace('?', word)), &outcome))
+                }
+                None => give(&words, &outcome),
+            }
+        }
+    }
+}
+
+fn is_name(word: &str) -> bool {
+    word.chars().all(|letter| letter.is_uppercase() || letter == '_')
+}

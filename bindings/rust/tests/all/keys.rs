@@ -1,27 +1,8 @@
-//! The weak key test and parity, and padding.
+//! Parity and padding; known answers and faults are in bindings/known_calls.txt.
 
 use crate::common::*;
 use cukvashe_des::padding::*;
 use cukvashe_des::*;
-
-#[test]
-fn keys_are_tested() {
-    let half = &KEY[..8];
-    let parity = [&[half[0] ^ 1], &half[1..]].concat();
-    for weak in [&[1; 8], &[0; 8], &[0xfe; 8], &[0x01, 0xfe, 0x01, 0xfe, 0x01, 0xfe, 0x01, 0xfe]] {
-        assert_eq!(weak_key_test(weak), Err(KeyTestError::WeakKey));
-    }
-    for other in [half, &parity] {
-        assert_eq!(weak_key_test(&[half, other].concat()), Err(KeyTestError::WeakKey));
-        assert_eq!(weak_key_test(&[&KEY[..16], other].concat()), Err(KeyTestError::WeakKey));
-    }
-    for good in [half, &KEY[..16], &KEY] {
-        assert_eq!(weak_key_test(good), Ok(()));
-    }
-    for length in LENGTHS.filter(|length| ![8, 16, 24].contains(length)) {
-        assert_eq!(weak_key_test(&vec![0x11; length]), Err(KeyTestError::InvalidLength));
-    }
-}
 
 fn parity_of<const SIZE: usize>() {
     let key: [u8; SIZE] = std::array::from_fn(|at| (37 * at % 256) as u8);
@@ -77,28 +58,6 @@ fn padding_comes_and_goes() {
         }
         for length in [9, 16, 17, usize::MAX - 7, usize::MAX] {
             assert_eq!(pad(&mut [0x5a; 8], length, method), Err(NoRoom));
-        }
-    }
-}
-
-#[test]
-fn padding_is_refused() {
-    for byte in 0..=255 {
-        let block = [0x71, 0x72, 0x73, 0x74, 0x75, 0x76, 0x77, byte];
-        for (method, right) in [(Method::Pkcs7, 1), (Method::Iso7816, 0x80)] {
-            let expected = if byte == right { Ok(&block[..7]) } else { Err(UnpadError::NotPadded) };
-            assert_eq!(unpad(&block, method), expected);
-        }
-    }
-    for method in [Method::Pkcs7, Method::Iso7816] {
-        assert_eq!(unpad(&[], method), Err(UnpadError::NotPadded));
-        for (count, place) in (0..8).flat_map(|count| (count..8).map(move |place| (count, place))) {
-            let mut block = padded(&[0x99; 8][..count], method);
-            block[place] ^= 0x40;
-            assert_eq!(unpad(&block, method), Err(UnpadError::NotPadded));
-        }
-        for length in LENGTHS.filter(|length| length % 8 != 0) {
-            assert_eq!(unpad(&vec![1; length], method), Err(UnpadError::NotBlocks));
         }
     }
 }

@@ -1,13 +1,12 @@
 //! Tests of the crate by its public calls, in one program, which links once.
 
-mod cards;
 mod ciphers;
 mod common;
 mod key_blocks;
 mod keys;
+mod known_calls;
 mod lists;
 mod macs;
 mod passwords;
 mod payment;
-mod pins;
 mod types;

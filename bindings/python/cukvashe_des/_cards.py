@@ -1,0 +1,101 @@
+"""Card verification values, and card cryptograms (EMV 4.3, Book 2), the issuer's side: made of the header by bindings/describe."""
+
+from __future__ import annotations
+
+from ._data import bytes_from, bytes_of, data_of, key_of, room, text_from, text_of
+from ._faults import BlockLengthError, DataLengthError, check
+from ._library import function
+from ._types import ReadableBuffer, Text
+
+_cvv = function("cvv")
+_emv_card_key = function("emv_card_key")
+_emv_card_key_b = function("emv_card_key_b")
+_emv_application_key = function("emv_application_key")
+_emv_session_key = function("emv_session_key")
+_emv_application_cryptogram = function("emv_application_cryptogram")
+_emv_response_1 = function("emv_response_1")
+_emv_response_2 = function("emv_response_2")
+
+
+def cvv(key: ReadableBuffer, account: Text, expiry: Text, service: Text) -> str:
+    """The card verification value, three ASCII digits, under a key pair of 16 bytes, of an account number of 12 to 19 digits, an
+    expiry date of four, in the order that the issuer takes, and a service code of three. KeyLengthError, AccountLengthError,
+    AccountDigitError, ExpiryLengthError, ExpiryDigitError, ServiceLengthError, ServiceDigitError."""
+    made = room(4)
+    with key_of(key, 16) as held_key, text_of(account) as held_account, text_of(expiry) as held_expiry:
+        with text_of(service) as held_service:
+            check(_cvv(held_key, *held_account, *held_expiry, *held_service, made))
+    return text_from(made)
+
+
+def emv_card_key(issuer: ReadableBuffer, account: Text, sequence: Text) -> bytes:
+    """The key of a card (A1.4.1, option A), with odd parity, from the issuer's master key (IMK), an account number (PAN) of 8 to
+    19 digits and a sequence number (PSN) of two, `00` where the card has none. KeyLengthError, AccountLengthError,
+    AccountDigitError, SequenceLengthError, SequenceDigitError."""
+    made = room(16)
+    with key_of(issuer, 16) as held_issuer, text_of(account) as held_account, text_of(sequence) as held_sequence:
+        check(_emv_card_key(held_issuer, *held_account, *held_sequence, made))
+    return bytes_from(made)
+
+
+def emv_card_key_b(issuer: ReadableBuffer, account: Text, sequence: Text) -> bytes:
+    """The key of a card by option B (A1.4.2), which differs where the account number has more than sixteen digits: take it if the
+    card scheme asks for it. KeyLengthError, AccountLengthError, AccountDigitError, SequenceLengthError, SequenceDigitError."""
+    made = room(16)
+    with key_of(issuer, 16) as held_issuer, text_of(account) as held_account, text_of(sequence) as held_sequence:
+        check(_emv_card_key_b(held_issuer, *held_account, *held_sequence, made))
+    return bytes_from(made)
+
+
+def emv_application_key(card: ReadableBuffer, counter: ReadableBuffer) -> bytes:
+    """The session key for application cryptograms, from the card's key and the application transaction counter, two bytes.
+    KeyLengthError, DataLengthError."""
+    taken_counter = data_of(counter, 2, "a transaction counter has", DataLengthError)
+    made = room(16)
+    with key_of(card, 16) as held_card:
+        _emv_application_key(held_card, taken_counter, made)
+    return bytes_from(made)
+
+
+def emv_session_key(card: ReadableBuffer, block: ReadableBuffer) -> bytes:
+    """The session key for other uses (A1.3), from the card's key and eight bytes that are different for each session: for secure
+    messaging the application cryptogram. The third of them plays no part. KeyLengthError, BlockLengthError."""
+    taken_block = data_of(block, 8, "the block of a session has", BlockLengthError)
+    made = room(16)
+    with key_of(card, 16) as held_card:
+        _emv_session_key(held_card, taken_block, made)
+    return bytes_from(made)
+
+
+def emv_application_cryptogram(session: ReadableBuffer, data: ReadableBuffer) -> bytes:
+    """The application cryptogram (8.1.2), 8 bytes, under a session key, of the data that the card scheme names: the retail MAC
+    with padding method 2. To check one that a card sent call RetailMacDes(session, 2, data).verify(cryptogram), and do not
+    compare by ==. KeyLengthError."""
+    taken_data = bytes_of(data)
+    made = room(8)
+    with key_of(session, 16) as held_session:
+        _emv_application_cryptogram(held_session, taken_data, len(taken_data), made)
+    return bytes(made)
+
+
+def emv_response_1(session: ReadableBuffer, cryptogram: ReadableBuffer, code: ReadableBuffer) -> bytes:
+    """The issuer's response by method 1 (8.2.1), 8 bytes, to an application cryptogram, with a response code of two ASCII
+    characters. KeyLengthError, BlockLengthError, DataLengthError."""
+    taken_cryptogram = data_of(cryptogram, 8, "an application cryptogram has", BlockLengthError)
+    taken_code = data_of(code, 2, "a response code has", DataLengthError)
+    made = room(8)
+    with key_of(session, 16) as held_session:
+        _emv_response_1(held_session, taken_cryptogram, taken_code, made)
+    return bytes(made)
+
+
+def emv_response_2(session: ReadableBuffer, cryptogram: ReadableBuffer, status: ReadableBuffer, data: ReadableBuffer = b"") -> bytes:
+    """The issuer's response by method 2 (8.2.2), 4 bytes, to an application cryptogram, with a card status update of four bytes
+    and at most 8 bytes of the issuer's. KeyLengthError, BlockLengthError, DataLengthError."""
+    taken_cryptogram = data_of(cryptogram, 8, "an application cryptogram has", BlockLengthError)
+    taken_status = data_of(status, 4, "a card status update has", DataLengthError)
+    taken_data = bytes_of(data)
+    made = room(4)
+    with key_of(session, 16) as held_session:
+        check(_emv_response_2(held_session, taken_cryptogram, taken_status, taken_data, len(taken_data), made))
+    return bytes(made)
