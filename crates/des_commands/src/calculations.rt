@@ -7,10 +7,10 @@ ghost use Rattle.des_commands.specs.Lines.{IsLine};
 ghost use Rattle.des_commands.specs.Runs.{FailsAsAsked, IsOutcome, IsNoticed, IsNo, IsRun};
 
 use crate::check_digit::{has_check_digit, is_account};
-use crate::command::{Calculation, CalculationRequest, Inputs, PinCalculation};
+use crate::command::{Calculation, CalculationRequest, Inputs, LONGEST_INPUT, PinCalculation};
 use crate::digits::Lines;
 use crate::fault::{Fault, FaultKind};
-use crate::lines::{LONGEST_INPUT, WEAK, lines_of};
+use crate::lines::{WEAK, lines_of};
 use crate::names::{about_of, account_name};
 use crate::report::{show, tell};
 use crate::sentences::Sentences;

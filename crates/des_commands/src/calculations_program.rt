@@ -5,11 +5,11 @@ ghost use Rattle.std.specs.Prelude.{◌≤◌, length, IfOk};
 use crate::arguments::{by_input, file_of};
 use crate::calculations;
 use crate::command::{
-    Account, Calculation, CalculationRequest, Inputs, KeyBlockCalculation, RANDOM, Wrapping,
+    Account, Calculation, CalculationRequest, Inputs, KeyBlockCalculation, LONGEST_INPUT, RANDOM,
+    Wrapping,
 };
 use crate::fault::{Fault, FaultKind};
 use crate::input_files::{RANDOM_SOURCE, system_random};
-use crate::lines::LONGEST_INPUT;
 use crate::names::{input_name, key_name, to_key_name};
 use crate::secrets::{key_in, text_in};
 use crate::sentences::English;

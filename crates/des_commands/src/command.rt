@@ -7,6 +7,9 @@ use des_payment::dukpt::MessageDirection;
 use des_payment::key_block_header::Version;
 use des_payment::translation::Format;
 
+/// The bytes of the longest input: a key block, white space among them.
+pub const LONGEST_INPUT: usize = 16384;
+
 /// The random bytes that a key block takes at most: its padding with the key has 30 bytes.
 pub const RANDOM: usize = 22;
 

@@ -9,7 +9,7 @@ ghost use Rattle.des_commands.specs.Keys.{key_fault, IsKeySize};
 ghost use Rattle.des_commands.specs.Lines.{check_value_of, IsWeakLine, key_of_components, key_size_of, key_of_count, few_fault, components_fault, encoding_fault, IsEncoded, decoding_fault, IsDecoded};
 ghost use Rattle.des_commands.specs.Lines.{FailsAs, IsLine, key_for, initial_key_of as initial_key_by, transaction_key_of, transaction_fault};
 
-use crate::command::{Calculation, Inputs, Purpose};
+use crate::command::{Calculation, Inputs, LONGEST_INPUT, Purpose};
 use crate::digits::{Lines, bytes_of, decode, fill_of, hex_line, line_of};
 use crate::emv_lines::emv_line;
 use crate::fault::FaultKind;
@@ -19,9 +19,6 @@ use crate::pin_lines::pin_line;
 use des_payment::translation::Format;
 use des_payment::{Pin, combine, cvv, dukpt, key_check_value, pin_blocks, set_odd_parity};
 use std::alloc::Global;
-
-/// The bytes of the longest input: a key block, white space among them.
-pub const LONGEST_INPUT: usize = 16384;
 
 // What is written of a key that is weak, and of one that is not.
 pub const WEAK: &str = "weak\n";
