@@ -9,9 +9,9 @@ use Rattle.des_io.specs.declared.padding.Padding.{Padding}
 use Rattle.des_commands.specs.declared.fault.FaultKind.{FaultKind}
 use Rattle.des_commands.specs.declared.fault.FaultKind.TheVariants.{KeyLength, Memory}
 use Rattle.des_commands.specs.declared.stream_request.BlockRange.{BlockRange}
-use Rattle.des_commands.specs.declared.streams.Job.{Job}
-use Rattle.des_commands.specs.declared.streams.Work.{Work}
-use Rattle.des_commands.specs.declared.streams.Work.TheVariants.{Encrypt, Decrypt}
+use Rattle.des_commands.specs.declared.stream_request.Job.{Job}
+use Rattle.des_commands.specs.declared.stream_request.Work.{Work}
+use Rattle.des_commands.specs.declared.stream_request.Work.TheVariants.{Encrypt, Decrypt}
 use Rattle.des_commands.specs.Faults.{IsOfStream}
 use Rattle.des_commands.specs.Written.{AppendsPrefix}
 use Rattle.des_commands.specs.Jobs.{key_size_of, AreOfKey}

@@ -12,9 +12,9 @@ use Rattle.des_io.specs.declared.padding.Padding.{Padding}
 use Rattle.des_commands.specs.declared.stream_request.Cipher.{Cipher}
 use Rattle.des_commands.specs.declared.stream_request.Cipher.TheVariants.{Des, TdesEde2, TdesEde3}
 use Rattle.des_commands.specs.declared.stream_request.BlockRange.{BlockRange}
-use Rattle.des_commands.specs.declared.streams.Job.{Job}
-use Rattle.des_commands.specs.declared.streams.Work.{Work}
-use Rattle.des_commands.specs.declared.streams.Work.TheVariants.{Encrypt, Decrypt}
+use Rattle.des_commands.specs.declared.stream_request.Job.{Job}
+use Rattle.des_commands.specs.declared.stream_request.Work.{Work}
+use Rattle.des_commands.specs.declared.stream_request.Work.TheVariants.{Encrypt, Decrypt}
 
 -- ---- ciphers
 

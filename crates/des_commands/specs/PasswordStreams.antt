@@ -8,7 +8,7 @@ use Rattle.des_commands.specs.declared.fault.FileFault.TheVariants.{NotSalted, S
 use Rattle.des_commands.specs.declared.fault.Reason.{Reason}
 use Rattle.des_commands.specs.declared.fault.FaultKind.{FaultKind}
 use Rattle.des_commands.specs.declared.fault.FaultKind.TheVariants.{Usage, Read, File, EmptyPassword}
-use Rattle.des_commands.specs.declared.streams.Job.{Job}
+use Rattle.des_commands.specs.declared.stream_request.Job.{Job}
 use Rattle.des_commands.specs.declared.password_streams.PasswordJob.{PasswordJob}
 use Rattle.des_commands.specs.declared.keys.Verdict.{Verdict}
 use Rattle.des_commands.specs.declared.notices.Notice.{Notice}

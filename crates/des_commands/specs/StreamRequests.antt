@@ -11,9 +11,9 @@ use Rattle.des_commands.specs.declared.stream_request.BlockRange.{BlockRange}
 use Rattle.des_commands.specs.declared.stream_request.Secret.{Secret}
 use Rattle.des_commands.specs.declared.stream_request.Secret.TheVariants.{Key, Password}
 use Rattle.des_commands.specs.declared.stream_request.StreamRequest.{StreamRequest}
-use Rattle.des_commands.specs.declared.streams.Job.{Job}
-use Rattle.des_commands.specs.declared.streams.Work.{Work}
-use Rattle.des_commands.specs.declared.streams.Work.TheVariants.{Encrypt, Decrypt}
+use Rattle.des_commands.specs.declared.stream_request.Job.{Job}
+use Rattle.des_commands.specs.declared.stream_request.Work.{Work}
+use Rattle.des_commands.specs.declared.stream_request.Work.TheVariants.{Encrypt, Decrypt}
 
 -- where the key or the password is
 abbrev pub source_of : Secret → Source

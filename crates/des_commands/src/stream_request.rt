@@ -5,7 +5,6 @@ ghost use Rattle.des_commands.specs.Keys.{IsKeySize};
 ghost use Rattle.des_commands.specs.StreamRequests.{blocks_before as blocks_before_of, source_of, mode_of as mode_by, heading_of as heading_by, IsJobOf};
 ghost use Rattle.des_commands.specs.Jobs.{key_size_of};
 
-use crate::streams::{Job, Work};
 use crate::text_source::Source;
 use des_io::{Mode, Padding};
 use des_passwords::Derivation;
@@ -139,6 +138,32 @@ pub struct StreamRequest<'a> {
     pub input: Source<'a>,
     pub output: Output<'a>,
     pub shows_progress: bool,
+}
+
+/// What is done with the bytes of a stream.
+#[derive(Clone, Copy)]
+pub struct Job<'a> {
+    pub cipher: Cipher,
+    /// The key, of the bytes that the cipher takes.
+    pub key: &'a [u8],
+    /// The mode of the first block that is read: ECB, or CBC from a vector.
+    pub mode: Mode,
+    pub padding: Padding,
+    pub work: Work<'a>,
+}
+
+/// The direction of a stream, and what goes before it.
+#[derive(Clone, Copy)]
+pub enum Work<'a> {
+    /// Encrypts. These bytes are written first: a random vector, or `Salted__` and a salt.
+    Encrypt {
+        heading: &'a [u8],
+    },
+    /// Decrypts, after so many blocks that are read and passed over, the whole or a part.
+    Decrypt {
+        skipped: u64,
+        part: Option<BlockRange>,
+    },
 }
 
 /// The blocks of the input that stand before those that are decrypted: the vector, if it is the

@@ -7,46 +7,19 @@ ghost use Rattle.des_commands.specs.Jobs.{GoesOnFromBlock, IsNamed, Does, IsDone
 ghost use Rattle.des_commands.specs.JobFaults.{Stops, HasStopped};
 
 use crate::fault::FaultKind;
-use crate::stream_request::{BlockRange, Cipher};
+use crate::stream_request::{Cipher, Job, Work};
 use des::cipher::{KeyBytes, KeyedCipher, are_bytes};
 use des_fast::many::ManyBlocks;
 use des_fast::{Des, TdesEde2, TdesEde3};
 use des_io::pieces::write_whole;
 use des_io::{
-    Mode, Padding, StreamError, Transformation, decrypt_part, decrypt_stream, encrypt_stream,
-    skip_blocks,
+    Mode, StreamError, Transformation, decrypt_part, decrypt_stream, encrypt_stream, skip_blocks,
 };
 use std::alloc::Global;
 use std::io::{Read, Write};
 
 // The blocks that go through the cipher at a time: 64 KiB.
 const BLOCKS_AT_A_TIME: usize = 8192;
-
-/// What is done with the bytes of a stream.
-#[derive(Clone, Copy)]
-pub struct Job<'a> {
-    pub cipher: Cipher,
-    /// The key, of the bytes that the cipher takes.
-    pub key: &'a [u8],
-    /// The mode of the first block that is read: ECB, or CBC from a vector.
-    pub mode: Mode,
-    pub padding: Padding,
-    pub work: Work<'a>,
-}
-
-/// The direction of a stream, and what goes before it.
-#[derive(Clone, Copy)]
-pub enum Work<'a> {
-    /// Encrypts. These bytes are written first: a random vector, or `Salted__` and a salt.
-    Encrypt {
-        heading: &'a [u8],
-    },
-    /// Decrypts, after so many blocks that are read and passed over, the whole or a part.
-    Decrypt {
-        skipped: u64,
-        part: Option<BlockRange>,
-    },
-}
 
 // Does a job by a cipher.
 fn run_in<C: ManyBlocks, R: Read, W: Write>(

@@ -4,7 +4,7 @@ use Rattle.des_passwords.specs.Derivations.{derived}
 use Rattle.des_commands.specs.declared.fault.FaultKind.{FaultKind}
 use Rattle.des_commands.specs.declared.notices.Notice.{Notice}
 use Rattle.des_commands.specs.declared.password_streams.PasswordJob.{PasswordJob}
-use Rattle.des_commands.specs.declared.streams.Job.{Job}
+use Rattle.des_commands.specs.declared.stream_request.Job.{Job}
 use Rattle.des_commands.specs.Jobs.{key_size_of}
 use Rattle.des_commands.specs.Notices.{IsRuledBy}
 use Rattle.des_commands.specs.PasswordStreams.{salt_bytes, IsStreamOf, TellsOfKey}
