@@ -3,199 +3,34 @@
 mod argument_values;
 mod grammar;
 mod key_blocks;
+mod misuse;
 mod passwords;
 mod payment;
+mod requests;
+mod sources;
 pub mod streams;
 mod table;
 
-ghost use Rattle.std.specs.Prelude.{◌≡◌, ◌<◌, ◌≤◌, ℕ, List, Option, true, false, length, filter, IfOk, IfErr, Some};
+ghost use Rattle.std.specs.Prelude.{ℕ, List, Option, IfOk};
 ghost use Rattle.clap.specs.Matches.{subcommand_name_of};
-ghost use Rattle.des_commands.specs.declared.fault.FaultKind.TheVariants.{Usage};
-ghost use Rattle.des_commands.specs.declared.fault.Misuse.TheVariants.{StandardInputTwice};
-ghost use Rattle.des_commands.specs.StreamArguments.{IsInput, IsReadTwice};
-ghost use Rattle.des_commands.specs.CommandArguments.{HasDirectionOf, is_standard_input as is_standard_input_of, source_of as source_of_account, standard_inputs};
+ghost use Rattle.des_commands.specs.CommandArguments.{HasDirectionOf};
 
-use crate::command::{
-    Account, Calculation, CalculationRequest, Command, MacRequest, Purpose, Question,
-};
-use crate::fault::{Fault, FaultKind, Misuse};
+use crate::command::{Calculation, Command, MacRequest, Purpose, Question};
+use crate::fault::{Fault, Misuse};
 use crate::mac::{Method, PaddingMethod};
-use crate::text_source::Source;
-use argument_values::{count_of, is_given, is_set, number_of, place_of, text_of, texts_of};
+use argument_values::{count_of, is_set, place_of, text_of, texts_of};
 use clap::ArgMatches;
 use des_payment::dukpt::MessageDirection;
 pub use grammar::{known_name, names_of, parse};
 use key_blocks::key_block_request;
+use misuse::{misuse, refuse};
 use passwords::private_key_request;
 use payment::{emv_request, offset_request, pin_request, pvv_request};
-use streams::{input_of, stream_request};
-
-/// The request of a calculation, or the fault of its words.
-pub(crate) type Requested<'a> = Result<CalculationRequest<'a>, Fault<'a>>;
-
-// The options that name where a key is: a file, a descriptor and a variable, as `one_of` takes them.
-const KEY: [&str; 3] = ["key-file", "key-fd", "key-env"];
-
-// Options that don't go together.
-fn misuse<'a>(misuse: Misuse, about: &'a str) -> Fault<'a>
-    ensures { result.kind ≡ Usage misuse }
-{
-    Fault {
-        kind: FaultKind::Usage(misuse),
-        about,
-    }
-}
-
-// The file of a path, or standard input, by the names that the system gives it.
-pub(crate) fn file_of<'a>(path: &'a str) -> Source<'a>
-    ensures { IsInput (Some path.entry) result }
-{
-    match path {
-        "-" | "/dev/stdin" | "/dev/fd/0" | "/proc/self/fd/0" => Source::StandardInput,
-        _ => Source::File(path),
-    }
-}
-
-// The fault, if the options don't go together.
-fn refuse<'a>(is_misuse: bool, fault: Misuse) -> Result<(), Fault<'a>>
-    ensures passed { IfOk result (λ _. is_misuse ≡ false) }
-    ensures fault { IfErr result (λ refused. (is_misuse ≡ true) × (refused.kind ≡ Usage fault)) }
-{
-    if is_misuse {
-        return Err(misuse(fault, ""));
-    }
-    Ok(())
-}
-
-// The one of three places that options name: a file, a descriptor and a variable.
-fn one_of<'a>(
-    matches: &ArgMatches<'a>,
-    names: [&str; 3],
-    fault: Misuse,
-) -> Result<Source<'a>, Fault<'a>> {
-    let file = text_of(matches, names[0]);
-    let descriptor = number_of(matches, names[1]);
-    let variable = text_of(matches, names[2]);
-    match (file, descriptor, variable) {
-        (Some(path), None, None) => Ok(file_of(path)),
-        (None, Some(0), None) => Ok(Source::StandardInput),
-        (None, Some(number), None) => Ok(Source::Descriptor(number)),
-        (None, None, Some(name)) => Ok(Source::Variable(name)),
-        _ => Err(misuse(fault, "")),
-    }
-}
-
-// Whether one of the options is given.
-fn names_one(matches: &ArgMatches, names: [&str; 3]) -> bool {
-    names.iter().any(|name| is_given(matches, name))
-}
-
-// Where the key is, of a command that takes no password.
-fn key_of<'a>(matches: &ArgMatches<'a>) -> Result<Source<'a>, Fault<'a>> {
-    one_of(matches, KEY, Misuse::KeySource)
-}
-
-// Where the input is that an option names: in a file, or on standard input without the option.
-fn input_at<'a>(matches: &ArgMatches<'a>, name: &str) -> Source<'a> {
-    input_of(text_of(matches, name))
-}
-
-// Where the account number is: one place.
-fn account_of<'a>(matches: &ArgMatches<'a>) -> Result<Account<'a>, Fault<'a>> {
-    let file = text_of(matches, "account-file");
-    match (text_of(matches, "account"), file) {
-        (Some(digits), None) => Ok(Account::Digits(digits)),
-        (None, Some(path)) => Ok(Account::In(file_of(path))),
-        _ => Err(misuse(Misuse::Account, "")),
-    }
-}
-
-// Standard input is the place of one of two inputs at most.
-fn read_once<'a>(first: Source, second: Source) -> Result<(), Fault<'a>>
-    ensures once { IfOk result (λ _. ¬ IsReadTwice first.entry second.entry) }
-    ensures fault { IfErr result (λ fault.
-        IsReadTwice first.entry second.entry × (fault.kind ≡ Usage StandardInputTwice)) }
-{
-    match (first, second) {
-        (Source::StandardInput, Source::StandardInput) => {
-            Err(misuse(Misuse::StandardInputTwice, ""))
-        }
-        _ => Ok(()),
-    }
-}
-
-fn is_standard_input(source: Option<Source>) -> bool
-    ensures { result ≡ is_standard_input_of source.entry }
-{
-    matches!(source, Some(Source::StandardInput))
-}
-
-fn count_standard_inputs(sources: &[Option<Source>]) -> usize
-    ensures { result ≡ length (filter is_standard_input_of sources.now) }
-{
-    sources.iter().filter(|it| is_standard_input(**it)).count()
-}
-
-// Where an account number is, if it is no argument.
-fn source_of<'a>(account: Account<'a>) -> Option<Source<'a>>
-    ensures { result ≡ source_of_account account.entry }
-{
-    match account {
-        Account::In(source) => Some(source),
-        _ => None,
-    }
-}
-
-// ---- calculations
-
-/// The request of a calculation by its input alone.
-pub(crate) fn by_input<'a>(
-    calculation: Calculation<'a>,
-    input: Source<'a>,
-) -> CalculationRequest<'a> {
-    CalculationRequest {
-        calculation,
-        input,
-        key: None,
-        to_key: None,
-        account: Account::Absent,
-        refuses_wrong_check_digit: false,
-    }
-}
-
-// The request of a calculation whose input is the key.
-fn by_key<'a>(calculation: Calculation<'a>, matches: &ArgMatches<'a>) -> Requested<'a> {
-    Ok(by_input(calculation, key_of(matches)?))
-}
-
-// The request, unless it reads standard input twice.
-fn read_each_once<'a>(request: CalculationRequest<'a>) -> Requested<'a>
-    ensures once { IfOk result (λ read. (read ≡ request.entry) × (standard_inputs request.entry ≤ 1)) }
-    ensures fault { IfErr result (λ fault.
-        (1 < standard_inputs request.entry) × (fault.kind ≡ Usage StandardInputTwice)) }
-{
-    let account = source_of(request.account);
-    let sources = [account, request.key, request.to_key, Some(request.input)];
-    if count_standard_inputs(&sources) > 1 {
-        return Err(misuse(Misuse::StandardInputTwice, ""));
-    }
-    Ok(request)
-}
-
-// The request with the account number of the options.
-fn with_account<'a>(request: CalculationRequest<'a>, matches: &ArgMatches<'a>) -> Requested<'a> {
-    read_each_once(CalculationRequest {
-        account: account_of(matches)?,
-        refuses_wrong_check_digit: text_of(matches, "check-digit") == Some("refuse"),
-        ..request
-    })
-}
-
-// The request with a key beside its input.
-fn with_key<'a>(request: CalculationRequest<'a>, key: Source<'a>) -> Requested<'a> {
-    let key = Some(key);
-    read_each_once(CalculationRequest { key, ..request })
-}
+pub use requests::by_input;
+use requests::{Requested, by_key, with_account};
+pub use sources::file_of;
+use sources::{KEY, input_at, is_standard_input, key_of, names_one, read_once};
+use streams::stream_request;
 
 // ---- mac
 

@@ -1,7 +1,9 @@
 //! What the words of `key-block` ask for.
 
 use super::argument_values::{place_of, text_of};
-use super::{Requested, by_input, by_key, input_at, misuse, one_of, with_key};
+use super::misuse::misuse;
+use super::requests::{Requested, by_input, by_key, with_key};
+use super::sources::{input_at, one_of};
 use crate::command::{Calculation, CalculationRequest, KeyBlockCalculation, Wrapping};
 use crate::fault::Misuse;
 use clap::ArgMatches;

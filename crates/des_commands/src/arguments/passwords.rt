@@ -6,8 +6,9 @@ ghost use Rattle.des_commands.specs.PasswordArguments.{IsCount, IsCountedText, I
 ghost use Rattle.des_commands.specs.Faults.{FailsOnlyBy};
 
 use super::argument_values::{is_given, is_set, text_of};
+use super::misuse::{misuse, refuse};
+use super::sources::{KEY, input_at, names_one, one_of, read_once};
 use super::streams::output_of;
-use super::{KEY, input_at, misuse, names_one, one_of, read_once, refuse};
 use crate::command::{KeyForm, PrivateKeyRequest};
 use crate::fault::{Fault, FaultKind, Misuse};
 use crate::stream_request::{Password, Secret};

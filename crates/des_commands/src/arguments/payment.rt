@@ -1,9 +1,9 @@
 //! What the words of `pin`, `pvv`, `offset` and `emv` ask for.
 
 use super::argument_values::{count_of, is_given, is_set, place_of, text_of};
-use super::{
-    Requested, by_input, by_key, input_at, key_of, misuse, one_of, with_account, with_key,
-};
+use super::misuse::misuse;
+use super::requests::{Requested, by_input, by_key, with_account, with_key};
+use super::sources::{input_at, key_of, one_of};
 use crate::command::{
     Calculation, CalculationRequest, CardKeyOption, EmvCalculation, NaturalPins, PinCalculation,
 };

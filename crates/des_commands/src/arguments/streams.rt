@@ -7,18 +7,18 @@ ghost use Rattle.des_commands.specs.declared.stream_request.WeakKeys.{WeakKeys a
 ghost use Rattle.des_commands.specs.declared.fault.FaultKind.TheVariants.{Usage};
 ghost use Rattle.des_commands.specs.declared.fault.Misuse.TheVariants.{Arguments};
 ghost use Rattle.des_commands.specs.StreamArguments.{cipher_name, padding_word, weak_keys_word, default_weak_keys, text_or, part_for};
-ghost use Rattle.des_commands.specs.StreamArguments.{IsVector, FailsAsVector, IsMode, FailsAsMode, IsInput, IsOutput};
+ghost use Rattle.des_commands.specs.StreamArguments.{IsVector, FailsAsVector, IsMode, FailsAsMode, IsOutput};
 ghost use Rattle.des_commands.specs.StreamArguments.{IsRequest, FailsAsRequest};
 
 use super::argument_values::{is_set, number_of, place_of, text_of};
+use super::misuse::misuse;
 use super::passwords::secret_of;
-use super::{file_of, misuse, read_once};
+use super::sources::{input_of, read_once};
 use crate::digits::bytes_of;
 use crate::fault::{Fault, FaultKind, Misuse};
 use crate::stream_request::{
     BlockRange, Cipher, Coding, Output, Secret, StreamMode, StreamRequest, Vector, WeakKeys,
 };
-use crate::text_source::Source;
 use clap::ArgMatches;
 use des_io::Padding;
 
@@ -139,16 +139,6 @@ pub fn part_of(
         _ if encrypts => Err(FaultKind::Usage(Misuse::PartToEncrypt)),
         (Some(from), count) => Ok(Some(BlockRange { from, count })),
         (None, count) => Ok(Some(BlockRange { from: 0, count })),
-    }
-}
-
-/// Where the input is: in a file, or on standard input, as `-` or no path asks for.
-pub fn input_of<'a>(path: Option<&'a str>) -> Source<'a>
-    ensures { IsInput path.entry result }
-{
-    match path {
-        Some(path) => file_of(path),
-        None => Source::StandardInput,
     }
 }
 
