@@ -7,8 +7,7 @@ ghost use Rattle.des_commands.specs.Faults.{FailsOnlyBy};
 
 use super::argument_values::{is_given, is_set, text_of};
 use super::misuse::{misuse, refuse};
-use super::sources::{KEY, input_at, names_one, one_of, read_once};
-use super::streams::output_of;
+use super::sources::{KEY, input_at, names_one, one_of, output_of, read_once};
 use crate::command::{KeyForm, PrivateKeyRequest};
 use crate::fault::{Fault, FaultKind, Misuse};
 use crate::stream_request::{Password, Secret};

@@ -1,14 +1,15 @@
-//! Where keys and inputs are, by the options that name them.
+//! Where keys and inputs are, and where the output goes, by the options that name them.
 
 ghost use Rattle.std.specs.Prelude.{◌≡◌, Some, IfOk, IfErr};
 ghost use Rattle.des_commands.specs.declared.fault.FaultKind.TheVariants.{Usage};
 ghost use Rattle.des_commands.specs.declared.fault.Misuse.TheVariants.{StandardInputTwice};
-ghost use Rattle.des_commands.specs.StreamArguments.{IsInput, IsReadTwice};
+ghost use Rattle.des_commands.specs.StreamArguments.{IsInput, IsOutput, IsReadTwice};
 ghost use Rattle.des_commands.specs.CommandArguments.{is_standard_input as is_standard_input_of};
 
 use super::argument_values::{is_given, number_of, text_of};
 use super::misuse::misuse;
 use crate::fault::{Fault, Misuse};
+use crate::stream_request::Output;
 use crate::text_source::Source;
 use clap::ArgMatches;
 
@@ -66,6 +67,17 @@ pub fn input_of<'a>(path: Option<&'a str>) -> Source<'a>
 /// Where the input is that an option names: in a file, or on standard input without the option.
 pub fn input_at<'a>(matches: &ArgMatches<'a>, name: &str) -> Source<'a> {
     input_of(text_of(matches, name))
+}
+
+/// Where the output goes: to a file, to standard output, as `-` asks for, or to no named place.
+pub fn output_of<'a>(path: Option<&'a str>) -> Output<'a>
+    ensures { IsOutput path.entry result }
+{
+    match path {
+        Some("-") => Output::StandardOutput,
+        Some(path) => Output::File(path),
+        None => Output::Unnamed,
+    }
 }
 
 /// Standard input is the place of one of two inputs at most.

@@ -7,17 +7,17 @@ ghost use Rattle.des_commands.specs.declared.stream_request.WeakKeys.{WeakKeys a
 ghost use Rattle.des_commands.specs.declared.fault.FaultKind.TheVariants.{Usage};
 ghost use Rattle.des_commands.specs.declared.fault.Misuse.TheVariants.{Arguments};
 ghost use Rattle.des_commands.specs.StreamArguments.{cipher_name, padding_word, weak_keys_word, default_weak_keys, text_or, part_for};
-ghost use Rattle.des_commands.specs.StreamArguments.{IsVector, FailsAsVector, IsMode, FailsAsMode, IsOutput};
+ghost use Rattle.des_commands.specs.StreamArguments.{IsVector, FailsAsVector, IsMode, FailsAsMode};
 ghost use Rattle.des_commands.specs.StreamArguments.{IsRequest, FailsAsRequest};
 
 use super::argument_values::{is_set, number_of, place_of, text_of};
 use super::misuse::misuse;
 use super::passwords::secret_of;
-use super::sources::{input_of, read_once};
+use super::sources::{input_of, output_of, read_once};
 use crate::digits::bytes_of;
 use crate::fault::{Fault, FaultKind, Misuse};
 use crate::stream_request::{
-    BlockRange, Cipher, Coding, Output, Secret, StreamMode, StreamRequest, Vector, WeakKeys,
+    BlockRange, Cipher, Coding, Secret, StreamMode, StreamRequest, Vector, WeakKeys,
 };
 use clap::ArgMatches;
 use des_io::Padding;
@@ -139,17 +139,6 @@ pub fn part_of(
         _ if encrypts => Err(FaultKind::Usage(Misuse::PartToEncrypt)),
         (Some(from), count) => Ok(Some(BlockRange { from, count })),
         (None, count) => Ok(Some(BlockRange { from: 0, count })),
-    }
-}
-
-/// Where the output goes: to a file, to standard output, as `-` asks for, or to no named place.
-pub fn output_of<'a>(path: Option<&'a str>) -> Output<'a>
-    ensures { IsOutput path.entry result }
-{
-    match path {
-        Some("-") => Output::StandardOutput,
-        Some(path) => Output::File(path),
-        None => Output::Unnamed,
     }
 }
 
