@@ -650,32 +650,54 @@ CUKVASHE_CHECK int cukvashe_combine_24(const uint8_t first[24], const uint8_t se
  * DUKPT with triple DES (ANSI X9.24-1:2009), the host's side. Keys have 16 bytes, key serial numbers (KSN) ten, of
  * which the last 21 bits are the transaction counter. Before a shorter one put bytes FF.
  *
- * initial_key makes a terminal's initial key (IK, IPEK) from the base derivation key (BDK) and any of the terminal's
- * key serial numbers; the counter plays no part. transaction_key makes the transaction's key from the initial key and
- * the transaction's key serial number. From that key, which encrypts nothing itself, pin_key makes the key of PIN
- * blocks, mac_key and data_key those that authenticate and encrypt data of the request or, if `is_response`, of the
- * response. data_variant leaves out the last step of data_key, as some terminals do: its key reveals the transaction's
- * other keys.
- *
- * transaction_keys_from_base takes the base derivation key, not the initial key, and writes for each of `count` key
- * serial numbers, one after the other, what transaction_key makes of initial_key. Errors of transaction_keys_from_base:
- * CUKVASHE_ERR_COUNTS if `serials_length` or `keys_length` is not that of `count` key serial numbers or keys.
- *
  * A transaction's counter is not 0 and has at most ten one bits: is_usable says whether that holds. The other counters
  * have keys here too, counter 0 the initial key itself: so ask is_usable of each key serial number that you are sent.
  * next_serial gives the next usable one. Errors of next_serial: CUKVASHE_ERR_NO_SERIAL.
  */
+CUKVASHE_CHECK bool cukvashe_dukpt_is_usable(const uint8_t serial[10]);
+CUKVASHE_CHECK int cukvashe_dukpt_next_serial(const uint8_t serial[10], uint8_t next[10]);
+
+/*
+ * The initial key of a terminal, from the base derivation key and any of the terminal's key serial numbers, whose
+ * counter plays no part.
+ */
 void cukvashe_dukpt_initial_key(const uint8_t base[16], const uint8_t serial[10], uint8_t key[16]);
+
+/*
+ * The key of a transaction, which encrypts nothing itself, from the terminal's initial key, not the base derivation key,
+ * and the transaction's key serial number. It takes every counter: ask first whether a transaction has this one.
+ */
 void cukvashe_dukpt_transaction_key(const uint8_t initial[16], const uint8_t serial[10], uint8_t key[16]);
+
+/*
+ * transaction_keys_from_base takes the base derivation key, not the initial key, and writes for each of `count` key
+ * serial numbers, one after the other, what transaction_key makes of initial_key. Errors: CUKVASHE_ERR_COUNTS if
+ * `serials_length` or `keys_length` is not that of `count` key serial numbers or keys.
+ */
 CUKVASHE_CHECK int cukvashe_dukpt_transaction_keys_from_base(const uint8_t base[16], const uint8_t *serials,
                                                              size_t serials_length, uint8_t *keys, size_t keys_length,
                                                              size_t count);
+
+/*
+ * The key that encrypts PIN blocks, from the transaction's key.
+ */
 void cukvashe_dukpt_pin_key(const uint8_t transaction[16], uint8_t key[16]);
+
+/*
+ * The key that authenticates the request, or the response, from the transaction's key.
+ */
 void cukvashe_dukpt_mac_key(const uint8_t transaction[16], bool is_response, uint8_t key[16]);
+
+/*
+ * The key that encrypts the data of the request, or of the response, from the transaction's key.
+ */
 void cukvashe_dukpt_data_key(const uint8_t transaction[16], bool is_response, uint8_t key[16]);
+
+/*
+ * The key that encrypts the data, made without the last step: some terminals take it. It reveals the transaction's other
+ * keys.
+ */
 void cukvashe_dukpt_data_variant(const uint8_t transaction[16], bool is_response, uint8_t key[16]);
-CUKVASHE_CHECK bool cukvashe_dukpt_is_usable(const uint8_t serial[10]);
-CUKVASHE_CHECK int cukvashe_dukpt_next_serial(const uint8_t serial[10], uint8_t next[10]);
 
 /*
  * KEYS OF A TRANSACTION IN THE TERMINAL (DUKPT)

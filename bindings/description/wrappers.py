@@ -1,5 +1,5 @@
-"""The calls of Python, Rust and JavaScript that are made of the header: each has there a comment of its own, takes keys, texts and bytes,
-and writes one array. The first sentences of its comment, before its errors, say in each language what it gives."""
+"""The calls of Python, Rust and JavaScript that are made of the header: each has there a comment of its own, takes keys, texts, bytes and the
+word for a response, and writes one array. The first sentences of its comment, before its errors, say in each language what it gives."""
 
 import re
 import textwrap
@@ -15,7 +15,7 @@ from .statuses import capitalized, errors, short
 WHAT = {
     "account": "an account number", "block": "the block of a session", "code": "a response code", "counter": "a transaction counter",
     "cryptogram": "an application cryptogram", "data": "data", "expiry": "an expiry date", "sequence": "a sequence number",
-    "service": "a service code", "status": "a card status update",
+    "serial": "a key serial number", "service": "a service code", "status": "a card status update",
 }  # fmt: skip
 # Bytes that may be left out.
 OPTIONAL = {"emv_response_2.data"}
@@ -31,6 +31,7 @@ NOTES = {
 # for several modules.
 ACCOUNT = "the account number does not have {} to 19 digits"
 MODULES = {
+    "dukpt_": ("bindings/rust/src/payment.rs", None, {}),
     "emv_": ("bindings/rust/src/payment/emv.rs", "EmvError", {"ACCOUNT_LENGTH": ACCOUNT.format(8)}),
     "cvv": ("bindings/rust/src/payment/card_verification.rs", "CvvError", {"ACCOUNT_LENGTH": ACCOUNT.format(12)}),
 }
@@ -38,7 +39,7 @@ MODULES = {
 
 @dataclass(frozen=True)
 class Argument:
-    """What a caller gives: its name, its kind, `key`, `array`, `text` or `bytes`, and the size of a key or an array."""
+    """What a caller gives: its name, its kind, `key`, `array`, `text`, `bytes` or `response`, and the size of a key or an array."""
 
     name: str
     kind: str
@@ -51,7 +52,8 @@ class Argument:
     @property
     def fault(self):
         """The error of another length."""
-        return {"key": "KeyLength", "array": "BlockLength" if self.size == 8 else "DataLength"}.get(self.kind)
+        of_array = "SerialLength" if self.name == "serial" else "BlockLength" if self.size == 8 else "DataLength"
+        return {"key": "KeyLength", "array": of_array}.get(self.kind)
 
 
 class Wrapped:
@@ -70,7 +72,7 @@ class Wrapped:
     def _argument(it, stack):
         if it.type.sizes:
             return Argument(it.name, "key" if it.name in stack.secrets else "array", it.type.sizes[0])
-        return Argument(it.name, "text" if it.type.base == "char" else "bytes", 0)
+        return Argument(it.name, {"char": "text", "bool": "response"}.get(it.type.base, "bytes"), 0)
 
     def is_optional(self, argument):
         return f"{self.name}.{argument.name}" in OPTIONAL
@@ -91,8 +93,8 @@ def is_plain(call):
     *given, last = call.parameters or [None]
     if last is None or call.result.base not in ("int", "void") or not last.type.sizes or last.type.is_const:
         return False
-    are_read = all(it.type.is_const if it.type.is_pointer else it.type.base == "size_t" for it in given)
-    return are_read and all(it.type.base in ("uint8_t", "char", "size_t") for it in call.parameters)
+    are_read = all(it.type.is_const if it.type.is_pointer else it.type.base == "size_t" or it.name == "is_response" for it in given)
+    return are_read and all(it.type.base in ("uint8_t", "char", "size_t", "bool") for it in call.parameters)
 
 
 def wrapped(header, stack, read_errors):
@@ -122,8 +124,9 @@ def python_with(managers, body):
 
 
 def python_call(it, names):
-    types = [f"{one.name}: {'Text' if one.kind == 'text' else 'ReadableBuffer'}" for one in it.arguments]
-    given = ", ".join(f'{kind} = b""' if it.is_optional(one) else kind for one, kind in zip(it.arguments, types))
+    types = {"text": "Text", "response": "bool = False"}
+    ends = [' = b""' if it.is_optional(one) else "" for one in it.arguments]
+    given = ", ".join(f"{one.name}: {types.get(one.kind, 'ReadableBuffer')}{end}" for one, end in zip(it.arguments, ends))
     yield from ["", "", f"def {it.name}({given}) -> {'str' if it.is_text else 'bytes'}:"]
     yield from (f"    {line}" for line in textwrap.wrap(f'"""{it.sentence("python", names)}"""', 126, break_on_hyphens=False))
     managers, words = [], []
@@ -133,6 +136,9 @@ def python_call(it, names):
             words.append(f"held_{one.name}" if one.kind == "key" else f"*held_{one.name}")
         elif one.kind == "array":
             yield f'    taken_{one.name} = data_of({one.name}, {one.size}, "{one.what} has", {one.fault}Error)'
+            words.append(f"taken_{one.name}")
+        elif one.kind == "response":
+            yield f"    taken_{one.name} = response_of({one.name})"
             words.append(f"taken_{one.name}")
         else:
             yield f"    taken_{one.name} = bytes_of({one.name})"
@@ -146,12 +152,13 @@ def python_call(it, names):
 def of_python(header, stack, read_errors):
     calls, names = list(wrapped(header, stack, read_errors)), list(errors(header))
     faults = sorted({f"{one.fault}Error" for it in calls for one in it.arguments if one.fault and one.kind == "array"})
-    yield '"""Card verification values, and card cryptograms (EMV 4.3, Book 2), the issuer\'s side: made of the header by bindings/describe."""'
+    yield '"""Keys of a transaction (DUKPT), card verification values, and card cryptograms (EMV): made of the header by bindings/describe."""'
     yield ""
     yield "from __future__ import annotations"
     yield ""
     yield "from ._data import bytes_from, bytes_of, data_of, key_of, room, text_from, text_of"
     yield f"from ._faults import {', '.join([*faults, 'check'])}"
+    yield "from ._keys import response_of"
     yield "from ._library import function"
     yield "from ._types import ReadableBuffer, Text"
     yield ""
@@ -162,7 +169,7 @@ def of_python(header, stack, read_errors):
 
 def imports(header, stack, read_errors):
     """The import of the calls that are made."""
-    yield "from ._cards import ("
+    yield "from ._made import ("
     yield from (f"    {name}," for name in sorted(it.name for it in wrapped(header, stack, read_errors)))
     yield ")"
 
@@ -172,7 +179,8 @@ def imports(header, stack, read_errors):
 
 def of_javascript(header, stack, read_errors, exports):
     for it in wrapped(header, stack, read_errors):
-        taken = [f"{one.name}{' = new Uint8Array()' if it.is_optional(one) else ''}" for one in it.arguments]
+        ends = [" = new Uint8Array()" if it.is_optional(one) else " = false" if one.kind == "response" else "" for one in it.arguments]
+        taken = [f"{camel(one.name)}{end}" for one, end in zip(it.arguments, ends)]
         yield from ["", f"export function {camel(it.name)}({', '.join([*taken, '...more'])}) {{", "  refuseMore(more);", "  const given = {"]
         # Of two faults the same one is found as in Python, which looks at keys and texts last, since it wipes their copies.
         pairs = sorted(zip(it.arguments, exports[it.name].pairs), key=lambda pair: pair[0].kind in ("key", "text"))
@@ -182,9 +190,20 @@ def of_javascript(header, stack, read_errors, exports):
                 "array": f'dataOf({one.name}, {one.size}, "{one.what}", "has", {one.fault})',
                 "text": f'textOf({one.name}, "{one.what}")',
                 "bytes": f'bytesOf({one.name}, "{one.what}")',
+                "response": f"responseOf({camel(one.name)})",
             }
             yield f"    {camel(name)}: {how[one.kind]},"
         yield from ["  };", f'  return {"writtenText" if it.is_text else "written"}("{it.name}", given);', "}"]
+
+
+def of_tests(header, stack, read_errors):
+    """The rows of the tests' table of calls: right arguments, and which wrong types each takes too."""
+    for it in wrapped(header, stack, read_errors):
+        values = {"key": "PAIR", "bytes": "of(8)", "response": "true"}
+        right = [values.get(one.kind) or (f"of({one.size})" if one.size else BY_NAME[one.name]) for one in it.arguments]
+        kinds = {"text": "isText", "response": "(it) => it === undefined || it === true"}
+        wrong = ["(it) => it === undefined" if it.is_optional(one) else kinds.get(one.kind, "BYTES") for one in it.arguments]
+        yield f'    ["{camel(it.name)}", [{", ".join(right)}], [{", ".join(wrong)}]],'
 
 
 def of_types(header, stack, read_errors):
@@ -192,7 +211,9 @@ def of_types(header, stack, read_errors):
     for it in wrapped(header, stack, read_errors):
         lines = textwrap.wrap(it.sentence("javascript", names), 113, break_on_hyphens=False)
         yield from [f"/** {lines[0]} */"] if len(lines) == 1 else ["/**", *(f" * {line}" for line in lines), " */"]
-        taken = [f"{one.name}{'?' * it.is_optional(one)}: {'Digits' if one.kind == 'text' else 'Uint8Array'}" for one in it.arguments]
+        types = {"text": ": Digits", "response": "?: boolean"}
+        ends = ["?: Uint8Array" if it.is_optional(one) else types.get(one.kind, ": Uint8Array") for one in it.arguments]
+        taken = [f"{camel(one.name)}{end}" for one, end in zip(it.arguments, ends)]
         result = "string" if it.is_text else "Uint8Array"
         line = f"export function {camel(it.name)}({', '.join(taken)}): {result};"
         yield from [line] if len(line) <= 120 else [f"export function {camel(it.name)}(", f"  {', '.join(taken)},", f"): {result};"]
@@ -235,11 +256,17 @@ def rust_call(it, beginning, error):
     yield ""
     yield from textwrap.wrap(f"{it.said} {it.note('rust')}".strip(), 126, initial_indent="/// ", subsequent_indent="/// ", break_on_hyphens=False)
     yield from [] if it.returns_status else ["#[must_use]"]
-    taken = [f"{one.name}: &[u8; {one.size}]" if one.size else f"{one.name}: &[u8]" for one in it.arguments]
+    types = {"response": "message: Message"}
+    taken = [types.get(one.kind) or f"{one.name}: &[u8{f'; {one.size}' * bool(one.size)}]" for one in it.arguments]
     yield from rust_broken(f"pub fn {name}(", taken, f") -> {result} {{", "")
     yield f"    let mut made = [0; {it.size}];"
     pointer = {"text": ".as_ptr().cast()", "bytes": ".as_ptr()"}
-    given = [word for one in it.arguments for word in ([one.name] if one.size else [one.name + pointer[one.kind], f"{one.name}.len()"])]
+    given = []
+    for one in it.arguments:
+        if one.kind == "response":
+            given.append("message == Message::Response")
+        else:
+            given += [one.name] if one.size else [one.name + pointer[one.kind], f"{one.name}.len()"]
     call = f"ffi::cukvashe_{it.name}({', '.join([*given, '&mut made'])})"
     begin, line = "let status = " * it.returns_status, f"unsafe {{ {call} }};"
     if len(begin) + len(line) <= 116:
@@ -256,6 +283,15 @@ def rust_call(it, beginning, error):
     yield from [f"    checked(status, {made})" if it.returns_status else f"    {made}", "}"]
 
 
+def rust_uses(header, error, calls, own):
+    """What stands before the calls of a module whose calls have errors."""
+    used = ", ".join(sorted({name for it in calls for name in it.statuses} | {"OK"}))
+    listed = f"use crate::statuses::{{sentence, {used}}};"
+    lines = textwrap.wrap(f"sentence, {used},", 120, initial_indent="    ", subsequent_indent="    ")
+    lines = [listed] if len(listed) <= 120 else ["use crate::statuses::{", *lines, "};"]
+    return ["use crate::error::sentences;", "use crate::ffi;", *lines, "", *rust_errors(header, error, calls, own), ""]
+
+
 def of_rust(header, stack, read_errors):
     """By its place, what is made of each module."""
     calls = list(wrapped(header, stack, read_errors))
@@ -264,12 +300,7 @@ def of_rust(header, stack, read_errors):
             raise Refused(f"{PLACE}: bindings/description/wrappers.py has no module of Rust for cukvashe_{it.name}")
     for beginning, (place, error, own) in MODULES.items():
         found = [it for it in calls if it.name.startswith(beginning)]
-        used = sorted({name for it in found for name in it.statuses} | {"OK"})
-        lines = ["use crate::error::sentences;", "use crate::ffi;"]
-        listed = f"use crate::statuses::{{sentence, {', '.join(used)}}};"
-        filled = textwrap.wrap(f"sentence, {', '.join(used)},", 120, initial_indent="    ", subsequent_indent="    ")
-        lines += [listed] if len(listed) <= 120 else ["use crate::statuses::{", *filled, "};"]
-        lines += ["", *rust_errors(header, error, found, own), ""]
+        lines = rust_uses(header, error, found, own) if error else []
         lines += ["// SAFETY of each call below: the pointers are of references, those of texts and data good for their lengths, and don't"]
         lines += ["// overlap what is written."]
         yield place, [*lines, *(line for it in found for line in rust_call(it, beginning, error))]

@@ -290,26 +290,6 @@ export function combine(first: Uint8Array, second: Uint8Array, ...others: Uint8A
 
 // ---- Keys of a transaction: DUKPT with triple DES (ANSI X9.24-1:2009). Keys have 16 bytes, key serial numbers ten
 
-/** The initial key (IK, IPEK) of a terminal, from the base derivation key (BDK) and a key serial number (KSN).
- * KeyLength, SerialLength. */
-export function dukptInitialKey(base: Uint8Array, serial: Uint8Array): Uint8Array;
-/**
- * The key of a transaction, from the terminal's initial key, not the base derivation key, and the transaction's key
- * serial number. It takes every counter, and for 0 gives the initial key itself: ask dukptIsUsable first. KeyLength,
- * SerialLength.
- */
-export function dukptTransactionKey(initial: Uint8Array, serial: Uint8Array): Uint8Array;
-/** The key that encrypts PIN blocks, from the transaction's key. KeyLength. */
-export function dukptPinKey(transaction: Uint8Array): Uint8Array;
-/** The key that authenticates the request, or the response, from the transaction's key. KeyLength. */
-export function dukptMacKey(transaction: Uint8Array, isResponse?: boolean): Uint8Array;
-/** The key that encrypts the data of the request, or of the response, from the transaction's key. KeyLength. */
-export function dukptDataKey(transaction: Uint8Array, isResponse?: boolean): Uint8Array;
-/**
- * The key of dukptDataKey without its last step: some terminals encrypt data under it. It reveals the transaction's
- * other keys. KeyLength.
- */
-export function dukptDataVariant(transaction: Uint8Array, isResponse?: boolean): Uint8Array;
 /** The next key serial number with at most ten one bits in its counter, or null where there is none. SerialLength. */
 export function dukptNextSerial(serial: Uint8Array): Uint8Array | null;
 /**
@@ -424,9 +404,32 @@ export function pinOffsetVerify(
   key: Uint8Array, table: DecimalTable, validation: Uint8Array, pin: Digits, offset: Digits,
 ): true;
 
-// ---- Card verification values, and card cryptograms (EMV 4.3, Book 2), the issuer's side. Keys have 16 bytes
+// ---- Keys of a transaction (DUKPT), card verification values, and card cryptograms (EMV 4.3, Book 2), the issuer's
+// side. Keys have 16 bytes, key serial numbers ten
 
 // Calls like those of cukvashe_des.h: made of it by bindings/describe.
+/**
+ * The initial key of a terminal, from the base derivation key and any of the terminal's key serial numbers, whose
+ * counter plays no part. KeyLength, SerialLength.
+ */
+export function dukptInitialKey(base: Uint8Array, serial: Uint8Array): Uint8Array;
+/**
+ * The key of a transaction, which encrypts nothing itself, from the terminal's initial key, not the base derivation
+ * key, and the transaction's key serial number. It takes every counter: ask first whether a transaction has this
+ * one. KeyLength, SerialLength.
+ */
+export function dukptTransactionKey(initial: Uint8Array, serial: Uint8Array): Uint8Array;
+/** The key that encrypts PIN blocks, from the transaction's key. KeyLength. */
+export function dukptPinKey(transaction: Uint8Array): Uint8Array;
+/** The key that authenticates the request, or the response, from the transaction's key. KeyLength. */
+export function dukptMacKey(transaction: Uint8Array, isResponse?: boolean): Uint8Array;
+/** The key that encrypts the data of the request, or of the response, from the transaction's key. KeyLength. */
+export function dukptDataKey(transaction: Uint8Array, isResponse?: boolean): Uint8Array;
+/**
+ * The key that encrypts the data, made without the last step: some terminals take it. It reveals the transaction's
+ * other keys. KeyLength.
+ */
+export function dukptDataVariant(transaction: Uint8Array, isResponse?: boolean): Uint8Array;
 /**
  * The card verification value, three ASCII digits, under a key pair of 16 bytes, of an account number of 12 to 19
  * digits, an expiry date of four, in the order that the issuer takes, and a service code of three. KeyLength,

@@ -1044,47 +1044,6 @@ export function combine(first, second, ...others) {
 const SERIAL_SIZE = 10;
 const TRANSACTION_KEY_SIZE = 16;
 
-/** A key of a transaction. */
-const transactionKeyOf = (key) => keyOf(key, TRANSACTION_KEY_SIZE);
-
-export function dukptInitialKey(base, serial, ...more) {
-  refuseMore(more);
-  const number = serialOf(serial);
-  return written("dukpt_initial_key", { base: transactionKeyOf(base), serial: number });
-}
-
-export function dukptTransactionKey(initial, serial, ...more) {
-  refuseMore(more);
-  const number = serialOf(serial);
-  return written("dukpt_transaction_key", { initial: transactionKeyOf(initial), serial: number });
-}
-
-export function dukptPinKey(transaction, ...more) {
-  refuseMore(more);
-  return written("dukpt_pin_key", { transaction: transactionKeyOf(transaction) });
-}
-
-export function dukptMacKey(transaction, isResponse = false, ...more) {
-  refuseMore(more);
-  return keyOfMessage("dukpt_mac_key", transaction, isResponse);
-}
-
-export function dukptDataKey(transaction, isResponse = false, ...more) {
-  refuseMore(more);
-  return keyOfMessage("dukpt_data_key", transaction, isResponse);
-}
-
-export function dukptDataVariant(transaction, isResponse = false, ...more) {
-  refuseMore(more);
-  return keyOfMessage("dukpt_data_variant", transaction, isResponse);
-}
-
-/** The key for the request or the response. */
-function keyOfMessage(name, transaction, isResponse) {
-  const word = responseOf(isResponse);
-  return written(name, { transaction: transactionKeyOf(transaction), isResponse: word });
-}
-
 export function dukptNextSerial(serial, ...more) {
   refuseMore(more);
   const number = serialOf(serial);
@@ -1280,9 +1239,62 @@ export function pinOffsetVerify(key, table, validation, pin, offset, ...more) {
   return true;
 }
 
-// ---- Card verification values, and card cryptograms (EMV 4.3, Book 2), the issuer's side. Keys have 16 bytes
+// ---- Keys of a transaction, card verification values, and card cryptograms -------------------------------------------
 
 // Calls like those of cukvashe_des.h: made of it by bindings/describe.
+
+export function dukptInitialKey(base, serial, ...more) {
+  refuseMore(more);
+  const given = {
+    serial: dataOf(serial, 10, "a key serial number", "has", SerialLength),
+    base: keyOf(base, 16),
+  };
+  return written("dukpt_initial_key", given);
+}
+
+export function dukptTransactionKey(initial, serial, ...more) {
+  refuseMore(more);
+  const given = {
+    serial: dataOf(serial, 10, "a key serial number", "has", SerialLength),
+    initial: keyOf(initial, 16),
+  };
+  return written("dukpt_transaction_key", given);
+}
+
+export function dukptPinKey(transaction, ...more) {
+  refuseMore(more);
+  const given = {
+    transaction: keyOf(transaction, 16),
+  };
+  return written("dukpt_pin_key", given);
+}
+
+export function dukptMacKey(transaction, isResponse = false, ...more) {
+  refuseMore(more);
+  const given = {
+    isResponse: responseOf(isResponse),
+    transaction: keyOf(transaction, 16),
+  };
+  return written("dukpt_mac_key", given);
+}
+
+export function dukptDataKey(transaction, isResponse = false, ...more) {
+  refuseMore(more);
+  const given = {
+    isResponse: responseOf(isResponse),
+    transaction: keyOf(transaction, 16),
+  };
+  return written("dukpt_data_key", given);
+}
+
+export function dukptDataVariant(transaction, isResponse = false, ...more) {
+  refuseMore(more);
+  const given = {
+    isResponse: responseOf(isResponse),
+    transaction: keyOf(transaction, 16),
+  };
+  return written("dukpt_data_variant", given);
+}
 
 export function cvv(key, account, expiry, service, ...more) {
   refuseMore(more);

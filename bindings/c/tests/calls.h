@@ -204,6 +204,8 @@ static void call_tdes_ede3_check_values(void) { returned = cukvashe_tdes_ede3_ch
 static void call_combine_8(void) { returned = cukvashe_combine_8(key, others, others, 8, 1, (void *)rooms[0]); }
 static void call_combine_16(void) { returned = cukvashe_combine_16(key, others, others, 16, 1, (void *)rooms[0]); }
 static void call_combine_24(void) { returned = cukvashe_combine_24(key, others, others, 24, 1, (void *)rooms[0]); }
+static void call_dukpt_is_usable(void) { returned = cukvashe_dukpt_is_usable(serial); }
+static void call_dukpt_next_serial(void) { returned = cukvashe_dukpt_next_serial(serial, (void *)rooms[0]); }
 static void call_dukpt_initial_key(void) { cukvashe_dukpt_initial_key(key, serial, (void *)rooms[0]); }
 static void call_dukpt_transaction_key(void) { cukvashe_dukpt_transaction_key(key, serial, (void *)rooms[0]); }
 static void call_dukpt_transaction_keys_from_base(void) { returned = cukvashe_dukpt_transaction_keys_from_base(key,
@@ -212,8 +214,6 @@ static void call_dukpt_pin_key(void) { cukvashe_dukpt_pin_key(key, (void *)rooms
 static void call_dukpt_mac_key(void) { cukvashe_dukpt_mac_key(key, true, (void *)rooms[0]); }
 static void call_dukpt_data_key(void) { cukvashe_dukpt_data_key(key, true, (void *)rooms[0]); }
 static void call_dukpt_data_variant(void) { cukvashe_dukpt_data_variant(key, true, (void *)rooms[0]); }
-static void call_dukpt_is_usable(void) { returned = cukvashe_dukpt_is_usable(serial); }
-static void call_dukpt_next_serial(void) { returned = cukvashe_dukpt_next_serial(serial, (void *)rooms[0]); }
 static void call_dukpt_terminal_init(void) { cukvashe_dukpt_terminal_init(&terminal, key, serial); }
 static void call_dukpt_terminal_next_key(void) { returned = cukvashe_dukpt_terminal_next_key(&terminal,
     (void *)rooms[0], (void *)rooms[1]); }
@@ -440,6 +440,8 @@ static const struct call calls[] = {
     {"combine_8", call_combine_8, 6000, 1, 0, 0},
     {"combine_16", call_combine_16, 6000, 1, 0, 0},
     {"combine_24", call_combine_24, 6000, 1, 0, 0},
+    {"dukpt_is_usable", call_dukpt_is_usable, 6000, 0, 0, 0},
+    {"dukpt_next_serial", call_dukpt_next_serial, 6000, 0, 0, 0},
     {"dukpt_initial_key", call_dukpt_initial_key, 6000, 1, 0, 0},
     {"dukpt_transaction_key", call_dukpt_transaction_key, 6000, 1, 0, 0},
     {"dukpt_transaction_keys_from_base", call_dukpt_transaction_keys_from_base, 45000, 1, 1, 0},
@@ -447,8 +449,6 @@ static const struct call calls[] = {
     {"dukpt_mac_key", call_dukpt_mac_key, 6000, 1, 0, 0},
     {"dukpt_data_key", call_dukpt_data_key, 6000, 1, 0, 0},
     {"dukpt_data_variant", call_dukpt_data_variant, 6000, 1, 0, 0},
-    {"dukpt_is_usable", call_dukpt_is_usable, 6000, 0, 0, 0},
-    {"dukpt_next_serial", call_dukpt_next_serial, 6000, 0, 0, 0},
     {"dukpt_terminal_init", call_dukpt_terminal_init, 6000, 1, 0, 0},
     {"dukpt_terminal_next_key", call_dukpt_terminal_next_key, 6000, 1, 0, 0},
     {"pin_encode_0", call_pin_encode_0, 6000, 1, 0, 0},

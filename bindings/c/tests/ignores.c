@@ -108,9 +108,9 @@ void ignores(void) {
   cukvashe_combine_8(0, 0, 0, 0, 0, 0);
   cukvashe_combine_16(0, 0, 0, 0, 0, 0);
   cukvashe_combine_24(0, 0, 0, 0, 0, 0);
-  cukvashe_dukpt_transaction_keys_from_base(0, 0, 0, 0, 0, 0);
   cukvashe_dukpt_is_usable(0);
   cukvashe_dukpt_next_serial(0, 0);
+  cukvashe_dukpt_transaction_keys_from_base(0, 0, 0, 0, 0, 0);
   cukvashe_dukpt_terminal_next_key(0, 0, 0);
   cukvashe_pin_encode_0(0, 0, 0, 0, 0);
   cukvashe_pin_encode_1(0, 0, 0, 0);

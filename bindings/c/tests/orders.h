@@ -363,12 +363,12 @@ static int faulty_key_check_value(const bool *has) {
 static int faulty_short_key_check_value(const bool *has) {
   return cukvashe_short_key_check_value(key, has[0] ? 7 : 24, (void *)rooms[0]);
 }
+static int faulty_dukpt_next_serial(const bool *has) {
+  return cukvashe_dukpt_next_serial(has[0] ? last_serial : serial, (void *)rooms[0]);
+}
 static int faulty_dukpt_transaction_keys_from_base(const bool *has) {
   return cukvashe_dukpt_transaction_keys_from_base(key, blocks, 10 * count, (void *)rooms[0], 16 * count,
     has[0] ? count + 1 : count);
-}
-static int faulty_dukpt_next_serial(const bool *has) {
-  return cukvashe_dukpt_next_serial(has[0] ? last_serial : serial, (void *)rooms[0]);
 }
 static int faulty_dukpt_terminal_next_key(const bool *has) {
   return cukvashe_dukpt_terminal_next_key(has[0] ? (void *)no_bytes : &terminal, (void *)rooms[0], (void *)rooms[1]);
@@ -637,8 +637,8 @@ static const struct order orders[] = {
     {"tdes_ede3_check_value", faulty_tdes_ede3_check_value, {CUKVASHE_ERR_KEY_LENGTH}},
     {"key_check_value", faulty_key_check_value, {CUKVASHE_ERR_KEY_LENGTH}},
     {"short_key_check_value", faulty_short_key_check_value, {CUKVASHE_ERR_KEY_LENGTH}},
-    {"dukpt_transaction_keys_from_base", faulty_dukpt_transaction_keys_from_base, {CUKVASHE_ERR_COUNTS}},
     {"dukpt_next_serial", faulty_dukpt_next_serial, {CUKVASHE_ERR_NO_SERIAL}},
+    {"dukpt_transaction_keys_from_base", faulty_dukpt_transaction_keys_from_base, {CUKVASHE_ERR_COUNTS}},
     {"dukpt_terminal_next_key", faulty_dukpt_terminal_next_key, {CUKVASHE_ERR_NO_SERIAL}},
     {"pin_encode_0", faulty_pin_encode_0, {CUKVASHE_ERR_PIN_LENGTH, CUKVASHE_ERR_PIN_DIGIT, CUKVASHE_ERR_ACCOUNT_LENGTH,
     CUKVASHE_ERR_ACCOUNT_DIGIT}},

@@ -63,8 +63,14 @@ a `bytearray` you can overwrite.
 from __future__ import annotations
 
 # Calls like those of cukvashe_des.h: made of it by bindings/describe.
-from ._cards import (
+from ._made import (
     cvv,
+    dukpt_data_key,
+    dukpt_data_variant,
+    dukpt_initial_key,
+    dukpt_mac_key,
+    dukpt_pin_key,
+    dukpt_transaction_key,
     emv_application_cryptogram,
     emv_application_key,
     emv_card_key,
@@ -139,14 +145,8 @@ from ._key_blocks import (
 from ._keys import (
     check_value,
     combine,
-    dukpt_data_key,
-    dukpt_data_variant,
-    dukpt_initial_key,
     dukpt_is_usable,
-    dukpt_mac_key,
     dukpt_next_serial,
-    dukpt_pin_key,
-    dukpt_transaction_key,
     equal_but_parity,
     is_weak_key,
     key_check_value,

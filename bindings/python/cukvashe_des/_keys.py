@@ -18,12 +18,6 @@ _weak_key_test = function("weak_key_test")
 _set_odd_parity = function("set_odd_parity")
 _equal_but_parity = function("equal_but_parity")
 _combine = {size: function(f"combine_{size}") for size in KEY_SIZES}
-_initial_key = function("dukpt_initial_key")
-_transaction_key = function("dukpt_transaction_key")
-_pin_key = function("dukpt_pin_key")
-_mac_key = function("dukpt_mac_key")
-_data_key = function("dukpt_data_key")
-_data_variant = function("dukpt_data_variant")
 _key_check_value = function("key_check_value")
 _short_key_check_value = function("short_key_check_value")
 _next_serial = function("dukpt_next_serial")
@@ -104,52 +98,11 @@ def serial_of(serial: ReadableBuffer) -> bytes:
     return taken
 
 
-def made_of_key(call: Callable[..., Any], key: ReadableBuffer, *others: Any) -> bytes:
-    """A key of 16 bytes that a call makes of another."""
-    answer = room(16)
-    with key_of(key, 16) as held:
-        call(held, *others, answer)
-    return bytes_from(answer)
-
-
-def _response(is_response: bool) -> bool:
+def response_of(is_response: bool) -> bool:
     """The word for the message. Any other type would stand for the response, whatever it says."""
     if not isinstance(is_response, bool):
         raise TypeError("is_response is True or False")
     return is_response
-
-
-def dukpt_initial_key(base: ReadableBuffer, serial: ReadableBuffer) -> bytes:
-    """The initial key (IK, IPEK) of a terminal, from the base derivation key (BDK), 16 bytes, and a key serial number (KSN), ten (ANSI
-    X9.24-1:2009). KeyLengthError, SerialLengthError."""
-    return made_of_key(_initial_key, base, serial_of(serial))
-
-
-def dukpt_transaction_key(initial: ReadableBuffer, serial: ReadableBuffer) -> bytes:
-    """The key of a transaction, from the terminal's initial key (IK, IPEK) and the transaction's key serial number (KSN). It takes every
-    counter, and for 0 gives the initial key itself: ask dukpt_is_usable first. KeyLengthError, SerialLengthError."""
-    return made_of_key(_transaction_key, initial, serial_of(serial))
-
-
-def dukpt_pin_key(transaction: ReadableBuffer) -> bytes:
-    """The key that encrypts PIN blocks, from the transaction's key. KeyLengthError."""
-    return made_of_key(_pin_key, transaction)
-
-
-def dukpt_mac_key(transaction: ReadableBuffer, is_response: bool = False) -> bytes:
-    """The key that authenticates the request, or the response, from the transaction's key. KeyLengthError."""
-    return made_of_key(_mac_key, transaction, _response(is_response))
-
-
-def dukpt_data_key(transaction: ReadableBuffer, is_response: bool = False) -> bytes:
-    """The key that encrypts the data of the request, or of the response, from the transaction's key. KeyLengthError."""
-    return made_of_key(_data_key, transaction, _response(is_response))
-
-
-def dukpt_data_variant(transaction: ReadableBuffer, is_response: bool = False) -> bytes:
-    """The key of dukpt_data_key without its last step: some terminals encrypt data under it. It reveals the transaction's other
-    keys. KeyLengthError."""
-    return made_of_key(_data_variant, transaction, _response(is_response))
 
 
 def dukpt_next_serial(serial: ReadableBuffer) -> Optional[bytes]:

@@ -29,7 +29,6 @@ SERIAL = bytes.fromhex("ffff9876543210e00001")
 ACCOUNT = "4012345678909"
 DIGITS = bytes([15, 14, 0, 9, 10, 5, 1, 2, 3, 4])
 FILL = bytes([10, 11, 12, 13, 14, 15, 10, 11, 12, 13])
-CARD = ("4123456789012345", "8701", "101")
 
 # Another key; the PIN 1234 of ACCOUNT in format 0, and in format 1, encrypted under PAIR by OpenSSL; validation data, and the plain table.
 OTHER = bytes.fromhex("89e88cf7931444f334bd7547fc3f380c")

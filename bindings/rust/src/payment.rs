@@ -142,23 +142,6 @@ combine!(
 
 // SAFETY of each call below: the pointers are of references to arrays of the lengths that it takes, and don't overlap.
 
-/// The initial key (IK, IPEK) of a terminal, from the base derivation key (BDK) and a key serial number (KSN).
-#[must_use]
-pub fn initial_key(base: &[u8; 16], serial: &[u8; 10]) -> [u8; 16] {
-    let mut key = [0; 16];
-    unsafe { ffi::cukvashe_dukpt_initial_key(base, serial, &mut key) };
-    key
-}
-
-/// The key of a transaction, from the terminal's initial key (IK, IPEK) and the transaction's key serial number (KSN).
-/// It takes every counter, and for 0 gives the initial key itself: ask [`is_usable`] first.
-#[must_use]
-pub fn transaction_key(initial: &[u8; 16], serial: &[u8; 10]) -> [u8; 16] {
-    let mut key = [0; 16];
-    unsafe { ffi::cukvashe_dukpt_transaction_key(initial, serial, &mut key) };
-    key
-}
-
 /// Writes the key of the transaction of each key serial number at its place, from the base derivation key (BDK): what
 /// [`transaction_key`] makes of [`initial_key`]. Where serial numbers and keys differ in number, the keys stay. It takes every
 /// counter: ask [`is_usable`] first. Such a key encrypts nothing itself: take [`pin_key`], [`mac_key`] or [`data_key`] of it.
@@ -183,39 +166,6 @@ pub fn transaction_keys_from_base(
     Ok(())
 }
 
-/// The key that encrypts PIN blocks, from the transaction's key.
-#[must_use]
-pub fn pin_key(transaction: &[u8; 16]) -> [u8; 16] {
-    let mut key = [0; 16];
-    unsafe { ffi::cukvashe_dukpt_pin_key(transaction, &mut key) };
-    key
-}
-
-/// The key that authenticates a message, from the transaction's key.
-#[must_use]
-pub fn mac_key(transaction: &[u8; 16], message: MessageDirection) -> [u8; 16] {
-    let mut key = [0; 16];
-    unsafe { ffi::cukvashe_dukpt_mac_key(transaction, message == MessageDirection::Response, &mut key) };
-    key
-}
-
-/// The key that encrypts the data of a message, from the transaction's key.
-#[must_use]
-pub fn data_key(transaction: &[u8; 16], message: MessageDirection) -> [u8; 16] {
-    let mut key = [0; 16];
-    unsafe { ffi::cukvashe_dukpt_data_key(transaction, message == MessageDirection::Response, &mut key) };
-    key
-}
-
-/// The data variant of the transaction's key for a message: the key that [`data_key`] makes, without its last step. Some terminals
-/// encrypt data under it; it reveals the transaction's other keys.
-#[must_use]
-pub fn data_variant(transaction: &[u8; 16], message: MessageDirection) -> [u8; 16] {
-    let mut key = [0; 16];
-    unsafe { ffi::cukvashe_dukpt_data_variant(transaction, message == MessageDirection::Response, &mut key) };
-    key
-}
-
 /// Whether a transaction has this key serial number: its counter is not 0 and has at most ten one bits.
 #[must_use]
 pub fn is_usable(serial: &[u8; 10]) -> bool {
@@ -229,3 +179,59 @@ pub fn next_serial(serial: &[u8; 10]) -> Option<[u8; 10]> {
     let status = unsafe { ffi::cukvashe_dukpt_next_serial(serial, &mut next) };
     (status == OK).then_some(next)
 }
+
+// Calls like those of `cukvashe_des.h`: made of it by `bindings/describe`.
+// SAFETY of each call below: the pointers are of references, those of texts and data good for their lengths, and don't
+// overlap what is written.
+
+/// The initial key of a terminal, from the base derivation key and any of the terminal's key serial numbers, whose counter
+/// plays no part.
+#[must_use]
+pub fn initial_key(base: &[u8; 16], serial: &[u8; 10]) -> [u8; 16] {
+    let mut made = [0; 16];
+    unsafe { ffi::cukvashe_dukpt_initial_key(base, serial, &mut made) };
+    made
+}
+
+/// The key of a transaction, which encrypts nothing itself, from the terminal's initial key, not the base derivation key, and
+/// the transaction's key serial number. It takes every counter: ask first whether a transaction has this one.
+#[must_use]
+pub fn transaction_key(initial: &[u8; 16], serial: &[u8; 10]) -> [u8; 16] {
+    let mut made = [0; 16];
+    unsafe { ffi::cukvashe_dukpt_transaction_key(initial, serial, &mut made) };
+    made
+}
+
+/// The key that encrypts PIN blocks, from the transaction's key.
+#[must_use]
+pub fn pin_key(transaction: &[u8; 16]) -> [u8; 16] {
+    let mut made = [0; 16];
+    unsafe { ffi::cukvashe_dukpt_pin_key(transaction, &mut made) };
+    made
+}
+
+/// The key that authenticates the request, or the response, from the transaction's key.
+#[must_use]
+pub fn mac_key(transaction: &[u8; 16], message: Message) -> [u8; 16] {
+    let mut made = [0; 16];
+    unsafe { ffi::cukvashe_dukpt_mac_key(transaction, message == Message::Response, &mut made) };
+    made
+}
+
+/// The key that encrypts the data of the request, or of the response, from the transaction's key.
+#[must_use]
+pub fn data_key(transaction: &[u8; 16], message: Message) -> [u8; 16] {
+    let mut made = [0; 16];
+    unsafe { ffi::cukvashe_dukpt_data_key(transaction, message == Message::Response, &mut made) };
+    made
+}
+
+/// The key that encrypts the data, made without the last step: some terminals take it. It reveals the transaction's other
+/// keys.
+#[must_use]
+pub fn data_variant(transaction: &[u8; 16], message: Message) -> [u8; 16] {
+    let mut made = [0; 16];
+    unsafe { ffi::cukvashe_dukpt_data_variant(transaction, message == Message::Response, &mut made) };
+    made
+}
+// This ends what bindings/describe made.

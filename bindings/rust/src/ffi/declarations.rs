@@ -516,6 +516,8 @@ extern "C" {
         others_count: usize,
         key: *mut [u8; 24],
     ) -> c_int;
+    pub fn cukvashe_dukpt_is_usable(serial: *const [u8; 10]) -> bool;
+    pub fn cukvashe_dukpt_next_serial(serial: *const [u8; 10], next: *mut [u8; 10]) -> c_int;
     pub fn cukvashe_dukpt_initial_key(base: *const [u8; 16], serial: *const [u8; 10], key: *mut [u8; 16]);
     pub fn cukvashe_dukpt_transaction_key(initial: *const [u8; 16], serial: *const [u8; 10], key: *mut [u8; 16]);
     pub fn cukvashe_dukpt_transaction_keys_from_base(
@@ -530,8 +532,6 @@ extern "C" {
     pub fn cukvashe_dukpt_mac_key(transaction: *const [u8; 16], is_response: bool, key: *mut [u8; 16]);
     pub fn cukvashe_dukpt_data_key(transaction: *const [u8; 16], is_response: bool, key: *mut [u8; 16]);
     pub fn cukvashe_dukpt_data_variant(transaction: *const [u8; 16], is_response: bool, key: *mut [u8; 16]);
-    pub fn cukvashe_dukpt_is_usable(serial: *const [u8; 10]) -> bool;
-    pub fn cukvashe_dukpt_next_serial(serial: *const [u8; 10], next: *mut [u8; 10]) -> c_int;
     pub fn cukvashe_dukpt_terminal_init(
         terminal: *mut DukptTerminal,
         initial: *const [u8; 16],

@@ -1,12 +1,19 @@
-"""Card verification values, and card cryptograms (EMV 4.3, Book 2), the issuer's side: made of the header by bindings/describe."""
+"""Keys of a transaction (DUKPT), card verification values, and card cryptograms (EMV): made of the header by bindings/describe."""
 
 from __future__ import annotations
 
 from ._data import bytes_from, bytes_of, data_of, key_of, room, text_from, text_of
-from ._faults import BlockLengthError, DataLengthError, check
+from ._faults import BlockLengthError, DataLengthError, SerialLengthError, check
+from ._keys import response_of
 from ._library import function
 from ._types import ReadableBuffer, Text
 
+_dukpt_initial_key = function("dukpt_initial_key")
+_dukpt_transaction_key = function("dukpt_transaction_key")
+_dukpt_pin_key = function("dukpt_pin_key")
+_dukpt_mac_key = function("dukpt_mac_key")
+_dukpt_data_key = function("dukpt_data_key")
+_dukpt_data_variant = function("dukpt_data_variant")
 _cvv = function("cvv")
 _emv_card_key = function("emv_card_key")
 _emv_card_key_b = function("emv_card_key_b")
@@ -15,6 +22,63 @@ _emv_session_key = function("emv_session_key")
 _emv_application_cryptogram = function("emv_application_cryptogram")
 _emv_response_1 = function("emv_response_1")
 _emv_response_2 = function("emv_response_2")
+
+
+def dukpt_initial_key(base: ReadableBuffer, serial: ReadableBuffer) -> bytes:
+    """The initial key of a terminal, from the base derivation key and any of the terminal's key serial numbers, whose counter
+    plays no part. KeyLengthError, SerialLengthError."""
+    taken_serial = data_of(serial, 10, "a key serial number has", SerialLengthError)
+    made = room(16)
+    with key_of(base, 16) as held_base:
+        _dukpt_initial_key(held_base, taken_serial, made)
+    return bytes_from(made)
+
+
+def dukpt_transaction_key(initial: ReadableBuffer, serial: ReadableBuffer) -> bytes:
+    """The key of a transaction, which encrypts nothing itself, from the terminal's initial key, not the base derivation key, and
+    the transaction's key serial number. It takes every counter: ask first whether a transaction has this one. KeyLengthError,
+    SerialLengthError."""
+    taken_serial = data_of(serial, 10, "a key serial number has", SerialLengthError)
+    made = room(16)
+    with key_of(initial, 16) as held_initial:
+        _dukpt_transaction_key(held_initial, taken_serial, made)
+    return bytes_from(made)
+
+
+def dukpt_pin_key(transaction: ReadableBuffer) -> bytes:
+    """The key that encrypts PIN blocks, from the transaction's key. KeyLengthError."""
+    made = room(16)
+    with key_of(transaction, 16) as held_transaction:
+        _dukpt_pin_key(held_transaction, made)
+    return bytes_from(made)
+
+
+def dukpt_mac_key(transaction: ReadableBuffer, is_response: bool = False) -> bytes:
+    """The key that authenticates the request, or the response, from the transaction's key. KeyLengthError."""
+    taken_is_response = response_of(is_response)
+    made = room(16)
+    with key_of(transaction, 16) as held_transaction:
+        _dukpt_mac_key(held_transaction, taken_is_response, made)
+    return bytes_from(made)
+
+
+def dukpt_data_key(transaction: ReadableBuffer, is_response: bool = False) -> bytes:
+    """The key that encrypts the data of the request, or of the response, from the transaction's key. KeyLengthError."""
+    taken_is_response = response_of(is_response)
+    made = room(16)
+    with key_of(transaction, 16) as held_transaction:
+        _dukpt_data_key(held_transaction, taken_is_response, made)
+    return bytes_from(made)
+
+
+def dukpt_data_variant(transaction: ReadableBuffer, is_response: bool = False) -> bytes:
+    """The key that encrypts the data, made without the last step: some terminals take it. It reveals the transaction's other
+    keys. KeyLengthError."""
+    taken_is_response = response_of(is_response)
+    made = room(16)
+    with key_of(transaction, 16) as held_transaction:
+        _dukpt_data_variant(held_transaction, taken_is_response, made)
+    return bytes_from(made)
 
 
 def cvv(key: ReadableBuffer, account: Text, expiry: Text, service: Text) -> str:
