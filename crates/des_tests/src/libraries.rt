@@ -5,6 +5,7 @@
 mod clones;
 mod each_key;
 mod hmac;
+mod key_wraps;
 mod known;
 mod lists;
 mod macs;

@@ -1,0 +1,102 @@
+-- The definitions, computed at values from outside: the example of FIPS 81 (appendices C and D) in CFB-64, CFB-8, CFB-1
+-- and OFB, under the key 01 23 .. ef from the vector 12 34 56 78 90 ab cd ef, of the text "Now is the time for all "; and
+-- a counter that wraps.
+use Rattle.std.proofs.Common.{Bool, false, ◌≡◌, ℕ, zero, suc, ◌+◌, ◌<◌, List, [], ◌∷◌, length, get_or, take, bit_xor, refl, ap, sym, ◌∙◌, arith}
+use Rattle.des.specs.Bits.{xor, bits_of, bits_of_bytes, number_of, select, xor_bits}
+use Rattle.des.specs.Blocks.{block_of_bits}
+use Rattle.des.specs.CipherFunction.{box_entry, substitute_by, cipher_function}
+use Rattle.des.specs.KeySchedule.{c_half, d_half, rotate, shifts_through, round_key, key_schedule}
+use Rattle.des.specs.Rounds.{after_rounds, through_rounds}
+use Rattle.des_modes.specs.Cfb.{Cfb}
+use Rattle.des_modes.specs.CfbBits.{Cfb1, XorsBitsFrom, cfb_bits}
+use Rattle.des_modes.specs.Ctr.{counter_block}
+use Rattle.des_modes.specs.Ofb.{Ofb}
+use Rattle.des_modes.specs.Streams.{XorsFrom}
+
+-- elements under the xor with a key stream from element n on
+abbrev xored : {A : Type 0} → (A → A → A) → (ℕ → A) → ℕ → List A → List A
+xored op k n [] = []
+xored op k n (x ∷ xs) = op x (k n) ∷ xored op k (suc n) xs
+
+length-xored : {A : Type 0} (op : A → A → A) (k : ℕ → A) (n : ℕ) (p : List A) → length (xored op k n p) ≡ length p
+length-xored op k n [] = refl
+length-xored op k n (x ∷ xs) = ap suc (length-xored op k (suc n) xs)
+
+get_or-xored : {A : Type 0} (op : A → A → A) (k : ℕ → A) (none : A) (n : ℕ) (p : List A) (i : ℕ) → i < length p
+    → get_or (xored op k n p) i none ≡ op (get_or p i none) (k (n + i))
+get_or-xored op k none n [] i below = absurd (omega arith)
+get_or-xored {A} op k none n (x ∷ xs) zero below = ap (λ (m : ℕ). op x (k m)) (omega arith)
+get_or-xored {A} op k none n (x ∷ xs) (suc i) below =
+    let place : suc n + i ≡ n + suc i = omega arith in
+    get_or-xored op k none (suc n) xs i (omega arith) ∙ ap (λ (m : ℕ). op (get_or xs i none) (k m)) place
+
+XorsFrom-xored : (k : ℕ → ℕ) (p c : List ℕ) → xored bit_xor k 0 p ≡ c → XorsFrom 0 k p c
+XorsFrom-xored k p c same = record {
+  count = ap length (sym same) ∙ length-xored bit_xor k 0 p;
+  xored = λ i below. ap (λ (xs : List ℕ). get_or xs i 0) (sym same) ∙ get_or-xored bit_xor k 0 0 p i below;
+}
+
+XorsBitsFrom-xored : (k : ℕ → Bool) (p c : List Bool) → xored xor k 0 p ≡ c → XorsBitsFrom 0 k p c
+XorsBitsFrom-xored k p c same = record {
+  count = ap length (sym same) ∙ length-xored xor k 0 p;
+  xored = λ i below. ap (λ (xs : List Bool). get_or xs i false) (sym same) ∙ get_or-xored xor k false 0 p i below;
+}
+
+-- the key, the vector and the text
+key : List ℕ
+key = 0x01 ∷ 0x23 ∷ 0x45 ∷ 0x67 ∷ 0x89 ∷ 0xab ∷ 0xcd ∷ 0xef ∷ []
+
+vector : List ℕ
+vector = 0x12 ∷ 0x34 ∷ 0x56 ∷ 0x78 ∷ 0x90 ∷ 0xab ∷ 0xcd ∷ 0xef ∷ []
+
+text : List ℕ
+text =
+    0x4e ∷ 0x6f ∷ 0x77 ∷ 0x20 ∷ 0x69 ∷ 0x73 ∷ 0x20 ∷ 0x74 ∷ 0x68 ∷ 0x65 ∷ 0x20 ∷ 0x74 ∷
+    0x69 ∷ 0x6d ∷ 0x65 ∷ 0x20 ∷ 0x66 ∷ 0x6f ∷ 0x72 ∷ 0x20 ∷ 0x61 ∷ 0x6c ∷ 0x6c ∷ 0x20 ∷ []
+
+-- DES under the key
+encryption : List ℕ → List ℕ
+unfolding bits_of bits_of_bytes block_of_bits select substitute_by box_entry number_of cipher_function xor_bits
+    round_key c_half d_half rotate shifts_through key_schedule after_rounds through_rounds key
+encryption block = block_of_bits (through_rounds (key_schedule (bits_of_bytes key)) (bits_of_bytes block))
+
+in_ofb : List ℕ
+in_ofb =
+    0xf3 ∷ 0x09 ∷ 0x62 ∷ 0x49 ∷ 0xc7 ∷ 0xf4 ∷ 0x6e ∷ 0x51 ∷ 0x35 ∷ 0xf2 ∷ 0x4a ∷ 0x24 ∷
+    0x2e ∷ 0xeb ∷ 0x3d ∷ 0x3f ∷ 0x3d ∷ 0x6d ∷ 0x5b ∷ 0xe3 ∷ 0x25 ∷ 0x5a ∷ 0xf8 ∷ 0xc3 ∷ []
+
+in_cfb_64 : List ℕ
+in_cfb_64 =
+    0xf3 ∷ 0x09 ∷ 0x62 ∷ 0x49 ∷ 0xc7 ∷ 0xf4 ∷ 0x6e ∷ 0x51 ∷ 0xa6 ∷ 0x9e ∷ 0x83 ∷ 0x9b ∷
+    0x1a ∷ 0x92 ∷ 0xf7 ∷ 0x84 ∷ 0x03 ∷ 0x46 ∷ 0x71 ∷ 0x33 ∷ 0x89 ∷ 0x8e ∷ 0xa6 ∷ 0x22 ∷ []
+
+in_cfb_8 : List ℕ
+in_cfb_8 = 0xf3 ∷ 0x1f ∷ 0xda ∷ 0x07 ∷ 0x01 ∷ 0x14 ∷ 0x62 ∷ 0xee ∷ []
+
+known_ofb : Ofb encryption vector text in_ofb
+unfolding encryption vector text in_ofb bits_of bits_of_bytes block_of_bits select substitute_by box_entry number_of
+    cipher_function xor_bits round_key c_half d_half rotate shifts_through key_schedule after_rounds through_rounds key
+known_ofb = XorsFrom-xored _ text in_ofb refl
+
+known_cfb_64 : Cfb 8 encryption vector text in_cfb_64
+unfolding encryption vector text in_cfb_64 bits_of bits_of_bytes block_of_bits select substitute_by box_entry number_of
+    cipher_function xor_bits round_key c_half d_half rotate shifts_through key_schedule after_rounds through_rounds key
+known_cfb_64 = XorsFrom-xored _ text in_cfb_64 refl
+
+-- the first eight bytes
+known_cfb_8 : Cfb 1 encryption vector (take 8 text) in_cfb_8
+unfolding encryption vector text in_cfb_8 bits_of bits_of_bytes block_of_bits select substitute_by box_entry number_of
+    cipher_function xor_bits round_key c_half d_half rotate shifts_through key_schedule after_rounds through_rounds key
+known_cfb_8 = XorsFrom-xored _ (take 8 text) in_cfb_8 refl
+
+-- the bits of the first byte
+known_cfb_1 : Cfb1 encryption vector (bits_of_bytes (0x4e ∷ [])) (bits_of_bytes (0xcd ∷ []))
+unfolding encryption vector bits_of bits_of_bytes block_of_bits select substitute_by box_entry number_of cipher_function
+    xor_bits round_key c_half d_half rotate shifts_through key_schedule after_rounds through_rounds key
+known_cfb_1 =
+    XorsBitsFrom-xored (cfb_bits 1 encryption vector (bits_of_bytes (0xcd ∷ []))) (bits_of_bytes (0x4e ∷ []))
+    (bits_of_bytes (0xcd ∷ [])) refl
+
+known_counter : counter_block (0xff ∷ 0xff ∷ 0xff ∷ 0xff ∷ 0xff ∷ 0xff ∷ 0xff ∷ 0xfe ∷ []) 3
+    ≡ 0x00 ∷ 0x00 ∷ 0x00 ∷ 0x00 ∷ 0x00 ∷ 0x00 ∷ 0x00 ∷ 0x01 ∷ []
+known_counter = refl

@@ -1,0 +1,13 @@
+pub mod JoinedBlocks
+pub mod Differences
+pub mod TkwSteps
+pub mod Enclosed
+pub mod BitPlaces
+pub mod CfbBitPlaces
+pub mod XoredPieces
+pub mod CtrPlaces
+pub mod Segments
+pub mod CfbPlaces
+pub mod RelatedStreams
+pub mod BitSegments
+pub mod KnownAnswers

@@ -1,0 +1,208 @@
+-- The steps of TW, one after another, and turned round.
+use Rattle.std.proofs.Common.{◌≡◌, ℕ, zero, suc, ◌+◌, ◌-◌, ◌*◌, ◌<◌, List, [], ◌∷◌, ◌++◌, length, get_or, take, drop, bit_xor, refl, ap, ap₂, sym, ◌∙◌, arith, append_assoc, take_at, drop_at, length-append, length-drop, length-take-le}
+use Rattle.std.specs.Int.{w32, to_be_bytes}
+use Rattle.std.specs.List.{All}
+use Rattle.std.proofs.lemmas.List.{drop_more, take-append-drop}
+use Rattle.std.proofs.lemmas.List.Elements.{All-nil, All-cons, All-head, All-tail, All-append, All-take, All-drop, All-from_get_or}
+use Rattle.std.proofs.lemmas.Nat.{xor_lt}
+use Rattle.std.proofs.lemmas.Simd.{get_or-zip2}
+use Rattle.des.specs.Blocks.{IsBlock}
+use Rattle.des.specs.Cbc.{xor_blocks}
+use Rattle.des.specs.Laws.BlockBits.{AreBytes-bytes_high_first}
+use Rattle.des.proofs.XoredBlocks.{length-xor_blocks, xor_blocks-undone}
+use Rattle.des_modes.specs.Tkw.{IsSemiblock, icv3, tw_step, tw_steps, tw, tkw}
+
+-- the last of some steps
+tw_steps-last : (E : List ℕ → List ℕ) (t m : ℕ) (words : List (List ℕ))
+    → tw_steps E t (suc m) words ≡ tw_step E (t + suc m) (tw_steps E t m words)
+tw_steps-last E t zero words = ap (λ (n : ℕ). tw_step E n words) (omega arith)
+tw_steps-last E t (suc m) words =
+    tw_steps-last E (suc t) m (tw_step E (suc t) words)
+    ∙ ap (λ (n : ℕ). tw_step E n (tw_steps E (suc t) m (tw_step E (suc t) words))) (omega arith)
+
+pub tw_steps-next : (E : List ℕ → List ℕ) (t m : ℕ) (words : List (List ℕ))
+    → tw_steps E t (m + 1) words ≡ tw_step E (t + m + 1) (tw_steps E t m words)
+tw_steps-next E t m words =
+    let count : m + 1 ≡ suc m = omega arith in
+    let number : t + suc m ≡ t + m + 1 = omega arith in
+    ap (λ (n : ℕ). tw_steps E t n words) count ∙ tw_steps-last E t m words
+    ∙ ap (λ (n : ℕ). tw_step E n (tw_steps E t m words)) number
+
+-- the first of some steps
+pub tw_steps-first : (E : List ℕ → List ℕ) (t number count rest : ℕ) (words : List (List ℕ)) → suc t ≡ number
+    → count ≡ suc rest → tw_steps E t count words ≡ tw_steps E number rest (tw_step E number words)
+tw_steps-first E t number count rest words is more =
+    ap (λ (n : ℕ). tw_steps E t n words) more ∙ ap (λ (n : ℕ). tw_steps E n rest (tw_step E n words)) is
+
+-- some steps after others
+pub tw_steps-add : (E : List ℕ → List ℕ) (t m k : ℕ) (words : List (List ℕ))
+    → tw_steps E t (m + k) words ≡ tw_steps E (t + m) k (tw_steps E t m words)
+tw_steps-add E t zero k words =
+    let number : t ≡ t + 0 = omega arith in
+    let count : 0 + k ≡ k = omega arith in
+    ap₂ (λ (n i : ℕ). tw_steps E n i words) number count
+tw_steps-add E t (suc m) k words =
+    let next : List (List ℕ) = tw_step E (suc t) words in
+    let count : suc m + k ≡ suc (m + k) = omega arith in
+    ap (λ (n : ℕ). tw_steps E t n words) count
+    ∙ tw_steps-add E (suc t) m k next
+    ∙ ap (λ (n : ℕ). tw_steps E n k (tw_steps E (suc t) m next)) (omega arith)
+
+-- a step of semiblocks in place: those before place i are done
+turned : (E : List ℕ → List ℕ) (t : ℕ) (a w : List ℕ) (rest done : List (List ℕ))
+    → tw_step E t (a ∷ (w ∷ rest) ++ done)
+    ≡ xor_blocks (take 4 (E (a ++ w))) (to_be_bytes w32 t) ∷ rest ++ (done ++ drop 4 (E (a ++ w)) ∷ [])
+turned E t a w rest done =
+    ap (λ (words : List (List ℕ)). xor_blocks (take 4 (E (a ++ w))) (to_be_bytes w32 t) ∷ words)
+    (append_assoc rest done (drop 4 (E (a ++ w)) ∷ []))
+
+-- at a place, from what it makes of two semiblocks
+pub tw_step-at : (E : List ℕ → List ℕ) (t i : ℕ) (a b : List ℕ) (words next : List (List ℕ)) → i < length words
+    → drop (i + 1) next ≡ drop (i + 1) words
+    → take (i + 1) next ≡ take i words ++ drop 4 (E (a ++ get_or words i [])) ∷ []
+    → xor_blocks (take 4 (E (a ++ get_or words i []))) (to_be_bytes w32 t) ≡ b
+    → tw_step E t (a ∷ drop i words ++ take i words) ≡ b ∷ drop (i + 1) next ++ take (i + 1) next
+tw_step-at E t i a b words next within rest done first =
+    ap (λ (xs : List (List ℕ)). tw_step E t (a ∷ xs ++ take i words)) (drop_more words i [] within)
+    ∙ turned E t a (get_or words i []) (drop (i + 1) words) (take i words)
+    ∙ ap₂ (λ (x : List ℕ) (xs : List (List ℕ)). x ∷ xs ++ (take i words ++ drop 4 (E (a ++ get_or words i [])) ∷ []))
+    first (sym rest)
+    ∙ ap (λ (xs : List (List ℕ)). b ∷ drop (i + 1) next ++ xs) (sym done)
+
+-- the halves of a block that was decrypted, encrypted again
+pub encrypted_again : (E : List ℕ → List ℕ) (block a w decrypted first second : List ℕ) → first ≡ take 4 decrypted
+    → second ≡ drop 4 decrypted → E decrypted ≡ block → block ≡ a ++ w → E (first ++ second) ≡ a ++ w
+encrypted_again E block a w decrypted first second is_first is_second undoes joined =
+    ap E (ap₂ ◌++◌ is_first is_second ∙ take-append-drop 4 decrypted) ∙ undoes ∙ joined
+
+-- ---- the semiblocks that the steps were made of
+
+-- two lists with one more element each
+last_same : (xs ys : List (List ℕ)) (x y : List ℕ) → length xs ≡ length ys → xs ++ x ∷ [] ≡ ys ++ y ∷ []
+    → (xs ≡ ys) × (x ≡ y)
+last_same [] [] x y count same = (refl, ap (λ (zs : List (List ℕ)). get_or zs 0 []) same)
+last_same [] (z ∷ ys) x y count same = absurd (omega arith)
+last_same (z ∷ xs) [] x y count same = absurd (omega arith)
+last_same (z ∷ xs) (u ∷ ys) x y count same =
+    let rest = last_same xs ys x y (omega arith) (ap (drop 1) same) in
+    (ap₂ ◌∷◌ (ap (λ (zs : List (List ℕ)). get_or zs 0 []) same) rest.0, rest.1)
+
+-- what a cipher's laws say of its two functions
+pub record Undoes (E D : List ℕ → List ℕ) : Type 0 where
+  pub undone : (block : List ℕ) → IsBlock block → D (E block) ≡ block
+  pub is_block : (block : List ℕ) → IsBlock block → IsBlock (E block)
+
+IsBlock-joined : (a w : List ℕ) → IsSemiblock a → IsSemiblock w → IsBlock (a ++ w)
+IsBlock-joined a w is_a is_w =
+    (omega (arith, length-append a w, is_a.0, is_w.0), All-append (λ byte. byte < 256) a w is_a.1 is_w.1)
+
+-- the number of a step is a semiblock
+IsSemiblock-number : (t : ℕ) → IsSemiblock (to_be_bytes w32 t)
+IsSemiblock-number t = (refl, AreBytes-bytes_high_first 4 t)
+
+-- the halves of a block
+high_half : (block : List ℕ) → IsBlock block → IsSemiblock (take 4 block)
+high_half block is =
+    (length-take-le 4 block (omega (arith, is.0)), All-take (λ byte. byte < 256) 4 block is.1)
+
+low_half : (block : List ℕ) → IsBlock block → IsSemiblock (drop 4 block)
+low_half block is = (omega (arith, is.0, length-drop 4 block), All-drop (λ byte. byte < 256) 4 block is.1)
+
+get_or-xored : (word other : List ℕ) (k : ℕ) → k < length word → k < length other
+    → get_or (xor_blocks word other) k 0 ≡ bit_xor (get_or word k 0) (get_or other k 0)
+unfolding xor_blocks
+get_or-xored word other k within inside = get_or-zip2 bit_xor word other k 0 0 0 within inside
+
+IsSemiblock-xor_blocks : (word other : List ℕ) → IsSemiblock word → IsSemiblock other
+    → IsSemiblock (xor_blocks word other)
+IsSemiblock-xor_blocks word other is is_other =
+    let same : length word ≡ length other = is.0 ∙ sym is_other.0 in (
+      length-xor_blocks word other same ∙ is.0,
+      All-from_get_or (λ byte. byte < 256) (xor_blocks word other) 0 (λ k within.
+          let inside : k < length word = omega (arith, length-xor_blocks word other same) in
+          rw (get_or-xored word other k inside (omega arith))
+          (xor_lt 8 (get_or word k 0) (get_or other k 0) (is.1 k 0 inside) (is_other.1 k 0 (omega arith)))),
+    )
+
+-- a step makes semiblocks of semiblocks
+AreSemiblocks-tw_step : (E D : List ℕ → List ℕ) (t : ℕ) (words : List (List ℕ)) → Undoes E D → All IsSemiblock words
+    → All IsSemiblock (tw_step E t words)
+AreSemiblocks-tw_step E D t [] laws are = are
+AreSemiblocks-tw_step E D t (a ∷ []) laws are = are
+AreSemiblocks-tw_step E D t (a ∷ r ∷ rest) laws are =
+    let is_a = All-head IsSemiblock a (r ∷ rest) are in
+    let others = All-tail IsSemiblock a (r ∷ rest) are in
+    let is_block = laws.is_block (a ++ r) (IsBlock-joined a r is_a (All-head IsSemiblock r rest others)) in
+    All-cons IsSemiblock _ _
+    (IsSemiblock-xor_blocks (take 4 (E (a ++ r))) (to_be_bytes w32 t) (high_half (E (a ++ r)) is_block) (IsSemiblock-number t))
+    (All-append IsSemiblock rest (drop 4 (E (a ++ r)) ∷ []) (All-tail IsSemiblock r rest others)
+    (All-cons IsSemiblock (drop 4 (E (a ++ r))) [] (low_half (E (a ++ r)) is_block) (All-nil IsSemiblock)))
+
+length-tw_step : (E : List ℕ → List ℕ) (t : ℕ) (words : List (List ℕ)) → length (tw_step E t words) ≡ length words
+length-tw_step E t [] = refl
+length-tw_step E t (a ∷ []) = refl
+length-tw_step E t (a ∷ r ∷ rest) = omega (arith, length-append rest (drop 4 (E (a ++ r)) ∷ []))
+
+pub length-tw_steps : (E : List ℕ → List ℕ) (t m : ℕ) (words : List (List ℕ))
+    → length (tw_steps E t m words) ≡ length words
+length-tw_steps E t zero words = refl
+length-tw_steps E t (suc m) words = length-tw_steps E (suc t) m (tw_step E (suc t) words) ∙ length-tw_step E (suc t) words
+
+-- different lists are answered by different ones
+tw_step-injective : (E D : List ℕ → List ℕ) (t : ℕ) (words others : List (List ℕ)) → Undoes E D
+    → All IsSemiblock words → All IsSemiblock others → length words ≡ length others
+    → tw_step E t words ≡ tw_step E t others → words ≡ others
+tw_step-injective E D t [] [] laws are too count same = refl
+tw_step-injective E D t [] (b ∷ others) laws are too count same = absurd (omega arith)
+tw_step-injective E D t (a ∷ words) [] laws are too count same = absurd (omega arith)
+tw_step-injective E D t (a ∷ []) (b ∷ []) laws are too count same = same
+tw_step-injective E D t (a ∷ []) (b ∷ s ∷ others) laws are too count same = absurd (omega arith)
+tw_step-injective E D t (a ∷ r ∷ words) (b ∷ []) laws are too count same = absurd (omega arith)
+tw_step-injective E D t (a ∷ r ∷ words) (b ∷ s ∷ others) laws are too count same =
+    let is_a = All-head IsSemiblock a (r ∷ words) are in
+    let is_b = All-head IsSemiblock b (s ∷ others) too in
+    let is_r = All-head IsSemiblock r words (All-tail IsSemiblock a (r ∷ words) are) in
+    let is_s = All-head IsSemiblock s others (All-tail IsSemiblock b (s ∷ others) too) in
+    let block : IsBlock (a ++ r) = IsBlock-joined a r is_a is_r in
+    let other : IsBlock (b ++ s) = IsBlock-joined b s is_b is_s in
+    let e : List ℕ = E (a ++ r) in
+    let f : List ℕ = E (b ++ s) in
+    let e_block : IsBlock e = laws.is_block (a ++ r) block in
+    let f_block : IsBlock f = laws.is_block (b ++ s) other in
+    let number : List ℕ = to_be_bytes w32 t in
+    let rest = last_same words others (drop 4 e) (drop 4 f) (omega arith) (ap (drop 1) same) in
+    let high : take 4 e ≡ take 4 f =
+    sym (xor_blocks-undone (take 4 e) number (high_half e e_block).0)
+    ∙ ap (λ (x : List ℕ). xor_blocks x number) (ap (λ (xs : List (List ℕ)). get_or xs 0 []) same)
+    ∙ xor_blocks-undone (take 4 f) number (high_half f f_block).0 in
+    let answers : e ≡ f = sym (take-append-drop 4 e) ∙ ap₂ ◌++◌ high rest.1 ∙ take-append-drop 4 f in
+    let joined : a ++ r ≡ b ++ s = sym (laws.undone (a ++ r) block) ∙ ap D answers ∙ laws.undone (b ++ s) other in
+    let first : a ≡ b = sym (take_at a r 4 is_a.0) ∙ ap (take 4) joined ∙ take_at b s 4 is_b.0 in
+    let second : r ≡ s = sym (drop_at a r 4 is_a.0) ∙ ap (drop 4) joined ∙ drop_at b s 4 is_b.0 in
+    ap₂ ◌∷◌ first (ap₂ ◌∷◌ second rest.0)
+
+pub tw_steps-injective : (E D : List ℕ → List ℕ) (t m : ℕ) (words others : List (List ℕ)) → Undoes E D
+    → All IsSemiblock words → All IsSemiblock others → length words ≡ length others
+    → tw_steps E t m words ≡ tw_steps E t m others → words ≡ others
+tw_steps-injective E D t zero words others laws are too count same = same
+tw_steps-injective E D t (suc m) words others laws are too count same =
+    tw_step-injective E D (suc t) words others laws are too count
+    (tw_steps-injective E D (suc t) m (tw_step E (suc t) words) (tw_step E (suc t) others) laws
+    (AreSemiblocks-tw_step E D (suc t) words laws are) (AreSemiblocks-tw_step E D (suc t) others laws too)
+    (length-tw_step E (suc t) words ∙ count ∙ sym (length-tw_step E (suc t) others)) same)
+
+-- what wraps a key wraps no other
+pub unwrapped-one : (E D : List ℕ → List ℕ) (first : List ℕ) (words other wrapped : List (List ℕ))
+    → ((block : List ℕ) → IsBlock block → D (E block) ≡ block) → ((block : List ℕ) → IsBlock block → IsBlock (E block))
+    → IsSemiblock first → All IsSemiblock words → All IsSemiblock other → length wrapped ≡ length words + 1
+    → tw E (first ∷ words) ≡ wrapped → tkw E other ≡ wrapped → first ∷ words ≡ icv3 ∷ other
+unwrapped-one E D first words other wrapped undone is_block is_first are too size same wraps =
+    let made : ℕ = 6 * (length (icv3 ∷ other) - 1) in
+    let count : length other ≡ length words =
+    omega (arith, ap length wraps, length-tw_steps E 0 made (icv3 ∷ other)) in
+    let steps : 6 * (length (first ∷ words) - 1) ≡ made = omega (arith, count) in
+    let is_icv3 : IsSemiblock icv3 = IsSemiblock-number 0xa6a6a6a6 in
+    let laws : Undoes E D = record { undone = undone; is_block = is_block } in
+    tw_steps-injective E D 0 made (first ∷ words) (icv3 ∷ other) laws (All-cons IsSemiblock first words is_first are)
+    (All-cons IsSemiblock icv3 other is_icv3 too) (omega (arith, count))
+    (ap (λ (n : ℕ). tw_steps E 0 n (first ∷ words)) (sym steps) ∙ same ∙ sym wraps)

@@ -1,0 +1,13 @@
+pub mod Streams
+pub mod Ctr
+pub mod CtrStates
+pub mod Ofb
+pub mod OfbStates
+pub mod Cfb
+pub mod CfbStates
+pub mod Parts
+pub mod Related
+pub mod CfbBits
+pub mod CfbBitStates
+pub mod Tkw
+pub mod CmsKeyWrap

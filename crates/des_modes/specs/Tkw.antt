@@ -1,0 +1,33 @@
+-- The key wrap TKW of triple DES (NIST SP 800-38F, 7): a key in semiblocks of 32 bits, four bytes each.
+use Rattle.std.specs.Prelude.{◌≡◌, ℕ, zero, suc, ◌-◌, ◌*◌, List, [], ◌∷◌, ◌++◌, length, take, drop}
+use Rattle.std.specs.Int.{w32, to_be_bytes}
+use Rattle.des.specs.Blocks.{AreBytes}
+use Rattle.des.specs.Cbc.{xor_blocks}
+
+abbrev pub IsSemiblock : List ℕ → Type 0
+IsSemiblock word = (length word ≡ 4) × AreBytes word
+
+-- the integrity check value ICV3
+abbrev pub icv3 : List ℕ
+icv3 = 0xa6 ∷ 0xa6 ∷ 0xa6 ∷ 0xa6 ∷ []
+
+-- step t of TW, of A and R(2), .., R(n): A becomes MSB32(E(A | R(2))) ^ [t]32, and R(3), .., R(n) move to the left, with
+-- LSB32(E(A | R(2))) behind
+abbrev pub tw_step : (List ℕ → List ℕ) → ℕ → List (List ℕ) → List (List ℕ)
+tw_step encryption t [] = []
+tw_step encryption t (a ∷ []) = a ∷ []
+tw_step encryption t (a ∷ r ∷ rest) =
+    xor_blocks (take 4 (encryption (a ++ r))) (to_be_bytes w32 t) ∷ rest ++ drop 4 (encryption (a ++ r)) ∷ []
+
+-- the steps after step t, so many of them
+abbrev pub tw_steps : (List ℕ → List ℕ) → ℕ → ℕ → List (List ℕ) → List (List ℕ)
+tw_steps encryption t zero words = words
+tw_steps encryption t (suc count) words = tw_steps encryption (suc t) count (tw_step encryption (suc t) words)
+
+-- TW(S), in s = 6 (n - 1) steps
+abbrev pub tw : (List ℕ → List ℕ) → List (List ℕ) → List (List ℕ)
+tw encryption words = tw_steps encryption 0 (6 * (length words - 1)) words
+
+-- TKW-AE(P)
+abbrev pub tkw : (List ℕ → List ℕ) → List (List ℕ) → List (List ℕ)
+tkw encryption key = tw encryption (icv3 ∷ key)

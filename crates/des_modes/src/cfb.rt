@@ -1,0 +1,308 @@
+//! Cipher feedback over any block cipher (FIPS 81, cipher feedback mode; NIST SP 800-38A, 6.3), with
+//! segments of one to eight bytes: eight for the feedback of 64 bits, one for that of 8.
+
+ghost use Rattle.std.specs.Prelude.{◌≡◌, ◌<◌, ◌≤◌, ◌+◌, ◌*◌, ◌/◌, ◌%◌, ℕ, List, [], ◌++◌, length, take, drop, slice_index_or};
+ghost use Rattle.std.specs.List.{All};
+ghost use Rattle.des_modes.specs.Streams.{XorsFrom};
+ghost use Rattle.des_modes.specs.Cfb.{Cfb, cfb_stream, input_block};
+ghost use Rattle.des_modes.specs.Parts.{part_at_most};
+
+use crate::xored::{xor_from, xor_segments};
+use des::cipher::BlockCipherEncrypt;
+
+// The segments that are decrypted together: a cipher may treat some of their blocks side by side.
+const TOGETHER: usize = 256;
+
+// How many segments so many bytes have, of which the last may be cut short.
+fn count_of(bytes: usize, segment: usize) -> usize
+    requires some { 1 ≤ segment }
+    requires short { segment ≤ 8 }
+    requires few { bytes ≤ segment * 256 }
+    ensures few { result ≤ 256 }
+    ensures enough { bytes ≤ segment * result }
+    ensures begun { (j : ℕ) → j < result → segment * j < bytes }
+    ensures last { 1 ≤ bytes % segment → bytes / segment < result }
+{
+    bytes.div_ceil(segment)
+}
+
+// Makes the blocks eight bytes each, of which the first begin the bytes, and each others begin a
+// segment later.
+fn write_inputs(blocks: &mut [[u8; 8]], bytes: &[u8], segment: usize)
+    requires { (j : ℕ) → j < length blocks.old → segment * j + 8 ≤ length bytes.now }
+    ensures { (j : ℕ) → j < length blocks.old
+        → slice_index_or blocks.new j [] ≡ take 8 (drop (segment * j) bytes.now) }
+{
+    'inputs: for j in 0..blocks.len() {
+        let from = segment * j;
+        blocks[j].copy_from_slice(&bytes[from..from + 8]);
+    }
+}
+
+// Makes the blocks the encryptions of such ones.
+fn write_outputs<C: BlockCipherEncrypt>(
+    cipher: &C,
+    blocks: &mut [[u8; 8]],
+    bytes: &[u8],
+    segment: usize,
+)
+    requires { (j : ℕ) → j < length blocks.old → segment * j + 8 ≤ length bytes.now }
+    ensures { (j : ℕ) → j < length blocks.old → slice_index_or blocks.new j []
+        ≡ C.encrypted cipher.now (take 8 (drop (segment * j) bytes.now)) }
+{
+    write_inputs(blocks, bytes, segment);
+    cipher.encrypt_blocks(blocks);
+}
+
+// The block at a place, if it is there.
+fn block_at(blocks: &[[u8; 8]], place: usize) -> [u8; 8]
+    ensures { place < length blocks.now → result ≡ slice_index_or blocks.now place [] }
+{
+    match blocks.get(place) {
+        Some(block) => *block,
+        None => [0; 8],
+    }
+}
+
+// Makes the first bytes those of a register, and bytes behind them.
+fn write_joined(joined: &mut [u8; 8 + 8 * TOGETHER], register: &[u8; 8], bytes: &[u8])
+    requires { length bytes.now ≤ 2048 }
+    ensures { take (8 + length bytes.now) joined.new ≡ register.now ++ bytes.now }
+{
+    joined[..8].copy_from_slice(register);
+    joined[8..8 + bytes.len()].copy_from_slice(bytes);
+}
+
+// The register without its first bytes, and with as many others behind.
+fn shift(register: &mut [u8; 8], bytes: &[u8])
+    requires { length bytes.now ≤ 8 }
+    ensures { register.new ≡ drop (length bytes.now) (register.old ++ bytes.now) }
+{
+    let count = bytes.len();
+    register.copy_within(count.., 0);
+    register[8 - count..].copy_from_slice(bytes);
+}
+
+// A place in a segment, of which the end is the beginning of the next.
+#[inline]
+fn within_segment(end: usize, segment: usize) -> usize
+    requires some { 1 ≤ segment }
+    requires within { end ≤ segment }
+    ensures { result ≡ end % segment }
+{
+    if end == segment { 0 } else { end }
+}
+
+/// How far a stream of cipher feedback has come: the shift register, which holds the last eight bytes
+/// of the initialization vector and the ciphertext; how many bytes of the segment that goes next are
+/// behind, and, where some are, its output block.
+#[derive(Clone, Copy)]
+pub struct Register {
+    pub(crate) register: [u8; 8],
+    pub(crate) output: [u8; 8],
+    pub(crate) segment: usize,
+    pub(crate) used: usize,
+    ghost some: { 1 ≤ segment },
+    ghost short: { segment ≤ 8 },
+    ghost fits: { used < segment },
+}
+
+impl Register {
+    ghost use Rattle.des_modes.specs.CfbStates.{IsCfbAt};
+
+    /// The place before a segment, of so many bytes, behind the eight bytes of ciphertext before it, or
+    /// those of the initialization vector at the beginning. To decrypt a part, no others are needed.
+    pub fn new(before: &[u8; 8], segment: usize) -> Register
+        requires some { 1 ≤ segment }
+        requires short { segment ≤ 8 }
+        ensures { (encryption : List ℕ → List ℕ) (iv c : List ℕ) → length c % segment ≡ 0
+            → before.now ≡ drop (length c) (iv ++ c) → IsCfbAt segment encryption iv c result }
+    {
+        Register {
+            register: *before,
+            output: [0; 8],
+            segment,
+            used: 0,
+        }
+    }
+
+    // The output block of the segment that the next byte stands in.
+    #[inline]
+    fn current<C: BlockCipherEncrypt>(&self, cipher: &C) -> [u8; 8]
+        ensures { (s : ℕ) (iv c : List ℕ) → IsCfbAt s (C.encrypted cipher.now) iv c self.now
+            → result ≡ C.encrypted cipher.now (input_block s iv c (length c / s)) }
+    {
+        if self.used != 0 {
+            return self.output;
+        }
+        let mut output = self.register;
+        cipher.encrypt_block(&mut output);
+        output
+    }
+
+    // Goes on by bytes of the ciphertext in the segment of an output block.
+    #[inline]
+    fn advance(&mut self, output: &[u8; 8], bytes: &[u8])
+        requires { self.old.used + length bytes.now ≤ self.old.segment }
+        ensures { (s : ℕ) (encryption : List ℕ → List ℕ) (iv c : List ℕ)
+            → IsCfbAt s encryption iv c self.old
+            → output.now ≡ encryption (input_block s iv c (length c / s))
+            → IsCfbAt s encryption iv (c ++ bytes.now) self.new }
+    {
+        let end = self.used + bytes.len();
+        shift(&mut self.register, bytes);
+        self.output = *output;
+        self.used = within_segment(end, self.segment);
+    }
+
+    // Encrypts bytes of one segment.
+    fn encrypt_in_segment<C: BlockCipherEncrypt>(&mut self, cipher: &C, bytes: &mut [u8])
+        requires { self.old.used + length bytes.old ≤ self.old.segment }
+        ensures after { (s : ℕ) (iv c : List ℕ) → IsCfbAt s (C.encrypted cipher.now) iv c self.old
+            → IsCfbAt s (C.encrypted cipher.now) iv (c ++ bytes.new) self.new }
+        ensures encrypted { (s : ℕ) (iv c : List ℕ)
+            → IsCfbAt s (C.encrypted cipher.now) iv c self.old
+            → XorsFrom (length c) (cfb_stream s (C.encrypted cipher.now) iv (c ++ bytes.new))
+            bytes.old bytes.new }
+    {
+        let output = self.current(cipher);
+        xor_from(bytes, &output, self.used);
+        self.advance(&output, bytes);
+    }
+
+    // Decrypts bytes of one segment.
+    fn decrypt_in_segment<C: BlockCipherEncrypt>(&mut self, cipher: &C, bytes: &mut [u8])
+        requires { self.old.used + length bytes.old ≤ self.old.segment }
+        ensures after { (s : ℕ) (iv c : List ℕ) → IsCfbAt s (C.encrypted cipher.now) iv c self.old
+            → IsCfbAt s (C.encrypted cipher.now) iv (c ++ bytes.old) self.new }
+        ensures decrypted { (s : ℕ) (iv c : List ℕ)
+            → IsCfbAt s (C.encrypted cipher.now) iv c self.old
+            → XorsFrom (length c) (cfb_stream s (C.encrypted cipher.now) iv (c ++ bytes.old))
+            bytes.old bytes.new }
+    {
+        let output = self.current(cipher);
+        let used = self.used;
+        self.advance(&output, bytes);
+        xor_from(bytes, &output, used);
+    }
+
+    // Decrypts segments together, of which the last may be cut short.
+    fn decrypt_segments<C: BlockCipherEncrypt>(&mut self, cipher: &C, bytes: &mut [u8])
+        requires between { self.old.used ≡ 0 }
+        requires few { length bytes.old ≤ self.old.segment * 256 }
+        ensures after { (s : ℕ) (iv c : List ℕ) → IsCfbAt s (C.encrypted cipher.now) iv c self.old
+            → IsCfbAt s (C.encrypted cipher.now) iv (c ++ bytes.old) self.new }
+        ensures decrypted { (s : ℕ) (iv c : List ℕ)
+            → IsCfbAt s (C.encrypted cipher.now) iv c self.old
+            → XorsFrom (length c) (cfb_stream s (C.encrypted cipher.now) iv (c ++ bytes.old))
+            bytes.old bytes.new }
+    {
+        let mut joined = [0; 8 + 8 * TOGETHER];
+        write_joined(&mut joined, &self.register, bytes);
+        let inputs = &joined[..8 + bytes.len()];
+        let mut blocks = [[0; 8]; TOGETHER];
+        let part = &mut blocks[..count_of(bytes.len(), self.segment)];
+        write_outputs(cipher, part, inputs, self.segment);
+        xor_segments(bytes, part, self.segment);
+        self.register.copy_from_slice(&inputs[bytes.len()..]);
+        self.used = bytes.len() % self.segment;
+        self.output = block_at(part, bytes.len() / self.segment);
+    }
+
+    // Decrypts what is left of a segment that has begun, or segments together.
+    fn decrypt_part<C: BlockCipherEncrypt>(&mut self, cipher: &C, bytes: &mut [u8])
+        requires { length bytes.old ≤ part_at_most self.old.segment self.old.used }
+        ensures after { (s : ℕ) (iv c : List ℕ) → IsCfbAt s (C.encrypted cipher.now) iv c self.old
+            → IsCfbAt s (C.encrypted cipher.now) iv (c ++ bytes.old) self.new }
+        ensures decrypted { (s : ℕ) (iv c : List ℕ)
+            → IsCfbAt s (C.encrypted cipher.now) iv c self.old
+            → XorsFrom (length c) (cfb_stream s (C.encrypted cipher.now) iv (c ++ bytes.old))
+            bytes.old bytes.new }
+    {
+        if self.used == 0 {
+            self.decrypt_segments(cipher, bytes);
+        } else {
+            self.decrypt_in_segment(cipher, bytes);
+        }
+    }
+
+    // How many bytes may be decrypted together.
+    fn most(&self) -> usize
+        ensures some { 1 ≤ result }
+        ensures most { result ≡ part_at_most self.now.segment self.now.used }
+    {
+        if self.used == 0 {
+            self.segment * TOGETHER
+        } else {
+            self.segment - self.used
+        }
+    }
+
+    /// Decrypts the bytes that come next in place: any number of them. In pieces, wherever they are
+    /// cut, they become what they become as one.
+    pub fn decrypt<C: BlockCipherEncrypt>(&mut self, cipher: &C, bytes: &mut [u8])
+        ensures after { (s : ℕ) (iv c : List ℕ) → IsCfbAt s (C.encrypted cipher.now) iv c self.old
+            → IsCfbAt s (C.encrypted cipher.now) iv (c ++ bytes.old) self.new }
+        ensures decrypted { (s : ℕ) (iv c : List ℕ)
+            → IsCfbAt s (C.encrypted cipher.now) iv c self.old
+            → XorsFrom (length c) (cfb_stream s (C.encrypted cipher.now) iv (c ++ bytes.old))
+            bytes.new bytes.old }
+        ensures whole { (s : ℕ) (iv c p : List ℕ) → IsCfbAt s (C.encrypted cipher.now) iv c self.old
+            → Cfb s (C.encrypted cipher.now) iv p c
+            → Cfb s (C.encrypted cipher.now) iv (p ++ bytes.new) (c ++ bytes.old) }
+    {
+        let mut from = 0;
+        'parts: while from < bytes.len() {
+            let count = self.most().min(bytes.len() - from);
+            self.decrypt_part(cipher, &mut bytes[from..from + count]);
+            from += count;
+        }
+    }
+
+    /// Encrypts the bytes that come next in place: any number of them. In pieces, wherever they are
+    /// cut, they become what they become as one.
+    pub fn encrypt<C: BlockCipherEncrypt>(&mut self, cipher: &C, bytes: &mut [u8])
+        ensures after { (s : ℕ) (iv c : List ℕ) → IsCfbAt s (C.encrypted cipher.now) iv c self.old
+            → IsCfbAt s (C.encrypted cipher.now) iv (c ++ bytes.new) self.new }
+        ensures encrypted { (s : ℕ) (iv c : List ℕ)
+            → IsCfbAt s (C.encrypted cipher.now) iv c self.old
+            → XorsFrom (length c) (cfb_stream s (C.encrypted cipher.now) iv (c ++ bytes.new))
+            bytes.old bytes.new }
+        ensures whole { (s : ℕ) (iv c p : List ℕ) → IsCfbAt s (C.encrypted cipher.now) iv c self.old
+            → Cfb s (C.encrypted cipher.now) iv p c
+            → Cfb s (C.encrypted cipher.now) iv (p ++ bytes.old) (c ++ bytes.new) }
+    {
+        let mut from = 0;
+        'parts: while from < bytes.len() {
+            let count = (self.segment - self.used).min(bytes.len() - from);
+            self.encrypt_in_segment(cipher, &mut bytes[from..from + count]);
+            from += count;
+        }
+    }
+}
+
+/// Encrypts bytes in place by cipher feedback with segments of so many bytes, from the initialization
+/// vector on: any number of them. With P the plaintext, C the ciphertext, E the cipher's encryption
+/// and I(j) the shift register, which holds the eight bytes of the initialization vector and the
+/// ciphertext before segment j, C(j) = P(j) ^ the first bytes of E(I(j)).
+pub fn encrypt<C: BlockCipherEncrypt>(cipher: &C, iv: &[u8; 8], segment: usize, bytes: &mut [u8])
+    requires some { 1 ≤ segment }
+    requires short { segment ≤ 8 }
+    ensures { Cfb segment (C.encrypted cipher.now) iv.now bytes.old bytes.new }
+{
+    Register::new(iv, segment).encrypt(cipher, bytes);
+}
+
+/// Decrypts bytes in place that cipher feedback with segments of so many bytes made, from the
+/// initialization vector on: any number of them. With P the plaintext, C the ciphertext, E the
+/// cipher's encryption and I(j) the shift register, which holds the eight bytes of the initialization
+/// vector and the ciphertext before segment j, P(j) = C(j) ^ the first bytes of E(I(j)).
+pub fn decrypt<C: BlockCipherEncrypt>(cipher: &C, iv: &[u8; 8], segment: usize, bytes: &mut [u8])
+    requires some { 1 ≤ segment }
+    requires short { segment ≤ 8 }
+    ensures decrypted { Cfb segment (C.encrypted cipher.now) iv.now bytes.new bytes.old }
+    ensures undone { (text : List ℕ) → Cfb segment (C.encrypted cipher.now) iv.now text bytes.old
+        → bytes.new ≡ text }
+{
+    Register::new(iv, segment).decrypt(cipher, bytes);
+}

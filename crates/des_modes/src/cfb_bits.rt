@@ -1,0 +1,139 @@
+//! Cipher feedback of one bit over any block cipher (FIPS 81, cipher feedback mode; NIST SP 800-38A,
+//! 6.3): CFB-1. Lengths are in bits, of which the first is the most significant of the first byte.
+
+ghost use Rattle.std.specs.Prelude.{◌≡◌, ◌≢◌, ◌<◌, ◌≤◌, ◌*◌, ◌++◌, ℕ, Bool, List, [], ◌∷◌, length, drop};
+ghost use Rattle.des.specs.Bits.{bits_of_bytes, xor};
+ghost use Rattle.des.specs.Blocks.{block_of_bits};
+ghost use Rattle.des_modes.specs.CfbBits.{Cfb1, XorsBitsFrom, block_bit, cfb_bits, first_bits};
+
+use des::cipher::{BlockCipherEncrypt, are_bytes};
+
+// The bit at a place.
+fn bit_at(bytes: &[u8], place: usize) -> bool
+    requires { place < 8 * length bytes.now }
+    ensures { result ≡ block_bit bytes.now place }
+{
+    (bytes[place / 8] >> (7 - place % 8)) % 2 == 1
+}
+
+// The bit at a place becomes its xor with another.
+fn xor_bit(bytes: &mut [u8], place: usize, bit: bool)
+    requires { place < 8 * length bytes.old }
+    ensures xored { block_bit bytes.new place ≡ xor (block_bit bytes.old place) bit }
+    ensures others { (i : ℕ) → i ≢ place → block_bit bytes.new i ≡ block_bit bytes.old i }
+{
+    bytes[place / 8] ^= u8::from(bit) << (7 - place % 8);
+}
+
+/// How far a stream of cipher feedback of one bit has come: the shift register, which holds the last
+/// 64 bits of the initialization vector and the ciphertext.
+#[derive(Clone, Copy)]
+pub struct BitRegister {
+    pub(crate) register: [u8; 8],
+}
+
+impl BitRegister {
+    ghost use Rattle.des_modes.specs.CfbBitStates.{IsCfbBitsAt};
+
+    /// The place behind these 64 bits of ciphertext, or those of the initialization vector at the
+    /// beginning. To decrypt a part, no others are needed.
+    pub fn new(before: &[u8; 8]) -> BitRegister
+        ensures { (iv : List ℕ) (c : List Bool)
+            → bits_of_bytes before.now ≡ drop (length c) (bits_of_bytes iv ++ c)
+            → IsCfbBitsAt iv c result }
+    {
+        BitRegister { register: *before }
+    }
+
+    // The first bit of the output block, which the next bit goes with.
+    fn key_bit<C: BlockCipherEncrypt>(&self, cipher: &C) -> bool
+        ensures { result ≡ block_bit (C.encrypted cipher.now
+            (block_of_bits (bits_of_bytes self.now.register))) 0 }
+    {
+        are_bytes(&self.register);
+        let mut output = self.register;
+        cipher.encrypt_block(&mut output);
+        bit_at(&output, 0)
+    }
+
+    // The register without its first bit, and with one of the ciphertext behind.
+    fn advance(&mut self, bit: bool)
+        ensures { bits_of_bytes self.new.register
+            ≡ drop 1 (bits_of_bytes self.old.register) ++ bit ∷ [] }
+    {
+        are_bytes(&self.register);
+        let word = u64::from_be_bytes(self.register);
+        self.register = ((word << 1) | u64::from(bit)).to_be_bytes();
+    }
+
+    /// Encrypts the first so many bits in place, which come next: any number of them. The others stay.
+    /// In pieces, wherever they are cut, they become what they become as one.
+    pub fn encrypt<C: BlockCipherEncrypt>(&mut self, cipher: &C, bytes: &mut [u8], bits: usize)
+        requires { bits ≤ 8 * length bytes.old }
+        ensures after { (iv : List ℕ) (c : List Bool) → IsCfbBitsAt iv c self.old
+            → IsCfbBitsAt iv (c ++ first_bits bits bytes.new) self.new }
+        ensures encrypted { (iv : List ℕ) (c : List Bool) → IsCfbBitsAt iv c self.old
+            → XorsBitsFrom (length c)
+            (cfb_bits 1 (C.encrypted cipher.now) iv (c ++ first_bits bits bytes.new))
+            (first_bits bits bytes.old) (first_bits bits bytes.new) }
+        ensures whole { (iv : List ℕ) (p c : List Bool) → IsCfbBitsAt iv c self.old
+            → Cfb1 (C.encrypted cipher.now) iv p c → Cfb1 (C.encrypted cipher.now) iv
+            (p ++ first_bits bits bytes.old) (c ++ first_bits bits bytes.new) }
+        ensures rest { drop bits (bits_of_bytes bytes.new) ≡ drop bits (bits_of_bytes bytes.old) }
+    {
+        'bits: for place in 0..bits {
+            xor_bit(bytes, place, self.key_bit(cipher));
+            self.advance(bit_at(bytes, place));
+        }
+    }
+
+    /// Decrypts the first so many bits in place, which come next: any number of them. The others stay.
+    /// In pieces, wherever they are cut, they become what they become as one.
+    pub fn decrypt<C: BlockCipherEncrypt>(&mut self, cipher: &C, bytes: &mut [u8], bits: usize)
+        requires { bits ≤ 8 * length bytes.old }
+        ensures after { (iv : List ℕ) (c : List Bool) → IsCfbBitsAt iv c self.old
+            → IsCfbBitsAt iv (c ++ first_bits bits bytes.old) self.new }
+        ensures decrypted { (iv : List ℕ) (c : List Bool) → IsCfbBitsAt iv c self.old
+            → XorsBitsFrom (length c)
+            (cfb_bits 1 (C.encrypted cipher.now) iv (c ++ first_bits bits bytes.old))
+            (first_bits bits bytes.new) (first_bits bits bytes.old) }
+        ensures whole { (iv : List ℕ) (p c : List Bool) → IsCfbBitsAt iv c self.old
+            → Cfb1 (C.encrypted cipher.now) iv p c → Cfb1 (C.encrypted cipher.now) iv
+            (p ++ first_bits bits bytes.new) (c ++ first_bits bits bytes.old) }
+        ensures rest { drop bits (bits_of_bytes bytes.new) ≡ drop bits (bits_of_bytes bytes.old) }
+    {
+        'bits: for place in 0..bits {
+            let bit = bit_at(bytes, place);
+            xor_bit(bytes, place, self.key_bit(cipher));
+            self.advance(bit);
+        }
+    }
+}
+
+/// Encrypts the first so many bits of bytes in place by cipher feedback of one bit, from the
+/// initialization vector on: any number of them. The others stay. With P the plaintext, C the
+/// ciphertext, E the cipher's encryption and I(j) the shift register, which holds the last 64 bits of
+/// the initialization vector and the ciphertext before bit j, C(j) = P(j) ^ the first bit of E(I(j)).
+pub fn encrypt<C: BlockCipherEncrypt>(cipher: &C, iv: &[u8; 8], bytes: &mut [u8], bits: usize)
+    requires { bits ≤ 8 * length bytes.old }
+    ensures encrypted { Cfb1 (C.encrypted cipher.now) iv.now
+        (first_bits bits bytes.old) (first_bits bits bytes.new) }
+    ensures rest { drop bits (bits_of_bytes bytes.new) ≡ drop bits (bits_of_bytes bytes.old) }
+{
+    BitRegister::new(iv).encrypt(cipher, bytes, bits);
+}
+
+/// Decrypts the first so many bits of bytes in place that cipher feedback of one bit made, from the
+/// initialization vector on: any number of them. The others stay. P(j) = C(j) ^ the first bit of
+/// E(I(j)), as at `encrypt`.
+pub fn decrypt<C: BlockCipherEncrypt>(cipher: &C, iv: &[u8; 8], bytes: &mut [u8], bits: usize)
+    requires { bits ≤ 8 * length bytes.old }
+    ensures decrypted { Cfb1 (C.encrypted cipher.now) iv.now
+        (first_bits bits bytes.new) (first_bits bits bytes.old) }
+    ensures undone { (text : List Bool)
+        → Cfb1 (C.encrypted cipher.now) iv.now text (first_bits bits bytes.old)
+        → first_bits bits bytes.new ≡ text }
+    ensures rest { drop bits (bits_of_bytes bytes.new) ≡ drop bits (bits_of_bytes bytes.old) }
+{
+    BitRegister::new(iv).decrypt(cipher, bytes, bits);
+}

@@ -1,0 +1,143 @@
+//! The counter mode over any block cipher (NIST SP 800-38A, 6.5), with the standard incrementing
+//! function over all 64 bits.
+
+ghost use Rattle.std.specs.Prelude.{◌≡◌, ◌<◌, ◌≤◌, ◌+◌, ◌*◌, ◌/◌, ◌%◌, ◌^◌, ◌++◌, ℕ, List, [], length, slice_index, slice_index_or, bit_xor};
+ghost use Rattle.std.specs.List.{All};
+ghost use Rattle.std.specs.Int.{w64, to_be_bytes, from_be_bytes};
+ghost use Rattle.des_modes.specs.Ctr.{Ctr, ctr_stream};
+ghost use Rattle.des_modes.specs.Streams.{XorsFrom};
+
+use crate::xored::xor_from;
+use des::cipher::BlockCipherEncrypt;
+
+// The blocks that are encrypted together: a cipher may treat some of them side by side.
+const TOGETHER: usize = 256;
+
+// Makes the blocks a counter and those that follow it.
+fn write_counters(blocks: &mut [[u8; 8]], counter: u64)
+    ensures { (j : ℕ) → j < length blocks.old
+        → slice_index_or blocks.new j [] ≡ to_be_bytes w64 ((counter + j) % 2 ^ 64) }
+{
+    let mut next = counter;
+    for block in blocks.iter_mut() {
+        *block = next.to_be_bytes();
+        next = next.wrapping_add(1);
+    }
+}
+
+// Makes the blocks the output blocks of a counter and of those that follow it.
+fn write_outputs<C: BlockCipherEncrypt>(cipher: &C, blocks: &mut [[u8; 8]], counter: u64)
+    ensures { (j : ℕ) → j < length blocks.old → slice_index_or blocks.new j []
+        ≡ C.encrypted cipher.now (to_be_bytes w64 ((counter + j) % 2 ^ 64)) }
+{
+    write_counters(blocks, counter);
+    cipher.encrypt_blocks(blocks);
+}
+
+// Each byte of the data becomes its xor with the byte of the blocks, one after another, at its place,
+// whose first is at `from`.
+fn xor_blocks_from(bytes: &mut [u8], blocks: &[[u8; 8]], from: usize)
+    requires { from + length bytes.old ≤ 8 * length blocks.now }
+    ensures { (i : ℕ) → i < length bytes.old → slice_index bytes.new i
+        ≡ bit_xor (slice_index bytes.old i)
+        (slice_index (slice_index_or blocks.now ((from + i) / 8) []) ((from + i) % 8)) }
+{
+    xor_from(bytes, blocks.as_flattened(), from);
+}
+
+// Encrypts or decrypts bytes of which the first goes with a byte of the output block of a counter.
+fn apply_part<C: BlockCipherEncrypt>(cipher: &C, counter: u64, used: usize, bytes: &mut [u8])
+    requires { used + length bytes.old ≤ 2048 }
+    ensures { (i : ℕ) → i < length bytes.old → slice_index bytes.new i
+        ≡ bit_xor (slice_index bytes.old i)
+        (slice_index (C.encrypted cipher.now (to_be_bytes w64 ((counter + (used + i) / 8) % 2 ^ 64)))
+        ((used + i) % 8)) }
+{
+    let mut blocks = [[0; 8]; TOGETHER];
+    let part = &mut blocks[..(used + bytes.len()).div_ceil(8)];
+    write_outputs(cipher, part, counter);
+    xor_blocks_from(bytes, part, used);
+}
+
+/// How far a stream of the counter mode has come: the counter of the block that goes next, and how
+/// many bytes of its output block are used.
+#[derive(Clone, Copy)]
+pub struct Counter {
+    pub(crate) counter: u64,
+    pub(crate) used: usize,
+    ghost fits: { used < 8 },
+}
+
+impl Counter {
+    ghost use Rattle.des_modes.specs.CtrStates.{IsCtrAt};
+
+    /// The beginning of the stream whose first counter block is `block`.
+    pub fn new(block: &[u8; 8]) -> Counter
+        ensures { IsCtrAt block.now 0 result }
+    {
+        Counter {
+            counter: u64::from_be_bytes(*block),
+            used: 0,
+        }
+    }
+
+    /// The place in the stream whose first counter block is `block` that has so many blocks behind it:
+    /// to decrypt a part, no other bytes are needed.
+    pub fn at(block: &[u8; 8], blocks: u64) -> Counter
+        ensures { IsCtrAt block.now (8 * blocks) result }
+    {
+        Counter {
+            counter: u64::from_be_bytes(*block).wrapping_add(blocks),
+            used: 0,
+        }
+    }
+
+    // The place that is so many bytes further on.
+    fn advanced(&self, bytes: usize) -> Counter
+        requires { bytes ≤ 2048 }
+        ensures { (t : List ℕ) (n : ℕ) → IsCtrAt t n self.now → IsCtrAt t (n + bytes) result }
+    {
+        let end = self.used + bytes;
+        Counter {
+            counter: self.counter.wrapping_add((end / 8) as u64),
+            used: end % 8,
+        }
+    }
+
+    /// Encrypts the bytes that come next in place, or decrypts them, which is the same: any number of
+    /// them. In pieces, wherever they are cut, they become what they become as one.
+    pub fn apply<C: BlockCipherEncrypt>(&mut self, cipher: &C, bytes: &mut [u8])
+        ensures after { (t : List ℕ) (n : ℕ) → IsCtrAt t n self.old
+            → IsCtrAt t (n + length bytes.old) self.new }
+        ensures applied { (t : List ℕ) (n : ℕ) → IsCtrAt t n self.old
+            → XorsFrom n (ctr_stream (C.encrypted cipher.now) t) bytes.old bytes.new }
+        ensures whole { (t p c : List ℕ) → IsCtrAt t (length p) self.old
+            → Ctr (C.encrypted cipher.now) t p c
+            → Ctr (C.encrypted cipher.now) t (p ++ bytes.old) (c ++ bytes.new) }
+    {
+        let mut from = 0;
+        'parts: while from < bytes.len() {
+            let count = (8 * TOGETHER - self.used).min(bytes.len() - from);
+            apply_part(
+                cipher,
+                self.counter,
+                self.used,
+                &mut bytes[from..from + count],
+            );
+            *self = self.advanced(count);
+            from += count;
+        }
+    }
+}
+
+/// Encrypts bytes in place by the counter mode, from the first counter block on, or decrypts them,
+/// which is the same: any number of them. With P the plaintext, C the ciphertext and T(1) the first
+/// counter block, C(j) = P(j) ^ E(T(j)), where T(j+1) = T(j) + 1 modulo 2^64. A counter block must not be used twice
+/// under a key.
+pub fn apply<C: BlockCipherEncrypt>(cipher: &C, block: &[u8; 8], bytes: &mut [u8])
+    ensures applied { Ctr (C.encrypted cipher.now) block.now bytes.old bytes.new }
+    ensures undone { (text : List ℕ) → Ctr (C.encrypted cipher.now) block.now text bytes.old
+        → bytes.new ≡ text }
+{
+    Counter::new(block).apply(cipher, bytes);
+}

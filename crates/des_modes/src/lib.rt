@@ -1,0 +1,21 @@
+//! Modes of operation of any lawful cipher: CFB, OFB and CTR, which make a stream cipher of it (FIPS
+//! 81; NIST SP 800-38A), and the key wraps of triple DES (RFC 3217; NIST SP 800-38F, 7).
+//!
+//! CFB, OFB and CTR hide a text only if no initialization vector or counter block is used twice under a
+//! key, and authenticate nothing: who knows a text can change what it is encrypted to into what any
+//! other is.
+#![tactic(auto)]
+
+pub mod by_key;
+pub mod cfb;
+pub mod cfb_bits;
+mod checks;
+pub mod cms_key_wrap;
+pub mod ctr;
+pub mod lists;
+pub mod ofb;
+pub mod tkw;
+pub mod unwrap_error;
+mod xored;
+
+pub use unwrap_error::UnwrapError;

@@ -1,0 +1,51 @@
+//! A cipher whose blocks go by the calls of lists, as the modes take it: the width of the batches and
+//! whether tables may be read are chosen once.
+
+ghost use Rattle.std.specs.Prelude.{◌≡◌};
+
+use des::cipher::{BlockCipherEncrypt, OneBlockAtATime};
+use des_fast::many::{ManyBlocks, Slice};
+use std::marker::PhantomData;
+
+/// The cipher by its calls of lists, in batches of `S::BATCH` blocks. If `no_tables` is true, no table is
+/// read at an index that depends on the key or on a block.
+#[derive(Drop)]
+pub struct ByLists<'a, C, S> {
+    cipher: &'a C,
+    no_tables: bool,
+    width: PhantomData<S>,
+}
+
+impl<'a, C: ManyBlocks, S: Slice> ByLists<'a, C, S> {
+    /// The calls of lists of the cipher.
+    pub fn new(cipher: &'a C, no_tables: bool) -> ByLists<'a, C, S>
+        ensures { result.cipher.now ≡ cipher.now }
+    {
+        ByLists {
+            cipher,
+            no_tables,
+            width: PhantomData,
+        }
+    }
+}
+
+impl<'a, C, S> OneBlockAtATime for ByLists<'a, C, S> {
+    ghost use Rattle.std.specs.Prelude.{refl};
+
+    ghost par_blocks_is_one = { refl };
+}
+
+impl<'a, C: ManyBlocks, S: Slice> BlockCipherEncrypt for ByLists<'a, C, S> {
+    ghost encrypted = { λ by. C.encrypted by.cipher.now };
+
+    fn encrypt_block(&self, block: &mut [u8; 8]) {
+        let mut blocks = [*block];
+        self.cipher
+            .encrypt_list_by::<S>(self.no_tables, &mut blocks);
+        *block = blocks[0];
+    }
+
+    fn encrypt_blocks(&self, blocks: &mut [[u8; 8]]) {
+        self.cipher.encrypt_list_by::<S>(self.no_tables, blocks);
+    }
+}

@@ -1,0 +1,91 @@
+//! Output feedback of 64 bits over any block cipher (FIPS 81, output feedback mode; NIST SP 800-38A,
+//! 6.4).
+
+ghost use Rattle.std.specs.Prelude.{◌≡◌, ◌<◌, ◌≤◌, ◌+◌, ◌/◌, ◌++◌, ℕ, List, length};
+ghost use Rattle.des_modes.specs.Streams.{XorsFrom};
+ghost use Rattle.des_modes.specs.Ofb.{Ofb, ofb_stream, output_block};
+
+use crate::xored::xor_from;
+use des::cipher::BlockCipherEncrypt;
+
+/// How far a stream of output feedback has come: its last output block, and how many bytes of it are
+/// used; 0 says that all are.
+#[derive(Clone, Copy)]
+pub struct Feedback {
+    pub(crate) block: [u8; 8],
+    pub(crate) used: usize,
+    ghost fits: { used < 8 },
+}
+
+impl Feedback {
+    ghost use Rattle.des_modes.specs.OfbStates.{IsOfbAt};
+
+    /// The beginning of the stream of an initialization vector.
+    pub fn new(iv: &[u8; 8]) -> Feedback
+        ensures { (encryption : List ℕ → List ℕ) → IsOfbAt encryption iv.now 0 result }
+    {
+        Feedback {
+            block: *iv,
+            used: 0,
+        }
+    }
+
+    // The output block that the next byte goes with.
+    #[inline]
+    fn current<C: BlockCipherEncrypt>(&self, cipher: &C) -> [u8; 8]
+        ensures { (iv : List ℕ) (n : ℕ) → IsOfbAt (C.encrypted cipher.now) iv n self.now
+            → result ≡ output_block (C.encrypted cipher.now) iv (n / 8 + 1) }
+    {
+        let mut block = self.block;
+        if self.used == 0 {
+            cipher.encrypt_block(&mut block);
+        }
+        block
+    }
+
+    // Encrypts or decrypts bytes that go with one output block.
+    fn apply_part<C: BlockCipherEncrypt>(&mut self, cipher: &C, bytes: &mut [u8])
+        requires some { 1 ≤ length bytes.old }
+        requires within { self.old.used + length bytes.old ≤ 8 }
+        ensures after { (iv : List ℕ) (n : ℕ) → IsOfbAt (C.encrypted cipher.now) iv n self.old
+            → IsOfbAt (C.encrypted cipher.now) iv (n + length bytes.old) self.new }
+        ensures applied { (iv : List ℕ) (n : ℕ) → IsOfbAt (C.encrypted cipher.now) iv n self.old
+            → XorsFrom n (ofb_stream (C.encrypted cipher.now) iv) bytes.old bytes.new }
+    {
+        let block = self.current(cipher);
+        xor_from(bytes, &block, self.used);
+        self.block = block;
+        self.used = (self.used + bytes.len()) % 8;
+    }
+
+    /// Encrypts the bytes that come next in place, or decrypts them, which is the same: any number of
+    /// them. In pieces, wherever they are cut, they become what they become as one.
+    pub fn apply<C: BlockCipherEncrypt>(&mut self, cipher: &C, bytes: &mut [u8])
+        ensures after { (iv : List ℕ) (n : ℕ) → IsOfbAt (C.encrypted cipher.now) iv n self.old
+            → IsOfbAt (C.encrypted cipher.now) iv (n + length bytes.old) self.new }
+        ensures applied { (iv : List ℕ) (n : ℕ) → IsOfbAt (C.encrypted cipher.now) iv n self.old
+            → XorsFrom n (ofb_stream (C.encrypted cipher.now) iv) bytes.old bytes.new }
+        ensures whole { (iv p c : List ℕ) → IsOfbAt (C.encrypted cipher.now) iv (length p) self.old
+            → Ofb (C.encrypted cipher.now) iv p c
+            → Ofb (C.encrypted cipher.now) iv (p ++ bytes.old) (c ++ bytes.new) }
+    {
+        let mut from = 0;
+        'parts: while from < bytes.len() {
+            let count = (8 - self.used).min(bytes.len() - from);
+            self.apply_part(cipher, &mut bytes[from..from + count]);
+            from += count;
+        }
+    }
+}
+
+/// Encrypts bytes in place by output feedback of 64 bits, from the initialization vector on, or
+/// decrypts them, which is the same: any number of them. With P the plaintext, C the ciphertext, E the
+/// cipher's encryption and O(0) the initialization vector, O(j) = E(O(j-1)) and C(j) = P(j) ^ O(j). An
+/// initialization vector must not be used twice under a key.
+pub fn apply<C: BlockCipherEncrypt>(cipher: &C, iv: &[u8; 8], bytes: &mut [u8])
+    ensures applied { Ofb (C.encrypted cipher.now) iv.now bytes.old bytes.new }
+    ensures undone { (text : List ℕ) → Ofb (C.encrypted cipher.now) iv.now text bytes.old
+        → bytes.new ≡ text }
+{
+    Feedback::new(iv).apply(cipher, bytes);
+}

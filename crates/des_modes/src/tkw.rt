@@ -1,0 +1,163 @@
+//! The key wrap TKW of triple DES (NIST SP 800-38F, 7), over any block cipher: a key of 2 to 2^28 - 1
+//! semiblocks of 32 bits becomes one semiblock longer. It needs no initialization vector.
+
+ghost use Rattle.std.specs.Prelude.{◌≡◌, ◌<◌, ◌≤◌, ◌+◌, ◌*◌, ◌-◌, ◌^◌, ◌++◌, ℕ, List, [], ◌∷◌, length, take, drop, replicate, IsOk, OnOk, OnErr};
+ghost use Rattle.std.specs.List.{All};
+ghost use Rattle.std.specs.Int.{w32, to_be_bytes};
+ghost use Rattle.des.specs.Cbc.{xor_blocks};
+ghost use Rattle.des_modes.specs.Tkw.{IsSemiblock, tkw, tw, tw_steps};
+
+use crate::checks::are_equal;
+use crate::unwrap_error::UnwrapError;
+use crate::xored::xor_from;
+use des::cipher::{BlockCipher, BlockCipherEncrypt, are_bytes};
+
+// The check value in front of the key, ICV3.
+const CHECK_VALUE: [u8; 4] = [0xa6; 4];
+
+// The elements of a list of arrays of 4 bytes are semiblocks. It does nothing: of such a list a proof
+// knows the lengths alone.
+fn are_semiblocks(words: &[[u8; 4]])
+    ensures { All IsSemiblock words.now }
+{
+    are_bytes(words.as_flattened());
+}
+
+// The block of two semiblocks.
+fn joined(first: &[u8; 4], second: &[u8; 4]) -> [u8; 8]
+    ensures { result ≡ first.now ++ second.now }
+{
+    let mut block = [0; 8];
+    block.copy_from_slice([*first, *second].as_flattened());
+    block
+}
+
+// Makes two semiblocks those of a block.
+fn split(block: &[u8; 8], first: &mut [u8; 4], second: &mut [u8; 4])
+    ensures first { first.new ≡ take 4 block.now }
+    ensures second { second.new ≡ drop 4 block.now }
+{
+    first.copy_from_slice(&block[..4]);
+    second.copy_from_slice(&block[4..]);
+}
+
+// A semiblock becomes its xor with the number of a step.
+fn xor_number(word: &mut [u8; 4], number: u32)
+    ensures { word.new ≡ xor_blocks word.old (to_be_bytes w32 number) }
+{
+    xor_from(word, &number.to_be_bytes(), 0);
+}
+
+// What a step makes of the first semiblock and the next.
+fn step<C: BlockCipherEncrypt>(cipher: &C, first: &mut [u8; 4], word: &mut [u8; 4], number: u32)
+    ensures first { first.new ≡ xor_blocks
+        (take 4 (C.encrypted cipher.now (first.old ++ word.old))) (to_be_bytes w32 number) }
+    ensures word { word.new ≡ drop 4 (C.encrypted cipher.now (first.old ++ word.old)) }
+{
+    let mut block = joined(first, word);
+    cipher.encrypt_block(&mut block);
+    split(&block, first, word);
+    xor_number(first, number);
+}
+
+// What a step made these two semiblocks of.
+fn step_back<C: BlockCipher>(cipher: &C, first: &mut [u8; 4], word: &mut [u8; 4], number: u32)
+    ensures first { xor_blocks (take 4 (C.encrypted cipher.now (first.new ++ word.new)))
+        (to_be_bytes w32 number) ≡ first.old }
+    ensures word { drop 4 (C.encrypted cipher.now (first.new ++ word.new)) ≡ word.old }
+{
+    xor_number(first, number);
+    let mut block = joined(first, word);
+    are_bytes(&block);
+    cipher.decrypt_block(&mut block);
+    split(&block, first, word);
+}
+
+// As many steps as there are semiblocks after the first.
+fn pass<C: BlockCipherEncrypt>(cipher: &C, first: &mut [u8; 4], words: &mut [[u8; 4]], before: u32)
+    requires { before + length words.old < 2 ^ 32 }
+    ensures { tw_steps (C.encrypted cipher.now) before (length words.old) (first.old ∷ words.old)
+        ≡ first.new ∷ words.new }
+{
+    'words: for i in 0..words.len() {
+        step(cipher, first, &mut words[i], before + i as u32 + 1);
+    }
+}
+
+// What a pass made these semiblocks of.
+fn pass_back<C: BlockCipher>(cipher: &C, first: &mut [u8; 4], words: &mut [[u8; 4]], before: u32)
+    requires { before + length words.old < 2 ^ 32 }
+    ensures { tw_steps (C.encrypted cipher.now) before (length words.old) (first.new ∷ words.new)
+        ≡ first.old ∷ words.old }
+{
+    let mut left = words.len();
+    'words: while left > 0 {
+        step_back(cipher, first, &mut words[left - 1], before + left as u32);
+        left -= 1;
+    }
+}
+
+// TW, of the first semiblock and the others.
+fn transform<C: BlockCipherEncrypt>(cipher: &C, first: &mut [u8; 4], words: &mut [[u8; 4]])
+    requires { length words.old < 2 ^ 28 }
+    ensures { tw (C.encrypted cipher.now) (first.old ∷ words.old) ≡ first.new ∷ words.new }
+{
+    let count = words.len() as u32;
+    'passes: for passes in 0..6 {
+        pass(cipher, first, words, passes * count);
+    }
+}
+
+// What TW made these semiblocks of.
+fn transform_back<C: BlockCipher>(cipher: &C, first: &mut [u8; 4], words: &mut [[u8; 4]])
+    requires { length words.old < 2 ^ 28 }
+    ensures { tw (C.encrypted cipher.now) (first.new ∷ words.new) ≡ first.old ∷ words.old }
+{
+    let count = words.len() as u32;
+    let mut passes = 6;
+    'passes: while passes > 0 {
+        passes -= 1;
+        pass_back(cipher, first, words, passes * count);
+    }
+}
+
+/// Wraps a key of at least two semiblocks into a list that is one semiblock longer.
+pub fn wrap<C: BlockCipherEncrypt>(cipher: &C, key: &[[u8; 4]], wrapped: &mut [[u8; 4]])
+    requires some { 2 ≤ length key.now }
+    requires few { length key.now < 2 ^ 28 }
+    requires room { length wrapped.old ≡ length key.now + 1 }
+    ensures { wrapped.new ≡ tkw (C.encrypted cipher.now) key.now }
+{
+    let mut first = CHECK_VALUE;
+    wrapped[1..].copy_from_slice(key);
+    transform(cipher, &mut first, &mut wrapped[1..]);
+    wrapped[0] = first;
+}
+
+/// Unwraps a key into a list that is one semiblock shorter than what wraps it. Where it wraps no key
+/// under this cipher, the answer is `UnwrapError`, and the list is zeros. Every byte of the check
+/// value is looked at.
+pub fn unwrap<C: BlockCipher>(
+    cipher: &C,
+    wrapped: &[[u8; 4]],
+    key: &mut [[u8; 4]],
+) -> Result<(), UnwrapError>
+    requires some { 2 ≤ length key.old }
+    requires few { length key.old < 2 ^ 28 }
+    requires room { length wrapped.now ≡ length key.old + 1 }
+    ensures unwrapped { OnOk result (tkw (C.encrypted cipher.now) key.new ≡ wrapped.now) }
+    ensures accepted { (other : List (List ℕ)) → All IsSemiblock other
+        → tkw (C.encrypted cipher.now) other ≡ wrapped.now → IsOk result × (key.new ≡ other) }
+    ensures none { OnErr result (key.new ≡ replicate (length key.old) (replicate 4 0)) }
+{
+    let mut first = wrapped[0];
+    key.copy_from_slice(&wrapped[1..]);
+    transform_back(cipher, &mut first, key);
+    are_bytes(&first);
+    are_semiblocks(key);
+    if are_equal(&first, &CHECK_VALUE) {
+        return Ok(());
+    }
+    key.fill([0; 4]);
+    Err(UnwrapError)
+}

@@ -1,0 +1,23 @@
+//! The error of what wraps no key.
+
+ghost use Rattle.std.specs.Prelude.{codes, Some};
+
+use std::error::Error;
+use std::fmt;
+
+/// The error of what wraps no key under this one: it was made under another, or changed.
+#[derive(Clone, Copy, Debug, PartialEq, Eq)]
+pub struct UnwrapError;
+
+/// Writes the type's name, whatever options are set.
+impl fmt::Display for UnwrapError {
+    ghost output = { λ _. Some (codes "UnwrapError") };
+
+    ghost styled_output = { λ _ _. Some (codes "UnwrapError") };
+
+    fn fmt<W: fmt::Write>(&self, f: &mut fmt::Formatter<W>) -> fmt::Result {
+        f.write_str("UnwrapError")
+    }
+}
+
+impl Error for UnwrapError {}

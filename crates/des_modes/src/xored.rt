@@ -1,0 +1,34 @@
+//! The xor of bytes with others.
+
+ghost use Rattle.std.specs.Prelude.{◌≡◌, ◌<◌, ◌≤◌, ◌+◌, ◌*◌, ◌/◌, ◌%◌, ℕ, [], length, slice_index, slice_index_or, bit_xor};
+ghost use Rattle.des_modes.specs.Streams.{XorsFrom};
+
+/// Each byte of the data becomes its xor with the byte of the key stream at its place, whose first is
+/// at `from`.
+pub(crate) fn xor_from(bytes: &mut [u8], key_stream: &[u8], from: usize)
+    requires { from + length bytes.old ≤ length key_stream.now }
+    ensures { (i : ℕ) → i < length bytes.old → slice_index bytes.new i
+        ≡ bit_xor (slice_index bytes.old i) (slice_index key_stream.now (from + i)) }
+{
+    for (i, byte) in bytes.iter_mut().enumerate() {
+        *byte ^= key_stream[from + i];
+    }
+}
+
+/// Each segment of the data becomes its xor with as many bytes of the block at its place.
+pub(crate) fn xor_segments(bytes: &mut [u8], blocks: &[[u8; 8]], segment: usize)
+    requires some { 1 ≤ segment }
+    requires short { segment ≤ 8 }
+    requires enough { length bytes.old ≤ segment * length blocks.now }
+    ensures { XorsFrom 0 (λ i. slice_index (slice_index_or blocks.now (i / segment) []) (i % segment))
+        bytes.old bytes.new }
+{
+    let mut from = 0;
+    let mut j = 0;
+    'segments: while from < bytes.len() {
+        let count = segment.min(bytes.len() - from);
+        xor_from(&mut bytes[from..from + count], &blocks[j], 0);
+        from += count;
+        j += 1;
+    }
+}
