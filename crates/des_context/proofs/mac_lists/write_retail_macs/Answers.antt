@@ -1,9 +1,9 @@
 -- A group more.
 use Rattle.std.proofs.Common.{◌≡◌, ℕ, ◌+◌, ◌-◌, ◌∙◌, arith}
 use Rattle.std.proofs.lemmas.List.{length-map, take-map, drop-map}
+use Rattle.des_fast.proofs.ZippedParts.{answers-more}
 use Rattle.des_mac.specs.ManyMessages.{texts}
 use Rattle.des_context.specs.MacAlgorithms.{mac_by}
-use Rattle.des_mac.proofs.ManyCmacs.{answers-more}
 use Rattle.des_context.proofs.mac_lists.write_retail_macs.Goals as goal
 
 pub groups-preserved : goal.groups-preserved
@@ -18,5 +18,5 @@ groups-preserved g c =
           rw next at (answers-more (mac_by 3 c.args.padding) m n c.args.keys.now (texts c.args.messages.now)
           c.args.tags.now c.groups.tags c.write_retail_group.new.tags c.if-keys-tags.false as_messages
           (omega (arith, c.groups.invariant.within)) c.groups.invariant.made
-          (simp (take-map, drop-map) c.write_retail_group.ensures));
+          (λ _. simp (take-map, drop-map) c.write_retail_group.ensures));
     }
