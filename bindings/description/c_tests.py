@@ -45,5 +45,7 @@ def handed(library):
 def numbers(header):
     yield "/* What each call of the header gives that gives a number. Made by bindings/describe. */"
     yield "static void gives_numbers(void) {"
-    yield from (f"  CHECK(cukvashe_{name}() == {number});" for name, (_, number) in header.numbers.items())
+    yield from (f"  CHECK(cukvashe_{name}_size() == sizeof(cukvashe_{name}));" for name in header.structs)
+    constants = [it for it in header.constants if it not in header.statuses]
+    yield from (f"  CHECK(cukvashe_{it.name.lower()}() == {it.number});" for it in constants)
     yield "}"

@@ -1,4 +1,5 @@
-"""Mistakes in the header that must be refused: what stands there once, what stands in its place, and a part of the refusal."""
+"""Mistakes in the header, and in the known calls, that must be refused: what stands there once, what stands in its place, and a part of the
+refusal."""
 
 from sources.text import Refused
 
@@ -45,15 +46,36 @@ MISTAKES = [
     ("CUKVASHE_ERR_BLOCKS; _COUNTS if `count`", "CUKVASHE_ERR_CONTEXT, _BLOCKS; _COUNTS if `count`", "after what its export returns"),
     ("CUKVASHE_CHECK int cukvashe_pvv(const uint8_t key[16], const char *account, size_t account_length, int index",
      "CUKVASHE_CHECK int cukvashe_pvv(const uint8_t key[16], const char *account, size_t account_length, int pair", "it has no value for"),
+    ("_cryptogram(const uint8_t session[16], const uint8_t *data", "_cryptogram(const uint8_t session[16], const uint8_t *card",
+     "takes the secret 'card' without a size"),
     ("void cukvashe_emv_application_key(", "void cukvashe_card_application_key(", "has no export in crates/des_c"),
 ]
 
+OF_KNOWN_CALLS = [
+    ("emv_application_key CARD_KEY x001c = ", "emv_counter_key CARD_KEY x001c = ", "is like no call of the header"),
+    ('pin_encode_2 "1234" = ', "pin_encode_2 = ", "does not have the words of cukvashe_pin_encode_2: pin"),
+    ("dukpt_pin_key TRANSACTION = ", "dukpt_pin_key TRANSACTION true = ", "does not have the words of cukvashe_dukpt_pin_key: transaction"),
+    ("PAIR CARD 1 \"1234\" = ", "PAIR CARD \"1234\" 1 = ", "has a word for 'index' that cukvashe_pvv does not take"),
+    ("= xf94a6571647b89f7", '= "f94a6571647b89f7"', "does not say what cukvashe_emv_response_1 writes"),
+    ("pin_decode_1 x141234fe09a51234 = ", "pin_decode_1 x141234fe09a512 = ", "has a word that C leaves no place for, and no error"),
+    ("natural_pin PAIR TABLE VALIDATION 5 = ", "natural_pin PAIR TABLE VALIDATION -5 = ", "has a word that C leaves no place for, and no error"),
+    ("= xd5d4\n", "= xd5d4 x4f\n", "says more than cukvashe_short_key_check_value writes"),
+    ("! WrongPin the PIN", "! WrongPins the PIN", "has the error WrongPins, which is no status"),
+    ("cvv PAIR CARD \"8701\" \"101\" = ", "cvv PAIRS CARD \"8701\" \"101\" = ", "'PAIRS' is no name"),
+]
 
-def test(text, make):
-    """Makes all that is made of each mistaken header. How many there were."""
-    for old, new, refusal in MISTAKES:
+
+def test(text, known_calls, make):
+    """Makes all that is made of each mistaken header, and of each mistaken known call. How many there were."""
+    refuses("the header", text, MISTAKES, lambda mistaken: make(mistaken, known_calls))
+    refuses("the known calls", known_calls, OF_KNOWN_CALLS, lambda mistaken: make(text, mistaken))
+    return len(MISTAKES) + len(OF_KNOWN_CALLS)
+
+
+def refuses(what, text, mistakes, make):
+    for old, new, refusal in mistakes:
         if text.count(old) != 1:
-            raise Refused(f"bindings/description/planted.py: the header has {text.count(old)} times '{old}', and not once")
+            raise Refused(f"bindings/description/planted.py: {text.count(old)} times '{old}' is in {what}, and not once")
         try:
             make(text.replace(old, new))
         except Refused as it:
@@ -61,4 +83,3 @@ def test(text, make):
                 raise Refused(f"of '{new}' it says: {it}") from None
         else:
             raise Refused(f"it takes '{new}' in the place of '{old}'")
-    return len(MISTAKES)

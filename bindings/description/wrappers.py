@@ -67,6 +67,10 @@ class Wrapped:
         self.returns_status = call.result.base == "int"
         lengths = {f"{it.name}_length" for it in given} | {"length"}
         self.arguments = [self._argument(it, stack) for it in given if not (it.type.base == "size_t" and it.name in lengths)]
+        for it in self.arguments:
+            # What is made wipes its copies of keys and texts, and none of bytes.
+            if it.kind == "bytes" and it.name in stack.secrets:
+                raise Refused(f"{PLACE}: cukvashe_{call.name} takes the secret '{it.name}' without a size: no comment of its own, and wrappers by hand")
 
     @staticmethod
     def _argument(it, stack):
@@ -194,16 +198,6 @@ def of_javascript(header, stack, read_errors, exports):
             }
             yield f"    {camel(name)}: {how[one.kind]},"
         yield from ["  };", f'  return {"writtenText" if it.is_text else "written"}("{it.name}", given);', "}"]
-
-
-def of_tests(header, stack, read_errors):
-    """The rows of the tests' table of calls: right arguments, and which wrong types each takes too."""
-    for it in wrapped(header, stack, read_errors):
-        values = {"key": "PAIR", "bytes": "of(8)", "response": "true"}
-        right = [values.get(one.kind) or (f"of({one.size})" if one.size else BY_NAME[one.name]) for one in it.arguments]
-        kinds = {"text": "isText", "response": "(it) => it === undefined || it === true"}
-        wrong = ["(it) => it === undefined" if it.is_optional(one) else kinds.get(one.kind, "BYTES") for one in it.arguments]
-        yield f'    ["{camel(it.name)}", [{", ".join(right)}], [{", ".join(wrong)}]],'
 
 
 def of_types(header, stack, read_errors):

@@ -323,18 +323,19 @@ static void hands_on_any_blocks(size_t length) {
   for (size_t i = 0; i < sizeof counts / sizeof *counts; i++) hands_on_blocks(counts[i], length);
 }
 
-/* Calls with structs, and one in another order. Their texts are a call's of its own, so any address will do. */
+/* Calls with structs, whose fields are given by their order, and one in another order. Their texts are a call's of its own, so any address
+   will do. */
 static void hands_on_structs(void) {
   const char *const text = (const char *)base;
   cukvashe_pin_translation translation = {iv, 1, 1, base, 2, text, 3, NULL};
-  const cukvashe_key_block_parts parts = {.protection = iv, .protection_length = 1, .optional = text, .optional_length = 2, .key = input,
-                                          .key_length = 3, .padding = base, .padding_length = 4};
+  const cukvashe_key_block_parts parts = {iv, 1, {0}, text, 2, input, 3, base, 4};
   CHECK(cukvashe_pin_translate_to_0(&translation, input, output) == STATUS);
   WAS_WIPED("unwiped", "pin_translate_to_0", A(iv), 1, 1, A(base), 2, A(text), 3, A(input), A(output));
   CHECK(cukvashe_pin_translate_to_1(&translation, input, output) == STATUS);
   WAS_WIPED("unwiped", "pin_translate_to_1", A(iv), 1, A(base), 2, A(input), A(output));
   CHECK(cukvashe_pin_translate_to_3(&translation, input, output) == STATUS);
   WAS_WIPED("unwiped", "pin_translate_to_3", A(iv), 1, 1, A(base), 2, A(text), 3, A(no_fill), A(input), A(output));
+  CHECK(sizeof no_fill == CUKVASHE_FILL_SIZE);
   translation.fill = base;
   CHECK(cukvashe_pin_translate_to_3(&translation, input, output) == STATUS);
   WAS_WIPED("unwiped", "pin_translate_to_3", A(iv), 1, 1, A(base), 2, A(text), 3, A(base), A(input), A(output));

@@ -70,6 +70,7 @@ int main(void) {
   for (size_t i = 0; i < calls; i++)
     if (strstr(orders[i].name, "_init") || strcmp(orders[i].name, "key_block_wrap") == 0) CHECK(orders[i].call(none) == CUKVASHE_OK);
   for (size_t i = 0; i < calls; i++) returns_the_first(&orders[i]);
+  CHECK(pairs > 350);
   printf("orders: %zu calls with each fault, and with %zu pairs of faults\n", calls, pairs);
   return 0;
 }

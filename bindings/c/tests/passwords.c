@@ -1,100 +1,8 @@
-/* Keys from passwords: published ones and those that `openssl enc -P` prints; what `openssl enc` wrote; each fault by the least wrong
-   input, and that nothing is written then. With names of files, `passwords CIPHER HASH ITERATIONS PASSWORD FILE PLAIN`, it opens the
-   file, and compares. */
+/* What `openssl enc` wrote, with room for it, and each fault by the least wrong input; known calls are in known.c. With names of files,
+   `passwords CIPHER HASH ITERATIONS PASSWORD FILE PLAIN`, it opens the file, and compares. */
 #include "digits.h"
 
 static const char salt_digits[] = "0123456789abcdef";
-
-/* PBKDF2: RFC 6070, and for SHA-256 RFC 7914, section 11. */
-static const struct {
-  int hash;
-  const char *password, *salt;
-  size_t iterations;
-  const char *key;
-} derived[] = {
-    {CUKVASHE_SHA1, "password", "salt", 1, "0c60c80f961f0e71f3a9b524af6012062fe037a6"},
-    {CUKVASHE_SHA1, "password", "salt", 2, "ea6c014dc72d6f8ccd1ed92ace1d41f0d8de8957"},
-    {CUKVASHE_SHA1, "password", "salt", 4096, "4b007901b765489abead49d926f721d065a429c1"},
-    {CUKVASHE_SHA1, "passwordPASSWORDpassword", "saltSALTsaltSALTsaltSALTsaltSALTsalt", 4096,
-     "3d2eec4fe41c849b80c8d83662c0e44a8b291a964cf2f07038"},
-    {CUKVASHE_SHA256, "passwd", "salt", 1,
-     "55ac046e56e3089fec1691c22544b605f94185216dde0465e68b9d57c20dacbc"
-     "49ca9cccf179b645991664b39d77ef317c71b845b1e30bd509112041d3a19783"},
-    {CUKVASHE_SHA256, "Password", "NaCl", 80000,
-     "4ddcd8f60b98be21830cee5ef22701f9641a4418d04c0414aeff08876b34ab56"
-     "a1d425a1225833549adb841b51c9b3176a272bdebba1d078478f62b397f33c8d"},
-};
-
-/* The bytes that were written are those of the digits, and none after them. */
-static int is_key(const uint8_t *key, size_t room, const char *digits) {
-  uint8_t wanted[80];
-  const size_t count = strlen(digits) / 2;
-  put(wanted, digits);
-  return memcmp(key, wanted, count) == 0 && is_kept(key + count, room - count);
-}
-
-static void answers_published_keys(void) {
-  uint8_t key[80];
-  for (size_t i = 0; i < sizeof derived / sizeof *derived; i++) {
-    memset(key, PAINTED, sizeof key);
-    CHECK(cukvashe_pbkdf2(derived[i].hash, derived[i].iterations, (const uint8_t *)derived[i].password, strlen(derived[i].password),
-                          (const uint8_t *)derived[i].salt, strlen(derived[i].salt), key, strlen(derived[i].key) / 2) == CUKVASHE_OK);
-    CHECK(is_key(key, sizeof key, derived[i].key));
-  }
-}
-
-/* Key and vector that `openssl enc -des3 -P -S 0123456789ABCDEF -pass pass:secret` prints for each `-md`, with and without `-iter`. */
-static const struct {
-  int hash;
-  size_t iterations;
-  const char *key_and_vector;
-} printed[] = {
-    {CUKVASHE_MD5, 0, "5f772a83139a8d48ba45597c721ab6f2d37975c93f36a944cef01de4be7eb5d4"},
-    {CUKVASHE_SHA1, 0, "0367227b84a1c14afa3d9ac56823f56a3d7b9eb46392577deeb7c0acae589260"},
-    {CUKVASHE_SHA256, 0, "f153ef81cbc7ffbf834e5616495d710219caf9d13cbe822dae2ca8dcccae62fa"},
-    {CUKVASHE_SHA1, 1, "cb6fabc3f3fd2ec1e2e8c6b9022dc86e74202a7e41b146ff9899e68f6b6ca213"},
-    {CUKVASHE_SHA1, 10000, "1d1eb78f529e49042062cdd9e9f4b4aad23e6fd1e4cc2060cb799b75c523e1df"},
-    {CUKVASHE_SHA256, 1, "935825f530da89bd49e67570aa3e55a7e0bed1359f84f0ca859b183afe5c3cc1"},
-    {CUKVASHE_SHA256, 10000, "041771e1fc3357af9abf70057fcc8609982411bea5d63e036a0850b7c6c27437"},
-};
-
-static void answers_as_openssl_enc(void) {
-  const uint8_t *password = (const uint8_t *)"secret";
-  uint8_t salt[8], key[80];
-  put(salt, salt_digits);
-  for (size_t i = 0; i < sizeof printed / sizeof *printed; i++) {
-    const int hash = printed[i].hash;
-    memset(key, PAINTED, sizeof key);
-    if (printed[i].iterations == 0)
-      CHECK(cukvashe_bytes_to_key(hash, password, 6, salt, 8, key, 32) == CUKVASHE_OK);
-    else
-      CHECK(cukvashe_pbkdf2(hash, printed[i].iterations, password, 6, salt, 8, key, 32) == CUKVASHE_OK);
-    CHECK(is_key(key, sizeof key, printed[i].key_and_vector));
-  }
-}
-
-/* What it prints for `-nosalt`, in the place of the salt. */
-static const struct {
-  int hash;
-  const char *key_and_vector;
-} printed_without_salt[] = {
-    {CUKVASHE_MD5, "5ebe2294ecd0e0f08eab7690d2a6ee6926ae5cc854e36b6bdfca366848dea6bb"},
-    {CUKVASHE_SHA1, "e5e9fa1ba31ecd1ae84f75caaa474f3a663f05f412028f81da65d26ee56424b2"},
-    {CUKVASHE_SHA256, "2bb80d537b1da3e38bd30361aa855686bde0eacd7162fef6a25fe97bf527a25b"},
-};
-
-static void answers_as_openssl_enc_without_salt(void) {
-  const uint8_t *password = (const uint8_t *)"secret";
-  uint8_t key[80];
-  for (size_t i = 0; i < sizeof printed_without_salt / sizeof *printed_without_salt; i++) {
-    const uint8_t *const salts[] = {NULL, password};
-    for (size_t salt = 0; salt < 2; salt++) {
-      memset(key, PAINTED, sizeof key);
-      CHECK(cukvashe_bytes_to_key(printed_without_salt[i].hash, password, 6, salts[salt], 0, key, 32) == CUKVASHE_OK);
-      CHECK(is_key(key, sizeof key, printed_without_salt[i].key_and_vector));
-    }
-  }
-}
 
 typedef int open_salted(int hash, size_t iterations, const uint8_t *password, size_t password_length, const uint8_t *bytes,
                         size_t length, uint8_t *plain, size_t room, size_t *plain_length);
@@ -232,18 +140,9 @@ static void refuses_derivations(void) {
   CHECK(cukvashe_bytes_to_key(CUKVASHE_MD5, NULL, 0, NULL, 0, NULL, 0) == CUKVASHE_OK);
 }
 
-/* Each length of a salt that EVP_BytesToKey does not have, also that of Salted__ and a salt together, which stands before a number of
-   no hash function. PBKDF2 takes each. */
-static void refuses_salts(void) {
-  static const int hashes[] = {CUKVASHE_MD5, CUKVASHE_SHA1, CUKVASHE_SHA256, 0, -1, CUKVASHE_PKCS7};
+/* PBKDF2 takes a salt of any length. */
+static void takes_salts(void) {
   uint8_t key[32], salt[17] = "Salted__saltsalt";
-  memset(key, PAINTED, sizeof key);
-  for (size_t i = 0; i < sizeof hashes / sizeof *hashes; i++)
-    for (size_t length = 1; length <= sizeof salt; length++) {
-      if (length == 8) continue;
-      CHECK(cukvashe_bytes_to_key(hashes[i], salt, 6, salt, length, key, 32) == CUKVASHE_ERR_SALT_LENGTH && is_kept(key, 32));
-    }
-  CHECK(cukvashe_bytes_to_key(CUKVASHE_MD5, salt, 6, salt, 7, NULL, 0) == CUKVASHE_ERR_SALT_LENGTH);
   for (size_t length = 0; length <= sizeof salt; length++)
     CHECK(cukvashe_pbkdf2(CUKVASHE_SHA1, 1, salt, 6, salt, length, key, 32) == CUKVASHE_OK);
 }
@@ -277,14 +176,11 @@ int main(int count, char **words) {
     return 0;
   }
   CHECK(count == 1);
-  answers_published_keys();
-  answers_as_openssl_enc();
-  answers_as_openssl_enc_without_salt();
   opens_files();
   refuses_files();
   refuses_most_passwords();
   refuses_derivations();
-  refuses_salts();
-  printf("passwords: %d files of `openssl enc`, keys of each hash function, and each fault\n", (int)FILES);
+  takes_salts();
+  printf("passwords: %d files of `openssl enc`, and each fault\n", (int)FILES);
   return 0;
 }

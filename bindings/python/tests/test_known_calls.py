@@ -28,7 +28,7 @@ def each_of(words):
 
 class KnownCalls(unittest.TestCase):
     def setUp(self):
-        self.names = {"right": None}
+        self.names, self.made = {"right": None}, 0
 
     def value(self, word):
         whole, (kind, _, of) = WORD.fullmatch(word), word.partition(":")
@@ -56,6 +56,7 @@ class KnownCalls(unittest.TestCase):
                 named[by_name] = tuple(map(tuple, self.value(value))) if value[0] == "[" else self.value(value)
             else:
                 places.append(self.value(word))
+        self.made += 1
         forms = [places]
         if name not in OF_NAMES and all(word.isascii() for word in places if isinstance(word, str)):
             forms.append([word.encode() if isinstance(word, str) else word for word in places])
@@ -72,7 +73,7 @@ class KnownCalls(unittest.TestCase):
             self.assertEqual(list(answer) if isinstance(answer, tuple) else [answer], wanted, line)
 
     def test_known_calls(self):
-        outcome, words, made = "", [""], 0
+        outcome, words = "", [""]
         for line in lines_of("bindings", "known_calls.txt"):
             if line[0] in "=!":
                 outcome = line.rstrip("\n")
@@ -89,5 +90,4 @@ class KnownCalls(unittest.TestCase):
                 for word in words if "?" in call else [""] * (not tail):
                     number = re.search("[0-9]*$", word)[0]
                     self.comes_of(call.replace("?", word), outcome.replace("#", number))
-                    made += 1
-        self.assertGreater(made, 4900)
+        self.assertGreater(self.made, 5000)

@@ -32,77 +32,22 @@ const others = () => [
   ["wrongTags", [IV, IV]],
 ];
 
-/** Of each call its name, arguments that it takes, and for each of them which wrong types it takes too. */
+/** Which wrong types an argument may have: another text, a number, or an object of no options; and where it may be left out, none. */
+function allowed(name, word, at) {
+  if (isText(word)) return isText;
+  if (typeof word === "number") return (it) => it === 5;
+  if (typeof word === "boolean") return (it) => it === undefined || it === true;
+  if (Array.isArray(word)) return isNumbers;
+  if (["wrapKeyBlock", "openSalted"].includes(name) && at === 3) return isOptions;
+  const isOptional = /^[A-Z].*mac/i.test(name) && at > 0;
+  return (it) => it === undefined && (isOptional || (name === "emvResponse2" && at === 3));
+}
+
+/** Of each call its name, arguments that it takes, as many as there are, and for each of them which wrong types it takes too. */
 export function allCalls() {
-  const cipher = new library.TdesEde3(KEY);
-  const table = new library.DecimalTable("0123456789012345");
-  return [
-    ["Des", [KEY.subarray(0, 8)], [BYTES]],
-    ["TdesEde2", [PAIR], [BYTES]],
-    ["TdesEde3", [KEY], [BYTES]],
-    ["RetailMacDes", [PAIR, 2, IV], [BYTES, (it) => it === 5, (it) => it === undefined]],
-    ["CmacTdesEde2", [PAIR, IV], [BYTES, (it) => it === undefined]],
-    ["pad", [IV, "pkcs7"], [BYTES, isText]],
-    ["unpad", [library.pad(IV, "pkcs7"), "pkcs7"], [BYTES, isText]],
-    ["isWeakKey", [KEY], [BYTES]],
-    ["withOddParity", [KEY], [BYTES]],
-    ["equalButParity", [KEY, KEY], [BYTES, BYTES]],
-    ["checkValue", [library.TdesEde3, KEY], [BYTES, BYTES]],
-    ["combine", [PAIR, KEY.slice(0, 16), MESSAGE.slice(0, 16)], [BYTES, BYTES, BYTES]],
-    ["dukptNextSerial", [SERIAL], [BYTES]],
-    ["dukptIsUsable", [SERIAL], [BYTES]],
-    ["pinEncode0", ["1234", ACCOUNT], [isText, isText]],
-    ["pinEncode1", ["1234", FILL], [isText, BYTES]],
-    ["pinEncode3", ["1234", ACCOUNT, FILL], [isText, isText, BYTES]],
-    ["pinDecode0", [unhex("041274edcba9876f"), ACCOUNT], [BYTES, isText]],
-    ["pinDecode1", [unhex("141234fe09a51234")], [BYTES]],
-    ["pinDecode3", [unhex("341274b9f9b9d35d"), ACCOUNT], [BYTES, isText]],
-    // Calls like those of cukvashe_des.h: made of it by bindings/describe.
-    ["dukptInitialKey", [PAIR, of(10)], [BYTES, BYTES]],
-    ["dukptTransactionKey", [PAIR, of(10)], [BYTES, BYTES]],
-    ["dukptPinKey", [PAIR], [BYTES]],
-    ["dukptMacKey", [PAIR, true], [BYTES, (it) => it === undefined || it === true]],
-    ["dukptDataKey", [PAIR, true], [BYTES, (it) => it === undefined || it === true]],
-    ["dukptDataVariant", [PAIR, true], [BYTES, (it) => it === undefined || it === true]],
-    ["cvv", [PAIR, "4012345678909", "8701", "101"], [BYTES, isText, isText, isText]],
-    ["emvCardKey", [PAIR, "4012345678909", "00"], [BYTES, isText, isText]],
-    ["emvCardKeyB", [PAIR, "4012345678909", "00"], [BYTES, isText, isText]],
-    ["emvApplicationKey", [PAIR, of(2)], [BYTES, BYTES]],
-    ["emvSessionKey", [PAIR, of(8)], [BYTES, BYTES]],
-    ["emvApplicationCryptogram", [PAIR, of(8)], [BYTES, BYTES]],
-    ["emvResponse1", [PAIR, of(8), of(2)], [BYTES, BYTES, BYTES]],
-    ["emvResponse2", [PAIR, of(8), of(4), of(8)], [BYTES, BYTES, BYTES, (it) => it === undefined]],
-    // This ends what bindings/describe made.
-    ["keyCheckValue", [PAIR], [BYTES]],
-    ["shortKeyCheckValue", [PAIR], [BYTES]],
-    ["DukptTerminal", [PAIR, SERIAL], [BYTES, BYTES]],
-    ["pinEncode2", ["1234"], [isText]],
-    ["pinDecode2", [unhex("241234ffffffffff")], [BYTES]],
-    ["pinTranslateTo0", [0, ACCOUNT, SENT, KEYS], [isFive, isText, BYTES, BYTES]],
-    ["pinTranslateTo1", [ONE, KEYS], [BYTES, BYTES]],
-    ["pinTranslateTo3", [0, ACCOUNT, FILL, SENT, KEYS], [isFive, isText, BYTES, BYTES, BYTES]],
-    ["pvv", [PAIR, ACCOUNT, 1, "1234"], [BYTES, isText, isFive, isText]],
-    ["pvvVerify", [PAIR, "4123456789012345", 1, "1234", "1894"], [BYTES, isText, isFive, isText, isText]],
-    ["DecimalTable", ["0123456789012345"], [isText]],
-    ["naturalPin", [PAIR, table, IV, 4], [BYTES, BYTES, BYTES, isFive]],
-    ["pinOffset", [PAIR, table, IV, "1234"], [BYTES, BYTES, BYTES, isText]],
-    ["pinOffsetVerify", [PAIR, table, unhex("4123456789012345"), "9519", "9999"], [BYTES, BYTES, BYTES, isText, isText]],
-    ["unwrapKeyBlock", [PROTECTION, BLOCK], [BYTES, isText]],
-    ["wrapKeyBlock", [PROTECTION, library.keyBlockHeader(BLOCK), PAIR, WRAPPED], [BYTES, BYTES, BYTES, isOptions]],
-    ["keyBlockHeader", [BLOCK], [isText]],
-    ["keyBlockContext", [BLOCK], [isText]],
-    ["keyBlockOptionalBlocks", [BLOCK], [isText]],
-    ["pbkdf2", ["sha1", SECRET, IV, 1, 24], [isText, BYTES, BYTES, isFive, isFive]],
-    ["bytesToKey", ["md5", SECRET, IV, 24], [isText, BYTES, BYTES, isFive]],
-    ["openSalted", [library.TdesEde3, SECRET, SALTED, { hashName: "sha256" }], [BYTES, BYTES, BYTES, isOptions]],
-    ["encryptEach", [library.TdesEde3, KEY, IV], [BYTES, BYTES, BYTES]],
-    ["decryptEach", [library.TdesEde3, KEY, IV], [BYTES, BYTES, BYTES]],
-    ["checkValues", [library.TdesEde3, KEY], [BYTES, BYTES]],
-    ["dukptTransactionKeysFromBase", [PAIR, SERIAL], [BYTES, BYTES]],
-    ["encryptCbcRecords", [cipher, IV, { vectors: IV, counts: [1] }], [BYTES, BYTES, BYTES]],
-    ["decryptCbcRecords", [cipher, IV, { vectors: IV, counts: [1] }], [BYTES, BYTES, BYTES]],
-    ["macs", [library.RetailMacDes, PAIR, 2, [24], MESSAGE], [BYTES, BYTES, (it) => it === 5, isNumbers, BYTES]],
-    ["macsEach", [library.RetailMacDes, PAIR, 2, [24], MESSAGE], [BYTES, BYTES, (it) => it === 5, isNumbers, BYTES]],
-    ["wrongTags", [IV, IV], [BYTES, BYTES]],
-  ];
+  const calls = new Map(others());
+  for (const { name, words, error } of knownCalls()) {
+    if (error === undefined && words.length > (calls.get(name)?.length ?? 0)) calls.set(name, words);
+  }
+  return [...calls].map(([name, words]) => [name, words, words.map((word, at) => allowed(name, word, at))]);
 }
