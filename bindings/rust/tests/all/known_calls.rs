@@ -480,5 +480,5 @@ fn known_calls_answer() {
             assert_eq!(made, Ok(wanted), "{call:?}");
         }
     });
-    assert!(said > 1800, "{said}");
+    assert!(said > 1950, "{said}");
 }
