@@ -606,13 +606,27 @@ CUKVASHE_CHECK int cukvashe_compare_tags(const uint8_t *tags, size_t tags_length
  * CHECK VALUES AND COMPONENTS
  *
  * int cukvashe_NAME_check_value(const uint8_t *key, size_t key_length, uint8_t value[3])
- * int cukvashe_key_check_value(const uint8_t *key, size_t key_length, uint8_t value[3])
- * int cukvashe_short_key_check_value(const uint8_t *key, size_t key_length, uint8_t value[2])
  *
  * The key check value (KCV) of a key or component: the first three bytes of the block of zeros, encrypted under it by
- * NAME, or by the cipher of its length, 8, 16 or 24 bytes. `short` gives the first two. Errors:
+ * NAME. Errors: CUKVASHE_ERR_KEY_LENGTH.
+ */
+CUKVASHE_CHECK int cukvashe_des_check_value(const uint8_t *key, size_t key_length, uint8_t value[3]);
+CUKVASHE_CHECK int cukvashe_tdes_ede2_check_value(const uint8_t *key, size_t key_length, uint8_t value[3]);
+CUKVASHE_CHECK int cukvashe_tdes_ede3_check_value(const uint8_t *key, size_t key_length, uint8_t value[3]);
+
+/*
+ * The check value of a key or component of 8, 16 or 24 bytes: by DES or, where it is longer, triple DES (EDE). Errors:
  * CUKVASHE_ERR_KEY_LENGTH.
- *
+ */
+CUKVASHE_CHECK int cukvashe_key_check_value(const uint8_t *key, size_t key_length, uint8_t value[3]);
+
+/*
+ * The first two bytes of the check value of a key or component of 8, 16 or 24 bytes, which some systems show. Errors:
+ * CUKVASHE_ERR_KEY_LENGTH.
+ */
+CUKVASHE_CHECK int cukvashe_short_key_check_value(const uint8_t *key, size_t key_length, uint8_t value[2]);
+
+/*
  * int cukvashe_NAME_check_values(const uint8_t *keys, size_t keys_length, uint8_t *values, size_t values_length,
  *                                size_t count)
  *
@@ -626,11 +640,6 @@ CUKVASHE_CHECK int cukvashe_compare_tags(const uint8_t *tags, size_t tags_length
  * `others_count` more components, one after the other. Branches on the key. Errors of combine: CUKVASHE_ERR_COUNTS if
  * `others_length` is not that of `others_count` components; _WEAK_KEY.
  */
-CUKVASHE_CHECK int cukvashe_des_check_value(const uint8_t *key, size_t key_length, uint8_t value[3]);
-CUKVASHE_CHECK int cukvashe_tdes_ede2_check_value(const uint8_t *key, size_t key_length, uint8_t value[3]);
-CUKVASHE_CHECK int cukvashe_tdes_ede3_check_value(const uint8_t *key, size_t key_length, uint8_t value[3]);
-CUKVASHE_CHECK int cukvashe_key_check_value(const uint8_t *key, size_t key_length, uint8_t value[3]);
-CUKVASHE_CHECK int cukvashe_short_key_check_value(const uint8_t *key, size_t key_length, uint8_t value[2]);
 CUKVASHE_CHECK int cukvashe_des_check_values(const uint8_t *keys, size_t keys_length, uint8_t *values,
                                              size_t values_length, size_t count);
 CUKVASHE_CHECK int cukvashe_tdes_ede2_check_values(const uint8_t *keys, size_t keys_length, uint8_t *values,

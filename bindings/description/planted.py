@@ -48,6 +48,10 @@ MISTAKES = [
      "CUKVASHE_CHECK int cukvashe_pvv(const uint8_t key[16], const char *account, size_t account_length, int pair", "it has no value for"),
     ("_cryptogram(const uint8_t session[16], const uint8_t *data", "_cryptogram(const uint8_t session[16], const uint8_t *card",
      "takes the secret 'card' without a size"),
+    ("CUKVASHE_ERR_KEY_LENGTH.\n */\nCUKVASHE_CHECK int cukvashe_key_check_value(",
+     "CUKVASHE_ERR_KEY_LENGTH, _WEAK_KEY.\n */\nCUKVASHE_CHECK int cukvashe_key_check_value(", "has an error that wrappers.py has no name for"),
+    ("CUKVASHE_ERR_KEY_LENGTH.\n */\nCUKVASHE_CHECK int cukvashe_key_check_value(",
+     "CUKVASHE_ERR_KEY_LENGTH, _TAG.\n */\nCUKVASHE_CHECK int cukvashe_key_check_value(", "or none in its module of Rust"),
     ("void cukvashe_emv_application_key(", "void cukvashe_card_application_key(", "has no export in crates/des_c"),
 ]
 

@@ -9,7 +9,7 @@ from sources.text import Refused
 
 from .header import PLACE
 from .javascript import camel
-from .statuses import capitalized, errors, short
+from .statuses import NO_ERRORS, capitalized, errors, short
 
 # What arguments are called in texts of errors, where that is not `the NAME`.
 WHAT = {
@@ -27,23 +27,30 @@ NOTES = {
         "rust": "To check one that a card sent, call `verify` of [`RetailMacDes`](crate::mac::RetailMacDes), and do not compare by `==`.",
     }
 }
+# The sizes of a key that goes with its length.
+KEY_SIZES = (8, 16, 24)
 # Modules of Rust by the beginning of their calls' names: the file, the name of the error, and what their errors say that have a sentence
-# for several modules.
+# for several modules. Calls of no other module stand in the last, whose one error is that of a key's length.
 ACCOUNT = "the account number does not have {} to 19 digits"
 MODULES = {
-    "dukpt_": ("bindings/rust/src/payment.rs", None, {}),
     "emv_": ("bindings/rust/src/payment/emv.rs", "EmvError", {"ACCOUNT_LENGTH": ACCOUNT.format(8)}),
     "cvv": ("bindings/rust/src/payment/card_verification.rs", "CvvError", {"ACCOUNT_LENGTH": ACCOUNT.format(12)}),
+    "": ("bindings/rust/src/payment.rs", None, {}),
 }
 
 
 @dataclass(frozen=True)
 class Argument:
-    """What a caller gives: its name, its kind, `key`, `array`, `text`, `bytes` or `response`, and the size of a key or an array."""
+    """What a caller gives: its name, its kind, `key`, `array`, `text`, `bytes` or `response`, and the size of an array or of a key that has
+    one, else 0."""
 
     name: str
     kind: str
     size: int
+
+    @property
+    def sizes(self):
+        return ", ".join(map(str, [self.size] if self.size else KEY_SIZES))
 
     @property
     def what(self):
@@ -66,16 +73,21 @@ class Wrapped:
         self.is_secret = self.is_text or self.written.name in stack.secrets
         self.returns_status = call.result.base == "int"
         lengths = {f"{it.name}_length" for it in given} | {"length"}
-        self.arguments = [self._argument(it, stack) for it in given if not (it.type.base == "size_t" and it.name in lengths)]
+        self.arguments = [self._argument(it, stack, statuses) for it in given if not (it.type.base == "size_t" and it.name in lengths)]
+        by_hand = "no comment of its own, and wrappers by hand"
+        if set(statuses) & NO_ERRORS or (not MODULES[rust_module(call.name)[0]][1] and set(statuses) - {"KEY_LENGTH"}):
+            raise Refused(f"{PLACE}: cukvashe_{call.name} has an error that wrappers.py has no name for, or none in its module of Rust: {by_hand}")
         for it in self.arguments:
             # What is made wipes its copies of keys and texts, and none of bytes.
             if it.kind == "bytes" and it.name in stack.secrets:
-                raise Refused(f"{PLACE}: cukvashe_{call.name} takes the secret '{it.name}' without a size: no comment of its own, and wrappers by hand")
+                raise Refused(f"{PLACE}: cukvashe_{call.name} takes the secret '{it.name}' without a size: {by_hand}")
 
     @staticmethod
-    def _argument(it, stack):
+    def _argument(it, stack, statuses):
         if it.type.sizes:
             return Argument(it.name, "key" if it.name in stack.secrets else "array", it.type.sizes[0])
+        if it.name == "key" and "KEY_LENGTH" in statuses:
+            return Argument(it.name, "key", 0)
         return Argument(it.name, {"char": "text", "bool": "response"}.get(it.type.base, "bytes"), 0)
 
     def is_optional(self, argument):
@@ -136,8 +148,9 @@ def python_call(it, names):
     managers, words = [], []
     for one in it.arguments:
         if one.kind in ("key", "text"):
-            managers.append(f"key_of({one.name}, {one.size}) as held_{one.name}" if one.kind == "key" else f"text_of({one.name}) as held_{one.name}")
+            managers.append(f"key_of({one.name}, {one.sizes}) as held_{one.name}" if one.kind == "key" else f"text_of({one.name}) as held_{one.name}")
             words.append(f"held_{one.name}" if one.kind == "key" else f"*held_{one.name}")
+            words += [f"len(held_{one.name})"] * (one.kind == "key" and not one.size)
         elif one.kind == "array":
             yield f'    taken_{one.name} = data_of({one.name}, {one.size}, "{one.what} has", {one.fault}Error)'
             words.append(f"taken_{one.name}")
@@ -156,7 +169,7 @@ def python_call(it, names):
 def of_python(header, stack, read_errors):
     calls, names = list(wrapped(header, stack, read_errors)), list(errors(header))
     faults = sorted({f"{one.fault}Error" for it in calls for one in it.arguments if one.fault and one.kind == "array"})
-    yield '"""Keys of a transaction (DUKPT), card verification values, and card cryptograms (EMV): made of the header by bindings/describe."""'
+    yield '"""Check values, keys of a transaction (DUKPT), values and cryptograms of cards (EMV): made of the header by bindings/describe."""'
     yield ""
     yield "from __future__ import annotations"
     yield ""
@@ -190,7 +203,7 @@ def of_javascript(header, stack, read_errors, exports):
         pairs = sorted(zip(it.arguments, exports[it.name].pairs), key=lambda pair: pair[0].kind in ("key", "text"))
         for one, (name, _) in pairs:
             how = {
-                "key": f"keyOf({one.name}, {one.size})",
+                "key": f"keyOf({one.name}, {one.sizes})",
                 "array": f'dataOf({one.name}, {one.size}, "{one.what}", "has", {one.fault})',
                 "text": f'textOf({one.name}, "{one.what}")',
                 "bytes": f'bytesOf({one.name}, "{one.what}")',
@@ -243,10 +256,16 @@ def rust_errors(header, error, calls, own):
     yield from [f"        _ => Err({error}::{variants[last]}),", "    }", "}"]
 
 
-def rust_call(it, beginning, error):
-    name = it.name.removeprefix(beginning) if beginning.endswith("_") else it.name
+def rust_module(name):
+    """The beginning of the name of a call, and its name in Rust."""
+    beginning = next(it for it in MODULES if name.startswith(it))
+    return beginning, name.removeprefix("dukpt_" if not beginning else beginning if beginning.endswith("_") else "")
+
+
+def rust_call(it, error):
+    name = rust_module(it.name)[1]
     size = it.size - it.is_text
-    result = f"Result<[u8; {size}], {error}>" if it.returns_status else f"[u8; {size}]"
+    result = f"Result<[u8; {size}], {error or 'InvalidLength'}>" if it.returns_status else f"[u8; {size}]"
     yield ""
     yield from textwrap.wrap(f"{it.said} {it.note('rust')}".strip(), 126, initial_indent="/// ", subsequent_indent="/// ", break_on_hyphens=False)
     yield from [] if it.returns_status else ["#[must_use]"]
@@ -254,7 +273,7 @@ def rust_call(it, beginning, error):
     taken = [types.get(one.kind) or f"{one.name}: &[u8{f'; {one.size}' * bool(one.size)}]" for one in it.arguments]
     yield from rust_broken(f"pub fn {name}(", taken, f") -> {result} {{", "")
     yield f"    let mut made = [0; {it.size}];"
-    pointer = {"text": ".as_ptr().cast()", "bytes": ".as_ptr()"}
+    pointer = {"text": ".as_ptr().cast()", "bytes": ".as_ptr()", "key": ".as_ptr()"}
     given = []
     for one in it.arguments:
         if one.kind == "response":
@@ -289,12 +308,17 @@ def rust_uses(header, error, calls, own):
 def of_rust(header, stack, read_errors):
     """By its place, what is made of each module."""
     calls = list(wrapped(header, stack, read_errors))
-    for it in calls:
-        if not any(it.name.startswith(beginning) for beginning in MODULES):
-            raise Refused(f"{PLACE}: bindings/description/wrappers.py has no module of Rust for cukvashe_{it.name}")
     for beginning, (place, error, own) in MODULES.items():
-        found = [it for it in calls if it.name.startswith(beginning)]
+        found = [it for it in calls if rust_module(it.name)[0] == beginning]
         lines = rust_uses(header, error, found, own) if error else []
         lines += ["// SAFETY of each call below: the pointers are of references, those of texts and data good for their lengths, and don't"]
         lines += ["// overlap what is written."]
-        yield place, [*lines, *(line for it in found for line in rust_call(it, beginning, error))]
+        yield place, [*lines, *(line for it in found for line in rust_call(it, error))]
+
+
+def of_rust_tests(header, stack, read_errors):
+    """Each call with arguments of a known call, if they have a place in Rust."""
+    for it in wrapped(header, stack, read_errors):
+        places = {"response": "given.message()", "bytes": "given.last({at})"}
+        taken = [places.get(one.kind, "given.at({at})?").format(at=at) for at, one in enumerate(it.arguments)]
+        yield f'        "{it.name}" => {rust_module(it.name)[1]}({", ".join(taken)}).made(),'

@@ -278,13 +278,6 @@ export function equalButParity(first: Uint8Array, second: Uint8Array): boolean;
  * TdesEde2. KeyLength.
  */
 export function checkValue(cipher: CipherClass, key: Uint8Array): Uint8Array;
-/**
- * The check value (KCV) of a key or component of 8, 16 or 24 bytes, by DES or, where it is longer, triple DES (EDE).
- * KeyLength.
- */
-export function keyCheckValue(key: Uint8Array): Uint8Array;
-/** The first two bytes of keyCheckValue, which some systems show. KeyLength. */
-export function shortKeyCheckValue(key: Uint8Array): Uint8Array;
 /** The key that two or more components of 8, 16 or 24 bytes make: their xor, with odd parity. KeyLength, WeakKey. */
 export function combine(first: Uint8Array, second: Uint8Array, ...others: Uint8Array[]): Uint8Array;
 
@@ -404,10 +397,20 @@ export function pinOffsetVerify(
   key: Uint8Array, table: DecimalTable, validation: Uint8Array, pin: Digits, offset: Digits,
 ): true;
 
-// ---- Keys of a transaction (DUKPT), card verification values, and card cryptograms (EMV 4.3, Book 2), the issuer's
-// side. Keys have 16 bytes, key serial numbers ten
+// ---- Check values of keys of any length, keys of a transaction (DUKPT), card verification values, and card cryptograms
+// (EMV 4.3, Book 2), the issuer's side. Other keys have 16 bytes, key serial numbers ten
 
 // Calls like those of cukvashe_des.h: made of it by bindings/describe.
+/**
+ * The check value of a key or component of 8, 16 or 24 bytes: by DES or, where it is longer, triple DES (EDE).
+ * KeyLength.
+ */
+export function keyCheckValue(key: Uint8Array): Uint8Array;
+/**
+ * The first two bytes of the check value of a key or component of 8, 16 or 24 bytes, which some systems show.
+ * KeyLength.
+ */
+export function shortKeyCheckValue(key: Uint8Array): Uint8Array;
 /**
  * The initial key of a terminal, from the base derivation key and any of the terminal's key serial numbers, whose
  * counter plays no part. KeyLength, SerialLength.

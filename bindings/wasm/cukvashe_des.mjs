@@ -1012,16 +1012,6 @@ export function checkValue(cipher, key, ...more) {
   return written("internal_check_value", { keySize, key: bytes });
 }
 
-export function keyCheckValue(key, ...more) {
-  refuseMore(more);
-  return written("key_check_value", { key: keyOf(key, ...SIZES) });
-}
-
-export function shortKeyCheckValue(key, ...more) {
-  refuseMore(more);
-  return written("short_key_check_value", { key: keyOf(key, ...SIZES) });
-}
-
 export function combine(first, second, ...others) {
   const one = keyOf(first, ...SIZES);
   const size = one.length;
@@ -1239,9 +1229,25 @@ export function pinOffsetVerify(key, table, validation, pin, offset, ...more) {
   return true;
 }
 
-// ---- Keys of a transaction, card verification values, and card cryptograms -------------------------------------------
+// ---- Check values, keys of a transaction, card verification values, and card cryptograms ----------------------------
 
 // Calls like those of cukvashe_des.h: made of it by bindings/describe.
+
+export function keyCheckValue(key, ...more) {
+  refuseMore(more);
+  const given = {
+    key: keyOf(key, 8, 16, 24),
+  };
+  return written("key_check_value", given);
+}
+
+export function shortKeyCheckValue(key, ...more) {
+  refuseMore(more);
+  const given = {
+    key: keyOf(key, 8, 16, 24),
+  };
+  return written("short_key_check_value", given);
+}
 
 export function dukptInitialKey(base, serial, ...more) {
   refuseMore(more);

@@ -327,6 +327,21 @@ static int faulty_cmac_tdes_ede3_macs_each(const bool *has) {
   return cukvashe_cmac_tdes_ede3_macs_each(keys, CUKVASHE_CMAC_TDES_EDE3_KEY_SIZE * count, messages, (void *)rooms[0],
     8 * count, has[0] ? count + 1 : count);
 }
+static int faulty_des_check_value(const bool *has) {
+  return cukvashe_des_check_value(key, has[0] ? 7 : CUKVASHE_DES_KEY_SIZE, (void *)rooms[0]);
+}
+static int faulty_tdes_ede2_check_value(const bool *has) {
+  return cukvashe_tdes_ede2_check_value(key, has[0] ? 7 : CUKVASHE_TDES_EDE2_KEY_SIZE, (void *)rooms[0]);
+}
+static int faulty_tdes_ede3_check_value(const bool *has) {
+  return cukvashe_tdes_ede3_check_value(key, has[0] ? 7 : CUKVASHE_TDES_EDE3_KEY_SIZE, (void *)rooms[0]);
+}
+static int faulty_key_check_value(const bool *has) {
+  return cukvashe_key_check_value(key, has[0] ? 7 : 24, (void *)rooms[0]);
+}
+static int faulty_short_key_check_value(const bool *has) {
+  return cukvashe_short_key_check_value(key, has[0] ? 7 : 24, (void *)rooms[0]);
+}
 static int faulty_des_check_values(const bool *has) {
   return cukvashe_des_check_values(keys, CUKVASHE_DES_KEY_SIZE * count, (void *)rooms[0], 3 * count,
     has[0] ? count + 1 : count);
@@ -347,21 +362,6 @@ static int faulty_combine_16(const bool *has) {
 }
 static int faulty_combine_24(const bool *has) {
   return cukvashe_combine_24(has[1] ? no_bytes : key, others, others, 24, has[0] ? 2 : 1, (void *)rooms[0]);
-}
-static int faulty_des_check_value(const bool *has) {
-  return cukvashe_des_check_value(key, has[0] ? 7 : CUKVASHE_DES_KEY_SIZE, (void *)rooms[0]);
-}
-static int faulty_tdes_ede2_check_value(const bool *has) {
-  return cukvashe_tdes_ede2_check_value(key, has[0] ? 7 : CUKVASHE_TDES_EDE2_KEY_SIZE, (void *)rooms[0]);
-}
-static int faulty_tdes_ede3_check_value(const bool *has) {
-  return cukvashe_tdes_ede3_check_value(key, has[0] ? 7 : CUKVASHE_TDES_EDE3_KEY_SIZE, (void *)rooms[0]);
-}
-static int faulty_key_check_value(const bool *has) {
-  return cukvashe_key_check_value(key, has[0] ? 7 : 24, (void *)rooms[0]);
-}
-static int faulty_short_key_check_value(const bool *has) {
-  return cukvashe_short_key_check_value(key, has[0] ? 7 : 24, (void *)rooms[0]);
 }
 static int faulty_dukpt_next_serial(const bool *has) {
   return cukvashe_dukpt_next_serial(has[0] ? last_serial : serial, (void *)rooms[0]);
@@ -626,17 +626,17 @@ static const struct order orders[] = {
     {"cmac_tdes_ede2_macs_each", faulty_cmac_tdes_ede2_macs_each, {CUKVASHE_ERR_COUNTS}},
     {"cmac_tdes_ede3_macs", faulty_cmac_tdes_ede3_macs, {CUKVASHE_ERR_KEY_LENGTH, CUKVASHE_ERR_COUNTS}},
     {"cmac_tdes_ede3_macs_each", faulty_cmac_tdes_ede3_macs_each, {CUKVASHE_ERR_COUNTS}},
+    {"des_check_value", faulty_des_check_value, {CUKVASHE_ERR_KEY_LENGTH}},
+    {"tdes_ede2_check_value", faulty_tdes_ede2_check_value, {CUKVASHE_ERR_KEY_LENGTH}},
+    {"tdes_ede3_check_value", faulty_tdes_ede3_check_value, {CUKVASHE_ERR_KEY_LENGTH}},
+    {"key_check_value", faulty_key_check_value, {CUKVASHE_ERR_KEY_LENGTH}},
+    {"short_key_check_value", faulty_short_key_check_value, {CUKVASHE_ERR_KEY_LENGTH}},
     {"des_check_values", faulty_des_check_values, {CUKVASHE_ERR_COUNTS}},
     {"tdes_ede2_check_values", faulty_tdes_ede2_check_values, {CUKVASHE_ERR_COUNTS}},
     {"tdes_ede3_check_values", faulty_tdes_ede3_check_values, {CUKVASHE_ERR_COUNTS}},
     {"combine_8", faulty_combine_8, {CUKVASHE_ERR_COUNTS, CUKVASHE_ERR_WEAK_KEY}},
     {"combine_16", faulty_combine_16, {CUKVASHE_ERR_COUNTS, CUKVASHE_ERR_WEAK_KEY}},
     {"combine_24", faulty_combine_24, {CUKVASHE_ERR_COUNTS, CUKVASHE_ERR_WEAK_KEY}},
-    {"des_check_value", faulty_des_check_value, {CUKVASHE_ERR_KEY_LENGTH}},
-    {"tdes_ede2_check_value", faulty_tdes_ede2_check_value, {CUKVASHE_ERR_KEY_LENGTH}},
-    {"tdes_ede3_check_value", faulty_tdes_ede3_check_value, {CUKVASHE_ERR_KEY_LENGTH}},
-    {"key_check_value", faulty_key_check_value, {CUKVASHE_ERR_KEY_LENGTH}},
-    {"short_key_check_value", faulty_short_key_check_value, {CUKVASHE_ERR_KEY_LENGTH}},
     {"dukpt_next_serial", faulty_dukpt_next_serial, {CUKVASHE_ERR_NO_SERIAL}},
     {"dukpt_transaction_keys_from_base", faulty_dukpt_transaction_keys_from_base, {CUKVASHE_ERR_COUNTS}},
     {"dukpt_terminal_next_key", faulty_dukpt_terminal_next_key, {CUKVASHE_ERR_NO_SERIAL}},

@@ -78,6 +78,8 @@ from ._made import (
     emv_response_1,
     emv_response_2,
     emv_session_key,
+    key_check_value,
+    short_key_check_value,
 )
 # This ends what bindings/describe made.
 from ._ciphers import Cipher, Des, TdesEde2, TdesEde3
@@ -149,8 +151,6 @@ from ._keys import (
     dukpt_next_serial,
     equal_but_parity,
     is_weak_key,
-    key_check_value,
-    short_key_check_value,
     with_odd_parity,
 )
 from ._lists import (

@@ -1,9 +1,9 @@
-"""Keys: the weak key test, parity, check values, components, and the keys of a transaction."""
+"""Keys: the weak key test, parity, check values by class, components, and key serial numbers."""
 
 from __future__ import annotations
 
 import ctypes
-from typing import Any, Callable, Optional, Type
+from typing import Optional, Type
 
 from ._ciphers import Cipher, class_of
 from ._data import bytes_from, bytes_of, key_of, room, wiped_room
@@ -18,8 +18,6 @@ _weak_key_test = function("weak_key_test")
 _set_odd_parity = function("set_odd_parity")
 _equal_but_parity = function("equal_but_parity")
 _combine = {size: function(f"combine_{size}") for size in KEY_SIZES}
-_key_check_value = function("key_check_value")
-_short_key_check_value = function("short_key_check_value")
 _next_serial = function("dukpt_next_serial")
 _is_usable = function("dukpt_is_usable")
 
@@ -53,25 +51,6 @@ def check_value(cipher: Type[Cipher], key: ReadableBuffer) -> bytes:
     with key_of(key, kind.key_size) as held:
         check(kind.calls["check_value"](held, len(held), value))
     return bytes(value)
-
-
-def _value_by_length(call: Callable[..., Any], size: int, key: ReadableBuffer) -> bytes:
-    """The check value that a call makes of a key of any of the lengths."""
-    value = room(size)
-    with key_of(key, *KEY_SIZES) as held:
-        check(call(held, len(held), value))
-    return bytes(value)
-
-
-def key_check_value(key: ReadableBuffer) -> bytes:
-    """The check value (KCV) of a key or component of 8, 16 or 24 bytes, by DES or, where it is longer, triple DES (EDE).
-    KeyLengthError."""
-    return _value_by_length(_key_check_value, 3, key)
-
-
-def short_key_check_value(key: ReadableBuffer) -> bytes:
-    """The first two bytes of key_check_value, which some systems show. KeyLengthError."""
-    return _value_by_length(_short_key_check_value, 2, key)
 
 
 def combine(first: ReadableBuffer, second: ReadableBuffer, *others: ReadableBuffer) -> bytes:

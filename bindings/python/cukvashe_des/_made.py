@@ -1,4 +1,4 @@
-"""Keys of a transaction (DUKPT), card verification values, and card cryptograms (EMV): made of the header by bindings/describe."""
+"""Check values, keys of a transaction (DUKPT), values and cryptograms of cards (EMV): made of the header by bindings/describe."""
 
 from __future__ import annotations
 
@@ -8,6 +8,8 @@ from ._keys import response_of
 from ._library import function
 from ._types import ReadableBuffer, Text
 
+_key_check_value = function("key_check_value")
+_short_key_check_value = function("short_key_check_value")
 _dukpt_initial_key = function("dukpt_initial_key")
 _dukpt_transaction_key = function("dukpt_transaction_key")
 _dukpt_pin_key = function("dukpt_pin_key")
@@ -22,6 +24,24 @@ _emv_session_key = function("emv_session_key")
 _emv_application_cryptogram = function("emv_application_cryptogram")
 _emv_response_1 = function("emv_response_1")
 _emv_response_2 = function("emv_response_2")
+
+
+def key_check_value(key: ReadableBuffer) -> bytes:
+    """The check value of a key or component of 8, 16 or 24 bytes: by DES or, where it is longer, triple DES (EDE).
+    KeyLengthError."""
+    made = room(3)
+    with key_of(key, 8, 16, 24) as held_key:
+        check(_key_check_value(held_key, len(held_key), made))
+    return bytes(made)
+
+
+def short_key_check_value(key: ReadableBuffer) -> bytes:
+    """The first two bytes of the check value of a key or component of 8, 16 or 24 bytes, which some systems show.
+    KeyLengthError."""
+    made = room(2)
+    with key_of(key, 8, 16, 24) as held_key:
+        check(_short_key_check_value(held_key, len(held_key), made))
+    return bytes(made)
 
 
 def dukpt_initial_key(base: ReadableBuffer, serial: ReadableBuffer) -> bytes:

@@ -5,10 +5,11 @@ import unittest
 from unittest import mock
 
 import cukvashe_des
-from cukvashe_des import KeyLengthError, RetailMacDes, TdesEde2, TdesEde3, _keys, _padding, _terminal
+from cukvashe_des import KeyLengthError, RetailMacDes, TdesEde2, TdesEde3, _keys, _made, _padding, _terminal
+from cukvashe_des._calls import CALLS, INT
 from cukvashe_des._data import KINDS
 
-from .values import ANSWERS, CMACS, IV, KEY, MESSAGE, OBJECTS, PADDED_MACS, PAIR, SERIAL, TEXT, decrypt_records, encrypt_records
+from .values import ANSWERS, CMACS, FUNCTIONS, IV, KEY, MESSAGE, OBJECTS, PADDED_MACS, PAIR, SERIAL, TEXT, decrypt_records, encrypt_records
 
 # What a caller might set, or the package might ask a class, each with values of another cipher, and of none.
 ATTRIBUTES = [{"name": "des"}, {"name": "cmac_tdes_ede2"}, {"name": ""}, {"key_size": 8}, {"key_size": 16}, {"key_size": 24},
@@ -30,6 +31,11 @@ def outcome(call, *arguments):
         return call(*arguments)
     except (TypeError, ValueError) as error:
         return type(error), str(error)
+
+
+def returns_status(name):
+    """Whether a call is made of the header, and returns a status there."""
+    return hasattr(_made, name) and CALLS[name][0] is INT
 
 
 class Derived(unittest.TestCase):
@@ -128,8 +134,7 @@ class Statuses(unittest.TestCase):
     def test_functions(self):
         for module, name, call, arguments in (
             (_keys, "_weak_key_test", cukvashe_des.is_weak_key, (KEY,)),
-            (_keys, "_key_check_value", cukvashe_des.key_check_value, (KEY,)),
-            (_keys, "_short_key_check_value", cukvashe_des.short_key_check_value, (KEY,)),
+            *((_made, f"_{call.__name__}", call, arguments) for call, arguments in FUNCTIONS if returns_status(call.__name__)),
             (_keys, "_next_serial", cukvashe_des.dukpt_next_serial, (SERIAL,)),
             (_padding, "_pad", cukvashe_des.pad, (TEXT, "pkcs7")),
             (_padding, "_unpad", cukvashe_des.unpad, (TEXT, "pkcs7")),

@@ -558,23 +558,24 @@ class Wiped(WatchesWiping):
             name = call.__name__
             if name in ("dukpt_next_serial", "dukpt_is_usable", "pad", "unpad") or name.startswith("key_block_"):
                 continue
-            sizes = {"equal_but_parity": [8, 8], "is_weak_key": [24], "with_odd_parity": [8], "check_value": [24], "cvv": [3, 4, 4, 16, 16]}
+            sizes = {"equal_but_parity": [8, 8], "check_value": [24], "cvv": [3, 4, 4, 16, 16]}
             # a PIN of four digits, an account number of thirteen, a block, and room for the PIN
             sizes.update({"pin_encode_0": [4, 8, 13], "pin_encode_1": [4, 8], "pin_encode_3": [4, 8, 13]})
             sizes.update({"pin_decode_0": [8, 13, 13], "pin_decode_1": [8, 13], "pin_decode_3": [8, 13, 13]})
-            sizes.update({"pin_encode_2": [4, 8], "pin_decode_2": [8, 13], "key_check_value": [24], "short_key_check_value": [24]})
+            sizes.update({"pin_encode_2": [4, 8], "pin_decode_2": [8, 13]})
             # both keys, an account number, a block, and room for the other
             sizes.update({"to_format_0": [8, 8, 13, 16, 16], "to_format_1": [8, 8, 16, 16], "to_format_3": [8, 8, 13, 16, 16]})
             sizes.update({"pvv": [4, 5, 16, 16], "pvv_verify": [4, 4, 16, 16]})
             sizes.update({"natural_pin": [13, 16], "pin_offset": [4, 13, 16], "pin_offset_verify": [4, 4, 16]})
             sizes.update({"emv_card_key": [2, 16, 16, 17], "emv_card_key_b": [2, 16, 16, 17], "emv_session_key": [16, 16], "emv_application_key": [16, 16]})
-            sizes.update({"emv_application_cryptogram": [16], "emv_response_1": [16], "emv_response_2": [16]})
             sizes.update({"unwrap_key_block": [16, 24], "wrap_with_padding": [16, 16]})
             sizes.update({"pbkdf2": [24, 24], "bytes_to_key": [24, 24], "opens": [6, 56]})
             if name == "combine":  # the two components, a copy of the third, all others, and the key
                 sizes[name] = [24] * 5
             elif name.startswith("dukpt_"):
                 sizes[name] = [16, len(answer)]
+            elif name not in sizes:  # its key alone
+                sizes[name] = [len(arguments[0])]
             self.assertEqual(sorted(self.wiped), sizes[name], name)
 
     def test_refused_secrets(self):

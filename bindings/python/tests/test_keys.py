@@ -5,7 +5,7 @@ import unittest
 import cukvashe_des
 from cukvashe_des import KeyLengthError, TdesEde2, TdesEde3, pad, unpad
 
-from .values import BLOCK, BLOCK_HEADER, KEY, LENGTHS, OBJECTS, OTHER, PAIR, PROTECTION, SERIAL
+from .values import BLOCK, BLOCK_HEADER, KEY, LENGTHS, OBJECTS, OF_A_KEY, OTHER, PAIR, PROTECTION, SERIAL
 
 
 class Hexadecimal(unittest.TestCase):
@@ -14,8 +14,7 @@ class Hexadecimal(unittest.TestCase):
     CALLS = (
         *((kind, KEY[: kind.key_size], arguments[1:]) for kind, arguments in OBJECTS),
         (cukvashe_des.DukptTerminal, PAIR, (SERIAL,)),
-        *((call, PAIR, ()) for call in (cukvashe_des.is_weak_key, cukvashe_des.with_odd_parity, cukvashe_des.key_check_value,
-                                        cukvashe_des.short_key_check_value, cukvashe_des.dukpt_pin_key, cukvashe_des.dukpt_data_key)),
+        *((call, PAIR, ()) for call in (*OF_A_KEY, cukvashe_des.dukpt_pin_key, cukvashe_des.dukpt_data_key)),
         (cukvashe_des.combine, PAIR, (OTHER,)),
         *((call, PAIR, (SERIAL,)) for call in (cukvashe_des.dukpt_initial_key, cukvashe_des.dukpt_transaction_key,
                                                cukvashe_des.dukpt_transaction_keys_from_base)),

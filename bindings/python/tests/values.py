@@ -1,6 +1,7 @@
 """Known answers, and every object and call of the package with arguments that it takes."""
 
 import functools
+import inspect
 import os
 
 import cukvashe_des
@@ -154,10 +155,12 @@ def opens(password, data):
     return cukvashe_des.open_salted(TdesEde3, password, data)
 
 
+# The functions that take a key of any size, and nothing else.
+OF_A_KEY = [it for it in vars(cukvashe_des).values() if inspect.isfunction(it) and list(inspect.signature(it).parameters) == ["key"]]
+
 # Of each function its arguments. Of the numbers of card and PIN no three digits are a length that a text may tell.
 FUNCTIONS = [
-    (cukvashe_des.is_weak_key, (KEY,)),
-    (cukvashe_des.with_odd_parity, (KEY[:8],)),
+    *((call, (KEY,)) for call in OF_A_KEY),
     (cukvashe_des.equal_but_parity, (KEY[:8], KEY[8:16])),
     (cukvashe_des.check_value, (TdesEde3, KEY)),
     (cukvashe_des.combine, (KEY, bytes(range(24)), bytes(range(100, 124)))),
@@ -167,8 +170,6 @@ FUNCTIONS = [
     (cukvashe_des.dukpt_mac_key, (PAIR, True)),
     (cukvashe_des.dukpt_data_key, (PAIR, True)),
     (cukvashe_des.dukpt_data_variant, (PAIR, True)),
-    (cukvashe_des.key_check_value, (KEY,)),
-    (cukvashe_des.short_key_check_value, (KEY,)),
     (cukvashe_des.dukpt_next_serial, (SERIAL,)),
     (cukvashe_des.dukpt_is_usable, (SERIAL,)),
     (cukvashe_des.pad, (MESSAGE[:21], "pkcs7")),

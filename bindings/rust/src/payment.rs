@@ -66,16 +66,22 @@ pub trait CheckValue: KeyForEach {
     fn check_values(keys: &[Self::Key], values: &mut [[u8; 3]]) -> Result<(), CountsDiffer>;
 }
 
+/// What a call made, if the key has one of its lengths.
+fn checked<T>(status: i32, made: T) -> Result<T, InvalidLength> {
+    match status {
+        OK => Ok(made),
+        _ => Err(InvalidLength),
+    }
+}
+
 macro_rules! check_value {
     ($($cipher:ident: $call:ident, $calls:ident;)*) => {
         $(impl CheckValue for $cipher {
             fn check_value(key: &[u8]) -> Result<[u8; 3], InvalidLength> {
                 let mut value = [0; 3];
                 // SAFETY: the pointers are of references, good for their lengths, and don't overlap.
-                match unsafe { ffi::$call(key.as_ptr(), key.len(), &mut value) } {
-                    OK => Ok(value),
-                    _ => Err(InvalidLength),
-                }
+                let status = unsafe { ffi::$call(key.as_ptr(), key.len(), &mut value) };
+                checked(status, value)
             }
 
             fn check_values(keys: &[Self::Key], values: &mut [[u8; 3]]) -> Result<(), CountsDiffer> {
@@ -95,26 +101,6 @@ check_value!(
     TdesEde2: cukvashe_tdes_ede2_check_value, cukvashe_tdes_ede2_check_values;
     TdesEde3: cukvashe_tdes_ede3_check_value, cukvashe_tdes_ede3_check_values;
 );
-
-/// The check value (KCV) of a key or component of 8, 16 or 24 bytes: by DES or, where it is longer, triple DES (EDE).
-pub fn key_check_value(key: &[u8]) -> Result<[u8; 3], InvalidLength> {
-    let mut value = [0; 3];
-    // SAFETY: the pointers are of references, good for their lengths, and don't overlap.
-    match unsafe { ffi::cukvashe_key_check_value(key.as_ptr(), key.len(), &mut value) } {
-        OK => Ok(value),
-        _ => Err(InvalidLength),
-    }
-}
-
-/// The first two bytes of [`key_check_value`], which some systems show.
-pub fn short_key_check_value(key: &[u8]) -> Result<[u8; 2], InvalidLength> {
-    let mut value = [0; 2];
-    // SAFETY: as of `key_check_value`.
-    match unsafe { ffi::cukvashe_short_key_check_value(key.as_ptr(), key.len(), &mut value) } {
-        OK => Ok(value),
-        _ => Err(InvalidLength),
-    }
-}
 
 macro_rules! combine {
     ($($name:ident: $size:literal, $call:ident);*) => {
@@ -183,6 +169,20 @@ pub fn next_serial(serial: &[u8; 10]) -> Option<[u8; 10]> {
 // Calls like those of `cukvashe_des.h`: made of it by `bindings/describe`.
 // SAFETY of each call below: the pointers are of references, those of texts and data good for their lengths, and don't
 // overlap what is written.
+
+/// The check value of a key or component of 8, 16 or 24 bytes: by DES or, where it is longer, triple DES (EDE).
+pub fn key_check_value(key: &[u8]) -> Result<[u8; 3], InvalidLength> {
+    let mut made = [0; 3];
+    let status = unsafe { ffi::cukvashe_key_check_value(key.as_ptr(), key.len(), &mut made) };
+    checked(status, made)
+}
+
+/// The first two bytes of the check value of a key or component of 8, 16 or 24 bytes, which some systems show.
+pub fn short_key_check_value(key: &[u8]) -> Result<[u8; 2], InvalidLength> {
+    let mut made = [0; 2];
+    let status = unsafe { ffi::cukvashe_short_key_check_value(key.as_ptr(), key.len(), &mut made) };
+    checked(status, made)
+}
 
 /// The initial key of a terminal, from the base derivation key and any of the terminal's key serial numbers, whose counter
 /// plays no part.

@@ -254,12 +254,15 @@ function openSalted() {
   return ["openSalted", { class: name }, bytes(random(70)), Uint8Array.from(cut), by];
 }
 
+// The calls of a key of any size, and nothing else.
+const OF_A_KEY = Object.keys(library).filter((name) => /^function \w+\(key, \.\.\.more\)/.test(library[name]));
+
 const KINDS = [
   ...[keyBlock, wrapKeyBlock, openSalted],
   () => ["pbkdf2", hashName(), bytes(random(70)), bytes(random(40)), iterations(), often(() => 1 + random(70), () => 0)],
   () => ["bytesToKey", often(() => one(["md5", "sha1", "sha256"]), () => "md4"), bytes(random(70)), salt(), 1 + random(70)],
   ...[translate, pvvVerify, offsetVerify],
-  () => [one(["keyCheckValue", "shortKeyCheckValue"]), anyKey()],
+  () => [one(OF_A_KEY), anyKey()],
   () => ["dukptDataVariant", key(16), random(2) === 0],
   () => ["pinEncode2", pin()],
   () => ["pinDecode2", often(() => Uint8Array.of(0x24, random(256), random(256), ...bytes(5).fill(255)), vector)],
@@ -276,7 +279,6 @@ const KINDS = [
   ...[ecb, cbc, paddedMac, cmac, unpad, equalButParity, checkValue, combine, pinDecode],
   ...[each, checkValues, records, macs, wrongTags],
   () => ["pad", message(), method()],
-  () => [one(["isWeakKey", "withOddParity"]), anyKey()],
   () => [one(["dukptInitialKey", "dukptTransactionKey"]), key(16), serial()],
   () => ["dukptPinKey", key(16)],
   () => [one(["dukptMacKey", "dukptDataKey"]), key(16), random(2) === 0],

@@ -278,6 +278,24 @@ fn made(name: &str, given: &Given) -> Option<Made> {
         _ => None,
     };
     Some(match name {
+        // Calls like those of `cukvashe_des.h`: made of it by `bindings/describe`.
+        "key_check_value" => key_check_value(given.at(0)?).made(),
+        "short_key_check_value" => short_key_check_value(given.at(0)?).made(),
+        "dukpt_initial_key" => initial_key(given.at(0)?, given.at(1)?).made(),
+        "dukpt_transaction_key" => transaction_key(given.at(0)?, given.at(1)?).made(),
+        "dukpt_pin_key" => pin_key(given.at(0)?).made(),
+        "dukpt_mac_key" => mac_key(given.at(0)?, given.message()).made(),
+        "dukpt_data_key" => data_key(given.at(0)?, given.message()).made(),
+        "dukpt_data_variant" => data_variant(given.at(0)?, given.message()).made(),
+        "cvv" => cvv(given.at(0)?, given.at(1)?, given.at(2)?, given.at(3)?).made(),
+        "emv_card_key" => card_key(given.at(0)?, given.at(1)?, given.at(2)?).made(),
+        "emv_card_key_b" => card_key_b(given.at(0)?, given.at(1)?, given.at(2)?).made(),
+        "emv_application_key" => application_key(given.at(0)?, given.at(1)?).made(),
+        "emv_session_key" => session_key(given.at(0)?, given.at(1)?).made(),
+        "emv_application_cryptogram" => application_cryptogram(given.at(0)?, given.last(1)).made(),
+        "emv_response_1" => response_1(given.at(0)?, given.at(1)?, given.at(2)?).made(),
+        "emv_response_2" => response_2(given.at(0)?, given.at(1)?, given.at(2)?, given.last(3)).made(),
+        // This ends what bindings/describe made.
         "is_weak_key" => match weak_key_test(given.at(0)?) {
             Err(KeyTestError::WeakKey) => true.made(),
             tested => tested.map(|()| false).made(),
@@ -287,35 +305,19 @@ fn made(name: &str, given: &Given) -> Option<Made> {
             b"TdesEde2" => TdesEde2::check_value(given.at(1)?).made(),
             _ => TdesEde3::check_value(given.at(1)?).made(),
         },
-        "key_check_value" => key_check_value(given.at(0)?).made(),
-        "short_key_check_value" => short_key_check_value(given.at(0)?).made(),
         "with_odd_parity" | "equal_but_parity" | "combine" => match given.last(0).len() {
             8 => of_size(name, given, combine_8)?,
             16 => of_size(name, given, combine_16)?,
             _ => of_size(name, given, combine_24)?,
         },
-        "dukpt_initial_key" => initial_key(given.at(0)?, given.at(1)?).made(),
-        "dukpt_transaction_key" => transaction_key(given.at(0)?, given.at(1)?).made(),
         "dukpt_transaction_keys_from_base" => {
             let serials: Vec<[u8; 10]> =
                 given.last(1).chunks(10).map(|it| it.try_into().ok()).collect::<Option<_>>()?;
             let mut keys = vec![[0; 16]; serials.len()];
             transaction_keys_from_base(given.at(0)?, &serials, &mut keys).map(|()| keys.concat()).made()
         }
-        "dukpt_pin_key" => pin_key(given.at(0)?).made(),
-        "dukpt_mac_key" => mac_key(given.at(0)?, given.message()).made(),
-        "dukpt_data_key" => data_key(given.at(0)?, given.message()).made(),
-        "dukpt_data_variant" => data_variant(given.at(0)?, given.message()).made(),
         "dukpt_next_serial" => next_serial(given.at(0)?).made(),
         "dukpt_is_usable" => is_usable(given.at(0)?).made(),
-        "emv_card_key" => card_key(given.at(0)?, given.at(1)?, given.at(2)?).made(),
-        "emv_card_key_b" => card_key_b(given.at(0)?, given.at(1)?, given.at(2)?).made(),
-        "emv_session_key" => session_key(given.at(0)?, given.at(1)?).made(),
-        "emv_application_key" => application_key(given.at(0)?, given.at(1)?).made(),
-        "emv_application_cryptogram" => application_cryptogram(given.at(0)?, given.at(1)?).made(),
-        "emv_response_1" => response_1(given.at(0)?, given.at(1)?, given.at(2)?).made(),
-        "emv_response_2" => response_2(given.at(0)?, given.at(1)?, given.at(2)?, given.last(3)).made(),
-        "cvv" => cvv(given.at(0)?, given.at(1)?, given.at(2)?, given.at(3)?).made(),
         "pin_encode_0" => pin(0).and_then(|pin| encode_format_0(&pin, given.last(1))).made(),
         "pin_encode_1" => {
             let digits = given.at(1)?;
