@@ -269,7 +269,7 @@ def rust_call(it, error):
     yield ""
     yield from textwrap.wrap(f"{it.said} {it.note('rust')}".strip(), 126, initial_indent="/// ", subsequent_indent="/// ", break_on_hyphens=False)
     yield from [] if it.returns_status else ["#[must_use]"]
-    types = {"response": "message: Message"}
+    types = {"response": "message: MessageDirection"}
     taken = [types.get(one.kind) or f"{one.name}: &[u8{f'; {one.size}' * bool(one.size)}]" for one in it.arguments]
     yield from rust_broken(f"pub fn {name}(", taken, f") -> {result} {{", "")
     yield f"    let mut made = [0; {it.size}];"
@@ -277,7 +277,7 @@ def rust_call(it, error):
     given = []
     for one in it.arguments:
         if one.kind == "response":
-            given.append("message == Message::Response")
+            given.append("message == MessageDirection::Response")
         else:
             given += [one.name] if one.size else [one.name + pointer[one.kind], f"{one.name}.len()"]
     call = f"ffi::cukvashe_{it.name}({', '.join([*given, '&mut made'])})"

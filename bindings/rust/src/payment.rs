@@ -212,26 +212,26 @@ pub fn pin_key(transaction: &[u8; 16]) -> [u8; 16] {
 
 /// The key that authenticates the request, or the response, from the transaction's key.
 #[must_use]
-pub fn mac_key(transaction: &[u8; 16], message: Message) -> [u8; 16] {
+pub fn mac_key(transaction: &[u8; 16], message: MessageDirection) -> [u8; 16] {
     let mut made = [0; 16];
-    unsafe { ffi::cukvashe_dukpt_mac_key(transaction, message == Message::Response, &mut made) };
+    unsafe { ffi::cukvashe_dukpt_mac_key(transaction, message == MessageDirection::Response, &mut made) };
     made
 }
 
 /// The key that encrypts the data of the request, or of the response, from the transaction's key.
 #[must_use]
-pub fn data_key(transaction: &[u8; 16], message: Message) -> [u8; 16] {
+pub fn data_key(transaction: &[u8; 16], message: MessageDirection) -> [u8; 16] {
     let mut made = [0; 16];
-    unsafe { ffi::cukvashe_dukpt_data_key(transaction, message == Message::Response, &mut made) };
+    unsafe { ffi::cukvashe_dukpt_data_key(transaction, message == MessageDirection::Response, &mut made) };
     made
 }
 
 /// The key that encrypts the data, made without the last step: some terminals take it. It reveals the transaction's other
 /// keys.
 #[must_use]
-pub fn data_variant(transaction: &[u8; 16], message: Message) -> [u8; 16] {
+pub fn data_variant(transaction: &[u8; 16], message: MessageDirection) -> [u8; 16] {
     let mut made = [0; 16];
-    unsafe { ffi::cukvashe_dukpt_data_variant(transaction, message == Message::Response, &mut made) };
+    unsafe { ffi::cukvashe_dukpt_data_variant(transaction, message == MessageDirection::Response, &mut made) };
     made
 }
 // This ends what bindings/describe made.
