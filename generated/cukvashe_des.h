@@ -37,10 +37,11 @@
  *
  * SECRETS AND TIME
  *
- * A context of init is quick, one of init_quiet is quiet; both answer alike, and a copy is of its kind. With a quick
- * one, MACs, CBC encryption, and ECB and CBC decryption of a list whose number of blocks modulo 128 is 1 to 31 read
- * tables at addresses that depend on the key and the data; with a quiet one no call does, and MACs, CBC encryption and
- * short lists take up to four times as long. Take quiet ones if others run programs on the processor.
+ * The calls of a context of init may read tables, those of one of init_no_tables read none; both answer alike, and a
+ * copy is of its kind. With tables, MACs, CBC encryption, and ECB and CBC decryption of a list whose number of blocks
+ * modulo 128 is 1 to 31 read them at addresses that depend on the key and the data; without tables no call does, and
+ * MACs, CBC encryption and short lists take up to four times as long. Take contexts without tables if others run
+ * programs on the processor.
  *
  * Other calls, and those of records, read none. Calls branch on lengths, on the status that they return, and on account
  * and key serial numbers, dates, codes, fill digits and decimalization tables, which are not secret here; on anything
@@ -55,14 +56,14 @@
  *     base, card, first, initial, issuer, key, keys, parts, password, pin, protection, session, terminal, transaction,
  *     translation
  *
- * Calls with a context, except init and init_quiet, do not: they may leave round keys and parts of blocks there. These
- * are given nothing of that kind:
+ * Calls with a context, except init and init_no_tables, do not: they may leave round keys and parts of blocks there.
+ * Calls without arguments, and these, are given nothing of that kind:
  *
  *     compare_tags, decimal_table_init, decimal_table_init_any, dukpt_is_usable, dukpt_next_serial, key_block_context,
- *     key_block_header, key_block_optional_block, pad, strerror, unpad, version, wipe
+ *     key_block_header, key_block_optional_block, pad, strerror, unpad, wipe
  *
  * Registers are not wiped: a signal may store parts of keys, and so may lazy binding, so link the static library with
- * -z now. A call uses at most so many bytes of the stack; these sizes, and the zeros, are tested on Linux:
+ * -z now. Tests on Linux see the zeros, and that no call uses more bytes of the stack than this:
  *
  *      6,000   any that is not named below
  *     27,000   _ecb, _ecb_to, _cbc, _cbc_to, _each, _check_values, _open_salted, key_block_
@@ -77,9 +78,10 @@
  * proof is for Linux on x86-64 and aarch64; code for riscv64 and Windows is compiled from that for x86-64, and tested.
  *
  * cukvashe_unpad, cukvashe_dukpt_is_usable, cukvashe_dukpt_next_serial, cukvashe_decimal_table_init and _init_any, and
- * cukvashe_key_block_header, _context and _optional_block are such exports. wipe, strerror and version are C. Others are
- * C over hidden exports: it chooses the width of vectors, says which cipher or MAC is meant, reorders arguments, takes
- * them out of a struct, counts the blocks of a length, compares counts with lengths, and wipes the stack.
+ * cukvashe_key_block_header, _context and _optional_block are such exports. wipe, strerror and calls without arguments
+ * are C. Others are C over hidden exports: it chooses the width of vectors, says which cipher or MAC is meant, reorders
+ * arguments, takes them out of a struct, counts the blocks of a length, compares counts with lengths, and wipes the
+ * stack.
  */
 #ifndef CUKVASHE_DES_H
 #define CUKVASHE_DES_H
@@ -94,6 +96,9 @@ extern "C" {
 
 /* The version of this header; cukvashe_version() has that of the library. */
 #define CUKVASHE_VERSION "0.1.0"
+#define CUKVASHE_VERSION_MAJOR 0
+#define CUKVASHE_VERSION_MINOR 1
+#define CUKVASHE_VERSION_PATCH 0
 
 /* What a call that returns a status is declared with. Define it yourself, as empty, if you want no warnings. */
 #ifndef CUKVASHE_CHECK
@@ -109,60 +114,62 @@ extern "C" {
 #pragma GCC visibility push(default)
 #endif
 
-/* Statuses, each with the sentence that cukvashe_strerror gives. */
-#define CUKVASHE_OK 0                         /* success */
-#define CUKVASHE_ERR_KEY_LENGTH 1             /* the key does not have a length that the call takes */
-#define CUKVASHE_ERR_BLOCKS 2                 /* the length is not a multiple of 8 bytes */
-#define CUKVASHE_ERR_WEAK_KEY 3               /* the key is weak, or two of its parts are one key */
-#define CUKVASHE_ERR_PADDING_METHOD 4         /* the padding method is not one that the call takes */
-#define CUKVASHE_ERR_TAG 5                    /* the tag is not that of the message */
-#define CUKVASHE_ERR_NO_SERIAL 6              /* there is no next key serial number */
-#define CUKVASHE_ERR_FORMAT 7                 /* the first digit of the PIN block is not that of the format */
-#define CUKVASHE_ERR_PIN_LENGTH 8             /* the PIN does not have 4 to 12 digits */
-#define CUKVASHE_ERR_PIN_DIGIT 9              /* a character of the PIN is not a digit */
-#define CUKVASHE_ERR_ACCOUNT_LENGTH 10        /* the account number does not have 8 to 19 digits,
-                                                 for a PVV or a CVV 12 to 19 */
-#define CUKVASHE_ERR_ACCOUNT_DIGIT 11         /* a character of the account number is not a digit */
-#define CUKVASHE_ERR_FILL 12                  /* a fill digit is not one that the format allows */
-#define CUKVASHE_ERR_EXPIRY_LENGTH 13         /* the expiry date does not have four digits */
-#define CUKVASHE_ERR_EXPIRY_DIGIT 14          /* a character of the expiry date is not a digit */
-#define CUKVASHE_ERR_SERVICE_LENGTH 15        /* the service code does not have three digits */
-#define CUKVASHE_ERR_SERVICE_DIGIT 16         /* a character of the service code is not a digit */
-#define CUKVASHE_ERR_PADDING 17               /* the data do not end with the padding */
-#define CUKVASHE_ERR_CAPACITY 18              /* the buffer has no room for the padding, or for what is opened */
-#define CUKVASHE_ERR_COUNTS 19                /* the numbers of elements do not agree: a count, or a sum of counts,
-                                                 and a length */
-#define CUKVASHE_ERR_KEY_INDEX 20             /* the index of the key pair is not 1 to 6 */
-#define CUKVASHE_ERR_TABLE_LENGTH 21          /* the decimalization table does not have sixteen digits */
-#define CUKVASHE_ERR_TABLE_DIGIT 22           /* a character of the decimalization table is not a digit */
-#define CUKVASHE_ERR_TABLE_VARIETY 23         /* the decimalization table has fewer than eight different digits */
-#define CUKVASHE_ERR_WRONG_PIN 24             /* the PIN is not the one */
-#define CUKVASHE_ERR_FORMATS 25               /* there is no translation of PIN blocks from this format,
-                                                 only from 0, 1 and 3 */
-#define CUKVASHE_ERR_PIN_BLOCK 26             /* decrypted, the PIN block is not one of its format and account number */
-#define CUKVASHE_ERR_SEQUENCE_LENGTH 27       /* the sequence number does not have two digits */
-#define CUKVASHE_ERR_SEQUENCE_DIGIT 28        /* a character of the sequence number is not a digit */
-#define CUKVASHE_ERR_DATA_LENGTH 29           /* the issuer's data have more than 8 bytes */
-#define CUKVASHE_ERR_PROTECTION_KEY_LENGTH 30 /* the protection key does not have 16 or 24 bytes */
-#define CUKVASHE_ERR_KEY_BLOCK_LENGTH 31      /* the key block is not as long as its header says,
-                                                 longer than 9999 characters, or too long for its buffer */
-#define CUKVASHE_ERR_VERSION 32               /* the version of the key block is not one that the call takes */
-#define CUKVASHE_ERR_HEADER 33                /* the header does not end with two digits, 0, 1 or 2, and 0,
-                                                 or a field to be written is not letters and digits */
-#define CUKVASHE_ERR_OPTIONAL_BLOCK 34        /* the optional blocks can't be read or written: a wrong length, name,
-                                                 content or PB, an end off a multiple of eight, or more than 99 */
-#define CUKVASHE_ERR_KEY_DATA_LENGTH 35       /* the encrypted key data do not have a length that they can have */
-#define CUKVASHE_ERR_KEY_BLOCK_DIGIT 36       /* a character of the encrypted key data or the MAC
-                                                 is not 0 to 9 or A to F */
-#define CUKVASHE_ERR_KEY_BLOCK_MAC 37         /* the MAC is not that of the key block */
-#define CUKVASHE_ERR_PADDING_LENGTH 38        /* the padding of the key does not have 6, 14 or 22 bytes,
-                                                 or has more than 30 with the key */
-#define CUKVASHE_ERR_NO_OPTIONAL_BLOCK 39     /* the key block has no optional block at this place */
-#define CUKVASHE_ERR_HASH 40                  /* the hash function is not one that the call takes */
-#define CUKVASHE_ERR_ITERATIONS 41            /* the number of iterations is not 1 to 2^32 - 1 */
-#define CUKVASHE_ERR_NOT_SALTED 42            /* the bytes do not begin with Salted__ */
-#define CUKVASHE_ERR_SALT_LENGTH 43           /* the bytes end within the salt, or it does not have 0 or 8 bytes */
-#define CUKVASHE_ERR_CONTEXT 44               /* the context is not one that the init of this type made */
+/* Statuses, each with the sentence that cukvashe_strerror gives. Calls return them as int. */
+enum cukvashe_status {
+  CUKVASHE_OK = 0,                         /* success */
+  CUKVASHE_ERR_KEY_LENGTH = 1,             /* the key does not have a length that the call takes */
+  CUKVASHE_ERR_BLOCKS = 2,                 /* the length is not a multiple of 8 bytes */
+  CUKVASHE_ERR_WEAK_KEY = 3,               /* the key is weak, or two of its parts are one key */
+  CUKVASHE_ERR_PADDING_METHOD = 4,         /* the padding method is not one that the call takes */
+  CUKVASHE_ERR_TAG = 5,                    /* the tag is not that of the message */
+  CUKVASHE_ERR_NO_SERIAL = 6,              /* there is no next key serial number */
+  CUKVASHE_ERR_FORMAT = 7,                 /* the first digit of the PIN block is not that of the format */
+  CUKVASHE_ERR_PIN_LENGTH = 8,             /* the PIN does not have 4 to 12 digits */
+  CUKVASHE_ERR_PIN_DIGIT = 9,              /* a character of the PIN is not a digit */
+  CUKVASHE_ERR_ACCOUNT_LENGTH = 10,        /* the account number does not have 8 to 19 digits, for a PVV or a CVV 12
+                                              to 19 */
+  CUKVASHE_ERR_ACCOUNT_DIGIT = 11,         /* a character of the account number is not a digit */
+  CUKVASHE_ERR_FILL = 12,                  /* a fill digit is not one that the format allows */
+  CUKVASHE_ERR_EXPIRY_LENGTH = 13,         /* the expiry date does not have four digits */
+  CUKVASHE_ERR_EXPIRY_DIGIT = 14,          /* a character of the expiry date is not a digit */
+  CUKVASHE_ERR_SERVICE_LENGTH = 15,        /* the service code does not have three digits */
+  CUKVASHE_ERR_SERVICE_DIGIT = 16,         /* a character of the service code is not a digit */
+  CUKVASHE_ERR_PADDING = 17,               /* the data do not end with the padding */
+  CUKVASHE_ERR_CAPACITY = 18,              /* the buffer has no room for the padding, or for what is opened */
+  CUKVASHE_ERR_COUNTS = 19,                /* the numbers of elements do not agree: a count, or a sum of counts, and
+                                              a length */
+  CUKVASHE_ERR_KEY_INDEX = 20,             /* the index of the key pair is not 1 to 6 */
+  CUKVASHE_ERR_TABLE_LENGTH = 21,          /* the decimalization table does not have sixteen digits */
+  CUKVASHE_ERR_TABLE_DIGIT = 22,           /* a character of the decimalization table is not a digit */
+  CUKVASHE_ERR_TABLE_VARIETY = 23,         /* the decimalization table has fewer than eight different digits */
+  CUKVASHE_ERR_WRONG_PIN = 24,             /* the PIN is wrong */
+  CUKVASHE_ERR_FORMATS = 25,               /* there is no translation of PIN blocks from this format, only from 0, 1
+                                              and 3 */
+  CUKVASHE_ERR_PIN_BLOCK = 26,             /* decrypted, the PIN block is not one of its format and account number */
+  CUKVASHE_ERR_SEQUENCE_LENGTH = 27,       /* the sequence number does not have two digits */
+  CUKVASHE_ERR_SEQUENCE_DIGIT = 28,        /* a character of the sequence number is not a digit */
+  CUKVASHE_ERR_DATA_LENGTH = 29,           /* the issuer's data have more than 8 bytes */
+  CUKVASHE_ERR_PROTECTION_KEY_LENGTH = 30, /* the protection key does not have 16 or 24 bytes */
+  CUKVASHE_ERR_KEY_BLOCK_LENGTH = 31,      /* the key block is not as long as its header says, longer than 9999
+                                              characters, or too long for its buffer */
+  CUKVASHE_ERR_VERSION = 32,               /* the version of the key block is not one that the call takes */
+  CUKVASHE_ERR_HEADER = 33,                /* the header does not end with two digits, 0, 1 or 2, and 0, or a field
+                                              to be written is not letters and digits */
+  CUKVASHE_ERR_OPTIONAL_BLOCK = 34,        /* the optional blocks can't be read or written: a wrong length, name,
+                                              content or PB, an end off a multiple of eight, or more than 99 */
+  CUKVASHE_ERR_KEY_DATA_LENGTH = 35,       /* the encrypted key data do not have a length that they can have */
+  CUKVASHE_ERR_KEY_BLOCK_DIGIT = 36,       /* a character of the encrypted key data or the MAC is not 0 to 9 or A to
+                                              F */
+  CUKVASHE_ERR_KEY_BLOCK_MAC = 37,         /* the MAC is not that of the key block */
+  CUKVASHE_ERR_PADDING_LENGTH = 38,        /* the padding of the key does not have 6, 14 or 22 bytes, or has more
+                                              than 30 with the key */
+  CUKVASHE_ERR_NO_OPTIONAL_BLOCK = 39,     /* the key block has no optional block at this place */
+  CUKVASHE_ERR_HASH = 40,                  /* the hash function is not one that the call takes */
+  CUKVASHE_ERR_ITERATIONS = 41,            /* the number of iterations is not 1 to 2^32 - 1 */
+  CUKVASHE_ERR_NOT_SALTED = 42,            /* the bytes do not begin with Salted__ */
+  CUKVASHE_ERR_SALT_LENGTH = 43,           /* the bytes end within the salt, or it does not have 0 or 8 bytes */
+  CUKVASHE_ERR_CONTEXT = 44,               /* the context is not one that the init of this type made */
+};
 
 /* Sizes, in bytes. */
 #define CUKVASHE_BLOCK_SIZE 8
@@ -203,6 +210,9 @@ extern "C" {
 /*
  * THE LIBRARY ITSELF
  *
+ * version gives the version of the library, as CUKVASHE_VERSION gives that of the header. CUKVASHE_VERSION_MAJOR,
+ * _MINOR and _PATCH are its three numbers.
+ *
  * strerror gives a constant sentence for each status, and for other numbers. wipe writes zeros over `size` bytes, and
  * no compiler leaves that out.
  */
@@ -236,17 +246,17 @@ typedef struct {
 
 /*
  * int cukvashe_NAME_init(cukvashe_NAME *context, const uint8_t *key, size_t key_length)
- * int cukvashe_NAME_init_quiet(cukvashe_NAME *context, const uint8_t *key, size_t key_length)
+ * int cukvashe_NAME_init_no_tables(cukvashe_NAME *context, const uint8_t *key, size_t key_length)
  *
- * Makes the context of a key, quick or quiet (see SECRETS AND TIME). Parity bits, the lowest of each byte, are ignored.
- * Errors: CUKVASHE_ERR_KEY_LENGTH.
+ * Makes the context of a key, with or without tables (see SECRETS AND TIME). Parity bits, the lowest of each byte, are
+ * ignored. Errors: CUKVASHE_ERR_KEY_LENGTH.
  */
 CUKVASHE_CHECK int cukvashe_des_init(cukvashe_des *context, const uint8_t *key, size_t key_length);
 CUKVASHE_CHECK int cukvashe_tdes_ede2_init(cukvashe_tdes_ede2 *context, const uint8_t *key, size_t key_length);
 CUKVASHE_CHECK int cukvashe_tdes_ede3_init(cukvashe_tdes_ede3 *context, const uint8_t *key, size_t key_length);
-CUKVASHE_CHECK int cukvashe_des_init_quiet(cukvashe_des *context, const uint8_t *key, size_t key_length);
-CUKVASHE_CHECK int cukvashe_tdes_ede2_init_quiet(cukvashe_tdes_ede2 *context, const uint8_t *key, size_t key_length);
-CUKVASHE_CHECK int cukvashe_tdes_ede3_init_quiet(cukvashe_tdes_ede3 *context, const uint8_t *key, size_t key_length);
+CUKVASHE_CHECK int cukvashe_des_init_no_tables(cukvashe_des *context, const uint8_t *key, size_t key_length);
+CUKVASHE_CHECK int cukvashe_tdes_ede2_init_no_tables(cukvashe_tdes_ede2 *context, const uint8_t *key, size_t key_length);
+CUKVASHE_CHECK int cukvashe_tdes_ede3_init_no_tables(cukvashe_tdes_ede3 *context, const uint8_t *key, size_t key_length);
 
 /*
  * ECB
@@ -369,11 +379,11 @@ CUKVASHE_CHECK int cukvashe_tdes_ede3_decrypt_cbc_records(const cukvashe_tdes_ed
  *
  * `method` is CUKVASHE_PKCS7 or CUKVASHE_ISO7816. pad writes 1 to 8 bytes of padding after the first `length` bytes of
  * a buffer of `capacity` bytes, and the length with padding, a multiple of 8, to `padded_length`; 8 bytes to spare are
- * enough. Errors: CUKVASHE_ERR_PADDING_METHOD, _CAPACITY.
+ * enough. Errors of pad: CUKVASHE_ERR_PADDING_METHOD, _CAPACITY.
  *
  * unpad writes to `unpadded_length` how many of `length` bytes stand before the padding. The time taken may show which
- * byte of the last block decides. Errors: CUKVASHE_ERR_PADDING_METHOD, _BLOCKS; _PADDING also if `length` is 0. An
- * attacker who learns whether unpad accepts what he sent can decrypt CBC without the key (a padding oracle): verify a
+ * byte of the last block decides. Errors of unpad: CUKVASHE_ERR_PADDING_METHOD, _BLOCKS; _PADDING also if `length` is 0.
+ * An attacker who learns whether unpad accepts what he sent can decrypt CBC without the key (a padding oracle): verify a
  * MAC of the ciphertext first, and answer all faults alike.
  */
 CUKVASHE_CHECK int cukvashe_pad(uint8_t *buffer, size_t length, size_t capacity, int method, size_t *padded_length);
@@ -436,10 +446,11 @@ typedef struct {
 
 /*
  * int cukvashe_MAC_init(cukvashe_MAC *context, const uint8_t *key, size_t key_length, int method)
- * int cukvashe_MAC_init_quiet(cukvashe_MAC *context, const uint8_t *key, size_t key_length, int method)
+ * int cukvashe_MAC_init_no_tables(cukvashe_MAC *context, const uint8_t *key, size_t key_length, int method)
  *
- * Makes the context of a key and an empty message, quick or quiet. `method` is the sender's, CUKVASHE_MAC_PADDING_1 or
- * _2: the other one makes another tag. CMAC takes none. Errors: CUKVASHE_ERR_KEY_LENGTH, _PADDING_METHOD.
+ * Makes the context of a key and an empty message, with or without tables. `method` is the sender's,
+ * CUKVASHE_MAC_PADDING_1 or _2: the other one makes another tag. CMAC takes none. Errors: CUKVASHE_ERR_KEY_LENGTH,
+ * _PADDING_METHOD.
  */
 CUKVASHE_CHECK int cukvashe_cbc_mac_des_init(cukvashe_cbc_mac_des *context, const uint8_t *key, size_t key_length,
                                              int method);
@@ -453,18 +464,18 @@ CUKVASHE_CHECK int cukvashe_cmac_tdes_ede2_init(cukvashe_cmac_tdes_ede2 *context
                                                 size_t key_length);
 CUKVASHE_CHECK int cukvashe_cmac_tdes_ede3_init(cukvashe_cmac_tdes_ede3 *context, const uint8_t *key,
                                                 size_t key_length);
-CUKVASHE_CHECK int cukvashe_cbc_mac_des_init_quiet(cukvashe_cbc_mac_des *context, const uint8_t *key,
-                                                   size_t key_length, int method);
-CUKVASHE_CHECK int cukvashe_cbc_mac_tdes_ede2_init_quiet(cukvashe_cbc_mac_tdes_ede2 *context, const uint8_t *key,
-                                                         size_t key_length, int method);
-CUKVASHE_CHECK int cukvashe_cbc_mac_tdes_ede3_init_quiet(cukvashe_cbc_mac_tdes_ede3 *context, const uint8_t *key,
-                                                         size_t key_length, int method);
-CUKVASHE_CHECK int cukvashe_retail_mac_des_init_quiet(cukvashe_retail_mac_des *context, const uint8_t *key,
-                                                      size_t key_length, int method);
-CUKVASHE_CHECK int cukvashe_cmac_tdes_ede2_init_quiet(cukvashe_cmac_tdes_ede2 *context, const uint8_t *key,
-                                                      size_t key_length);
-CUKVASHE_CHECK int cukvashe_cmac_tdes_ede3_init_quiet(cukvashe_cmac_tdes_ede3 *context, const uint8_t *key,
-                                                      size_t key_length);
+CUKVASHE_CHECK int cukvashe_cbc_mac_des_init_no_tables(cukvashe_cbc_mac_des *context, const uint8_t *key,
+                                                       size_t key_length, int method);
+CUKVASHE_CHECK int cukvashe_cbc_mac_tdes_ede2_init_no_tables(cukvashe_cbc_mac_tdes_ede2 *context, const uint8_t *key,
+                                                             size_t key_length, int method);
+CUKVASHE_CHECK int cukvashe_cbc_mac_tdes_ede3_init_no_tables(cukvashe_cbc_mac_tdes_ede3 *context, const uint8_t *key,
+                                                             size_t key_length, int method);
+CUKVASHE_CHECK int cukvashe_retail_mac_des_init_no_tables(cukvashe_retail_mac_des *context, const uint8_t *key,
+                                                          size_t key_length, int method);
+CUKVASHE_CHECK int cukvashe_cmac_tdes_ede2_init_no_tables(cukvashe_cmac_tdes_ede2 *context, const uint8_t *key,
+                                                          size_t key_length);
+CUKVASHE_CHECK int cukvashe_cmac_tdes_ede3_init_no_tables(cukvashe_cmac_tdes_ede3 *context, const uint8_t *key,
+                                                          size_t key_length);
 
 /*
  * int cukvashe_MAC_update(cukvashe_MAC *context, const uint8_t *message, size_t length)
@@ -539,15 +550,15 @@ CUKVASHE_CHECK bool cukvashe_cmac_tdes_ede3_is_tag(const cukvashe_cmac_tdes_ede3
  *                            uint8_t *tags, size_t tags_length, size_t count)
  *
  * Writes the tags, of 8 bytes each, of `count` messages. `macs` takes one key for all, `macs_each` a key of the MAC's
- * key size for each message, one after the other. CMAC takes no `method`. Errors: CUKVASHE_ERR_KEY_LENGTH of `macs`;
+ * key size for each message, one after the other. CMAC takes no `method`. Errors: CUKVASHE_ERR_KEY_LENGTH of macs alone;
  * _COUNTS if `keys_length` or `tags_length` is not that of `count` keys or tags; _PADDING_METHOD.
  *
  * int cukvashe_compare_tags(const uint8_t *tags, size_t tags_length, const uint8_t *expected, size_t expected_length,
  *                           bool *right, size_t count)
  *
  * Writes for each of `count` whole tags whether it is the one at its place in `expected`, which macs or macs_each made.
- * Look at `right`: CUKVASHE_OK does not say that a tag is. Errors: CUKVASHE_ERR_COUNTS if `tags_length` or
- * `expected_length` is not that of `count` tags.
+ * Look at `right`: CUKVASHE_OK does not say that a tag is. Errors of compare_tags: CUKVASHE_ERR_COUNTS if `tags_length`
+ * or `expected_length` is not that of `count` tags.
  */
 typedef struct {
   const uint8_t *bytes;
@@ -595,30 +606,40 @@ CUKVASHE_CHECK int cukvashe_compare_tags(const uint8_t *tags, size_t tags_length
  * CHECK VALUES AND COMPONENTS
  *
  * int cukvashe_NAME_check_value(const uint8_t *key, size_t key_length, uint8_t value[3])
- * int cukvashe_key_check_value(const uint8_t *key, size_t key_length, uint8_t value[3])
- * int cukvashe_short_key_check_value(const uint8_t *key, size_t key_length, uint8_t value[2])
  *
- * The check value of a key or component: the first three bytes of the block of zeros, encrypted under it by NAME, or by
- * the cipher of its length, 8, 16 or 24 bytes. `short` gives the first two. Errors: CUKVASHE_ERR_KEY_LENGTH.
- *
+ * The key check value (KCV) of a key or component: the first three bytes of the block of zeros, encrypted under it by
+ * NAME. Errors: CUKVASHE_ERR_KEY_LENGTH.
+ */
+CUKVASHE_CHECK int cukvashe_des_check_value(const uint8_t *key, size_t key_length, uint8_t value[3]);
+CUKVASHE_CHECK int cukvashe_tdes_ede2_check_value(const uint8_t *key, size_t key_length, uint8_t value[3]);
+CUKVASHE_CHECK int cukvashe_tdes_ede3_check_value(const uint8_t *key, size_t key_length, uint8_t value[3]);
+
+/*
+ * The check value of a key or component of 8, 16 or 24 bytes: by DES or, where it is longer, triple DES (EDE). Errors:
+ * CUKVASHE_ERR_KEY_LENGTH.
+ */
+CUKVASHE_CHECK int cukvashe_key_check_value(const uint8_t *key, size_t key_length, uint8_t value[3]);
+
+/*
+ * The first two bytes of the check value of a key or component of 8, 16 or 24 bytes, which some systems show. Errors:
+ * CUKVASHE_ERR_KEY_LENGTH.
+ */
+CUKVASHE_CHECK int cukvashe_short_key_check_value(const uint8_t *key, size_t key_length, uint8_t value[2]);
+
+/*
  * int cukvashe_NAME_check_values(const uint8_t *keys, size_t keys_length, uint8_t *values, size_t values_length,
  *                                size_t count)
  *
- * The check values, of 3 bytes each, of `count` keys of the cipher, one after the other. Errors: CUKVASHE_ERR_COUNTS if
- * `keys_length` or `values_length` is not that of `count` keys or values.
+ * The check values, of 3 bytes each, of `count` keys of the cipher, one after the other. Errors of check_values:
+ * CUKVASHE_ERR_COUNTS if `keys_length` or `values_length` is not that of `count` keys or values.
  *
  * int cukvashe_combine_SIZE(const uint8_t first[SIZE], const uint8_t second[SIZE], const uint8_t *others,
  *                           size_t others_length, size_t others_count, uint8_t key[SIZE])
  *
  * The key of SIZE bytes, 8, 16 or 24, that two or more components make: their xor, with odd parity. `others` are
- * `others_count` more components, one after the other. Branches on the key. Errors: CUKVASHE_ERR_COUNTS if
+ * `others_count` more components, one after the other. Branches on the key. Errors of combine: CUKVASHE_ERR_COUNTS if
  * `others_length` is not that of `others_count` components; _WEAK_KEY.
  */
-CUKVASHE_CHECK int cukvashe_des_check_value(const uint8_t *key, size_t key_length, uint8_t value[3]);
-CUKVASHE_CHECK int cukvashe_tdes_ede2_check_value(const uint8_t *key, size_t key_length, uint8_t value[3]);
-CUKVASHE_CHECK int cukvashe_tdes_ede3_check_value(const uint8_t *key, size_t key_length, uint8_t value[3]);
-CUKVASHE_CHECK int cukvashe_key_check_value(const uint8_t *key, size_t key_length, uint8_t value[3]);
-CUKVASHE_CHECK int cukvashe_short_key_check_value(const uint8_t *key, size_t key_length, uint8_t value[2]);
 CUKVASHE_CHECK int cukvashe_des_check_values(const uint8_t *keys, size_t keys_length, uint8_t *values,
                                              size_t values_length, size_t count);
 CUKVASHE_CHECK int cukvashe_tdes_ede2_check_values(const uint8_t *keys, size_t keys_length, uint8_t *values,
@@ -635,34 +656,57 @@ CUKVASHE_CHECK int cukvashe_combine_24(const uint8_t first[24], const uint8_t se
 /*
  * KEYS OF A TRANSACTION (DUKPT)
  *
- * DUKPT with triple DES (ANSI X9.24-1:2009), the host's side. Keys have 16 bytes, key serial numbers ten, of which the
- * last 21 bits are the transaction counter. Before a shorter one put bytes FF.
- *
- * initial_key makes a terminal's key from the base derivation key and any of the terminal's key serial numbers; the
- * counter plays no part. transaction_key makes the transaction's key from the initial key and the transaction's key
- * serial number. From that key, which encrypts nothing itself, pin_key makes the key of PIN blocks, mac_key and
- * data_key those that authenticate and encrypt data of the request or, if `is_response`, of the response. data_variant
- * leaves out the last step of data_key, as some terminals do: its key reveals the transaction's other keys.
- *
- * transaction_keys_from_base takes the base derivation key, not the initial key, and writes for each of `count` key
- * serial numbers, one after the other, what transaction_key makes of initial_key. Errors: CUKVASHE_ERR_COUNTS if
- * `serials_length` or `keys_length` is not that of `count` key serial numbers or keys.
+ * DUKPT with triple DES (ANSI X9.24-1:2009), the host's side. Keys have 16 bytes, key serial numbers (KSN) ten, of
+ * which the last 21 bits are the transaction counter. Before a shorter one put bytes FF.
  *
  * A transaction's counter is not 0 and has at most ten one bits: is_usable says whether that holds. The other counters
  * have keys here too, counter 0 the initial key itself: so ask is_usable of each key serial number that you are sent.
- * next_serial gives the next usable one. Errors: CUKVASHE_ERR_NO_SERIAL.
+ * next_serial gives the next usable one. Errors of next_serial: CUKVASHE_ERR_NO_SERIAL.
+ */
+CUKVASHE_CHECK bool cukvashe_dukpt_is_usable(const uint8_t serial[10]);
+CUKVASHE_CHECK int cukvashe_dukpt_next_serial(const uint8_t serial[10], uint8_t next[10]);
+
+/*
+ * The initial key of a terminal, from the base derivation key and any of the terminal's key serial numbers, whose
+ * counter plays no part.
  */
 void cukvashe_dukpt_initial_key(const uint8_t base[16], const uint8_t serial[10], uint8_t key[16]);
+
+/*
+ * The key of a transaction, which encrypts nothing itself, from the terminal's initial key, not the base derivation key,
+ * and the transaction's key serial number. It takes every counter: ask first whether a transaction has this one.
+ */
 void cukvashe_dukpt_transaction_key(const uint8_t initial[16], const uint8_t serial[10], uint8_t key[16]);
+
+/*
+ * transaction_keys_from_base takes the base derivation key, not the initial key, and writes for each of `count` key
+ * serial numbers, one after the other, what transaction_key makes of initial_key. Errors: CUKVASHE_ERR_COUNTS if
+ * `serials_length` or `keys_length` is not that of `count` key serial numbers or keys.
+ */
 CUKVASHE_CHECK int cukvashe_dukpt_transaction_keys_from_base(const uint8_t base[16], const uint8_t *serials,
                                                              size_t serials_length, uint8_t *keys, size_t keys_length,
                                                              size_t count);
+
+/*
+ * The key that encrypts PIN blocks, from the transaction's key.
+ */
 void cukvashe_dukpt_pin_key(const uint8_t transaction[16], uint8_t key[16]);
+
+/*
+ * The key that authenticates the request, or the response, from the transaction's key.
+ */
 void cukvashe_dukpt_mac_key(const uint8_t transaction[16], bool is_response, uint8_t key[16]);
+
+/*
+ * The key that encrypts the data of the request, or of the response, from the transaction's key.
+ */
 void cukvashe_dukpt_data_key(const uint8_t transaction[16], bool is_response, uint8_t key[16]);
+
+/*
+ * The key that encrypts the data, made without the last step: some terminals take it. It reveals the transaction's other
+ * keys.
+ */
 void cukvashe_dukpt_data_variant(const uint8_t transaction[16], bool is_response, uint8_t key[16]);
-CUKVASHE_CHECK bool cukvashe_dukpt_is_usable(const uint8_t serial[10]);
-CUKVASHE_CHECK int cukvashe_dukpt_next_serial(const uint8_t serial[10], uint8_t next[10]);
 
 /*
  * KEYS OF A TRANSACTION IN THE TERMINAL (DUKPT)
@@ -671,8 +715,8 @@ CUKVASHE_CHECK int cukvashe_dukpt_next_serial(const uint8_t serial[10], uint8_t 
  * transaction and 21 future keys, which make the keys of all transactions to come: keep it secret. You may store its
  * bytes, and go on from them: store them before you use a key, or it is used twice.
  *
- * init makes the state from the initial key and any of the terminal's key serial numbers: the first transaction has
- * counter 1. next_key writes the next transaction's key serial number, and its key, that of
+ * init makes the state from the initial key (IK, IPEK) and any of the terminal's key serial numbers: the first
+ * transaction has counter 1. next_key writes the next transaction's key serial number, and its key, that of
  * cukvashe_dukpt_transaction_key, and clears it in the state. Errors: CUKVASHE_ERR_NO_SERIAL after the last
  * transaction, the 1,048,575th. A state without future keys, as one of zeros, has the same error.
  */
@@ -690,17 +734,18 @@ CUKVASHE_CHECK int cukvashe_dukpt_terminal_next_key(cukvashe_dukpt_terminal *ter
  * PIN BLOCKS
  *
  * PIN blocks (ISO 9564-1, formats 0 to 3), which are not encrypted here: that is one ECB call, and none for format 2,
- * which goes to a card in clear. A PIN is a text of 4 to 12 ASCII digits, an account number one of 8 to 19, the last
- * the check digit.
+ * which goes to a card in clear. A PIN is a text of 4 to 12 ASCII digits, an account number (PAN) one of 8 to 19, the
+ * last the check digit.
  *
  * `transaction` and `fill` are ten digits, one in a byte: 0 to 15 in `transaction`, 10 to 15 in `fill`. All ten are
  * checked; the block uses those it has room for, in order.
  *
- * encode writes the block. Errors: CUKVASHE_ERR_PIN_LENGTH, _PIN_DIGIT, _ACCOUNT_LENGTH, _ACCOUNT_DIGIT, _FILL.
+ * encode writes the block. Errors of encode: CUKVASHE_ERR_PIN_LENGTH, _PIN_DIGIT, _ACCOUNT_LENGTH, _ACCOUNT_DIGIT; then
+ * _FILL of encode_1 and encode_3 alone.
  *
  * decode takes only blocks that encode makes. It writes the digits of the PIN and then zero bytes, 13 bytes in all, and
- * branches on the PIN's length. Errors: CUKVASHE_ERR_ACCOUNT_LENGTH, _ACCOUNT_DIGIT, _FORMAT, _PIN_LENGTH, _PIN_DIGIT,
- * _FILL. They reveal something of the PIN: show them to nobody.
+ * branches on the PIN's length. Errors of decode: CUKVASHE_ERR_ACCOUNT_LENGTH, _ACCOUNT_DIGIT, _FORMAT, _PIN_LENGTH,
+ * _PIN_DIGIT, _FILL. They reveal something of the PIN: show them to nobody.
  */
 CUKVASHE_CHECK int cukvashe_pin_encode_0(const char *pin, size_t pin_length, const char *account, size_t account_length,
                                          uint8_t block[8]);
@@ -725,8 +770,8 @@ CUKVASHE_CHECK int cukvashe_pin_decode_3(const uint8_t block[8], const char *acc
  * null, which is format 0, and else refused by a call that looks at it.
  *
  * Errors of pin_translate_to_0 and _to_3: CUKVASHE_ERR_KEY_LENGTH, _FORMATS, _ACCOUNT_LENGTH, _ACCOUNT_DIGIT; _FILL of
- * _to_3 alone; then _PIN_BLOCK, whatever is wrong with the block. pin_translate_to_1 takes format 1 alone, and keeps
- * the transaction digits. Errors: CUKVASHE_ERR_FORMATS, _KEY_LENGTH, _PIN_BLOCK.
+ * _to_3 alone; then _PIN_BLOCK, whatever is wrong with the block. pin_translate_to_1 keeps the transaction digits.
+ * Errors of pin_translate_to_1: CUKVASHE_ERR_FORMATS if `incoming_format` is not 1; _KEY_LENGTH, _PIN_BLOCK.
  */
 typedef struct {
   const uint8_t *incoming_key;
@@ -755,9 +800,10 @@ CUKVASHE_CHECK int cukvashe_pin_translate_to_3(const cukvashe_pin_translation *t
  * the first four digits of a PIN, under a pair of keys with an index from 1 to 6. The block of the eleven rightmost
  * digits of the account number without its check digit, the index and the digits of the PIN is encrypted by triple DES
  * (EDE); of the sixteen digits of the answer those from 0 to 9 are taken in order, then the others in order, less ten:
- * the first four are the value. Errors: CUKVASHE_ERR_PIN_LENGTH, _PIN_DIGIT, _ACCOUNT_LENGTH, _ACCOUNT_DIGIT,
- * _KEY_INDEX; of cukvashe_pvv_verify then _WRONG_PIN, if `value` is not that of the PIN. cukvashe_pvv_is_pin and
- * cukvashe_pin_offset_is_pin are true for the right PIN, and false for a wrong one and for every error.
+ * the first four are the value. Errors of pvv and pvv_verify: CUKVASHE_ERR_PIN_LENGTH, _PIN_DIGIT, _ACCOUNT_LENGTH,
+ * _ACCOUNT_DIGIT, _KEY_INDEX; then _WRONG_PIN of pvv_verify alone, if `value` is not that of the PIN.
+ * cukvashe_pvv_is_pin and cukvashe_pin_offset_is_pin are true for the right PIN, and false for a wrong one and for every
+ * error.
  *
  * The other calls are by the method of the IBM 3624. Validation data, sixteen digits in 8 bytes that the issuer
  * chooses, are encrypted under a key as of translation. Each digit of the answer becomes the one at its place in the
@@ -765,14 +811,15 @@ CUKVASHE_CHECK int cukvashe_pin_translate_to_3(const cukvashe_pin_translation *t
  * keeps, is digit by digit, modulo ten, the PIN less the natural PIN.
  *
  * cukvashe_decimal_table_init takes the table as a text of sixteen ASCII digits, those that stand for 0 to 15 in this
- * order. Errors: CUKVASHE_ERR_TABLE_LENGTH, _TABLE_DIGIT, _TABLE_VARIETY. An attacker who chooses the table finds PINs
- * out. init_any takes any variety, for old systems.
+ * order. An attacker who chooses the table finds PINs out. decimal_table_init_any takes any variety, for old systems.
+ * Errors of decimal_table_init and _init_any: CUKVASHE_ERR_TABLE_LENGTH, _TABLE_DIGIT; _TABLE_VARIETY of
+ * decimal_table_init alone.
  *
  * cukvashe_natural_pin writes `pin_length` digits, 4 to 12, of the natural PIN, cukvashe_pin_offset the offset of a
- * PIN; zero bytes follow, 13 bytes in all. Errors of natural_pin: CUKVASHE_ERR_TABLE_DIGIT (no init wrote the table),
- * _KEY_LENGTH, _PIN_LENGTH; of pin_offset: _PIN_LENGTH, _PIN_DIGIT, _TABLE_DIGIT, _KEY_LENGTH; of pin_offset_verify:
- * _PIN_LENGTH and _PIN_DIGIT of the PIN, both of the offset, _TABLE_DIGIT, _KEY_LENGTH, then _WRONG_PIN, if the PIN is
- * not the sum of natural PIN and offset.
+ * PIN; zero bytes follow, 13 bytes in all. Errors of natural_pin: CUKVASHE_ERR_TABLE_DIGIT if no init wrote the table;
+ * _KEY_LENGTH, _PIN_LENGTH. Errors of pin_offset: CUKVASHE_ERR_PIN_LENGTH, _PIN_DIGIT, _TABLE_DIGIT, _KEY_LENGTH.
+ * Errors of pin_offset_verify: CUKVASHE_ERR_PIN_LENGTH, _PIN_DIGIT of the PIN; _PIN_LENGTH of the offset, _PIN_DIGIT of
+ * the offset; _TABLE_DIGIT, _KEY_LENGTH; then _WRONG_PIN, if the PIN is not the sum of natural PIN and offset.
  */
 typedef struct {
   char digits[16];
@@ -803,9 +850,11 @@ CUKVASHE_CHECK bool cukvashe_pin_offset_is_pin(const uint8_t *key, size_t key_le
 /*
  * CARD VERIFICATION VALUES
  *
- * Writes the card verification value, three ASCII digits, under a key pair, of an account number of 12 to 19 digits, an
- * expiry date of four, in the order that the issuer takes, and a service code of three: texts as those of PIN blocks.
- * Errors: CUKVASHE_ERR_ACCOUNT_LENGTH, _ACCOUNT_DIGIT, _EXPIRY_LENGTH, _EXPIRY_DIGIT, _SERVICE_LENGTH, _SERVICE_DIGIT.
+ * The card verification value, three ASCII digits, under a key pair of 16 bytes, of an account number of 12 to 19
+ * digits, an expiry date of four, in the order that the issuer takes, and a service code of three. Errors:
+ * CUKVASHE_ERR_ACCOUNT_LENGTH, _ACCOUNT_DIGIT, _EXPIRY_LENGTH, _EXPIRY_DIGIT, _SERVICE_LENGTH, _SERVICE_DIGIT.
+ *
+ * The account number, the date and the code are texts as those of PIN blocks.
  */
 CUKVASHE_CHECK int cukvashe_cvv(const uint8_t key[16], const char *account, size_t account_length, const char *expiry,
                                 size_t expiry_length, const char *service, size_t service_length, char value[4]);
@@ -813,35 +862,57 @@ CUKVASHE_CHECK int cukvashe_cvv(const uint8_t key[16], const char *account, size
 /*
  * CARD CRYPTOGRAMS (EMV)
  *
- * The issuer's side of EMV 4.3, Book 2, with triple DES. Keys have 16 bytes.
- *
- * card_key makes a card's key (A1.4.1, option A), with odd parity, from the issuer's key, an account number of 8 to 19
- * digits and a sequence number of two, `00` where the card has none: texts as those of PIN blocks. card_key_b is option
- * B (A1.4.2), which differs where the account number has more than sixteen digits: take it if the card scheme asks for
- * it. Errors: CUKVASHE_ERR_ACCOUNT_LENGTH, _ACCOUNT_DIGIT, _SEQUENCE_LENGTH, _SEQUENCE_DIGIT.
- *
- * application_key makes the session key for application cryptograms from the card's key and the application transaction
- * counter; session_key that for other uses (A1.3), from eight bytes that are different for each session: for secure
- * messaging the application cryptogram. The third of them plays no part.
- *
- * application_cryptogram writes the cryptogram of `length` bytes (8.1.2), of the data that the card scheme names: the
- * retail MAC with padding method 2 under the session key. To check one that a card sent, give the data to a context of
- * retail_mac_des, and ask cukvashe_retail_mac_des_is_tag.
- *
- * response_1 writes the issuer's response by method 1 (8.2.1) to a cryptogram, with a response code of two ASCII
- * characters; response_2 that by method 2 (8.2.2), with a card status update of four bytes and `length` bytes of the
- * issuer's, at most 8. Errors: CUKVASHE_ERR_DATA_LENGTH.
+ * The issuer's side of EMV 4.3, Book 2, with triple DES. Keys have 16 bytes. Account and sequence numbers are texts as
+ * those of PIN blocks.
+ */
+
+/*
+ * The key of a card (A1.4.1, option A), with odd parity, from the issuer's master key (IMK), an account number (PAN) of
+ * 8 to 19 digits and a sequence number (PSN) of two, `00` where the card has none. Errors: CUKVASHE_ERR_ACCOUNT_LENGTH,
+ * _ACCOUNT_DIGIT, _SEQUENCE_LENGTH, _SEQUENCE_DIGIT.
  */
 CUKVASHE_CHECK int cukvashe_emv_card_key(const uint8_t issuer[16], const char *account, size_t account_length,
                                          const char *sequence, size_t sequence_length, uint8_t key[16]);
+
+/*
+ * The key of a card by option B (A1.4.2), which differs where the account number has more than sixteen digits: take it
+ * if the card scheme asks for it. Errors: CUKVASHE_ERR_ACCOUNT_LENGTH, _ACCOUNT_DIGIT, _SEQUENCE_LENGTH,
+ * _SEQUENCE_DIGIT.
+ */
 CUKVASHE_CHECK int cukvashe_emv_card_key_b(const uint8_t issuer[16], const char *account, size_t account_length,
                                            const char *sequence, size_t sequence_length, uint8_t key[16]);
+
+/*
+ * The session key for application cryptograms, from the card's key and the application transaction counter, two bytes.
+ */
 void cukvashe_emv_application_key(const uint8_t card[16], const uint8_t counter[2], uint8_t key[16]);
+
+/*
+ * The session key for other uses (A1.3), from the card's key and eight bytes that are different for each session: for
+ * secure messaging the application cryptogram. The third of them plays no part.
+ */
 void cukvashe_emv_session_key(const uint8_t card[16], const uint8_t block[8], uint8_t key[16]);
+
+/*
+ * The application cryptogram (8.1.2), 8 bytes, under a session key, of the data that the card scheme names: the retail
+ * MAC with padding method 2.
+ *
+ * To check one that a card sent, give the data to a context of retail_mac_des, and ask cukvashe_retail_mac_des_is_tag.
+ */
 void cukvashe_emv_application_cryptogram(const uint8_t session[16], const uint8_t *data, size_t length,
                                          uint8_t cryptogram[8]);
+
+/*
+ * The issuer's response by method 1 (8.2.1), 8 bytes, to an application cryptogram, with a response code of two ASCII
+ * characters.
+ */
 void cukvashe_emv_response_1(const uint8_t session[16], const uint8_t cryptogram[8], const uint8_t code[2],
                              uint8_t response[8]);
+
+/*
+ * The issuer's response by method 2 (8.2.2), 4 bytes, to an application cryptogram, with a card status update of four
+ * bytes and at most 8 bytes of the issuer's. Errors: CUKVASHE_ERR_DATA_LENGTH.
+ */
 CUKVASHE_CHECK int cukvashe_emv_response_2(const uint8_t session[16], const uint8_t cryptogram[8],
                                            const uint8_t status[4], const uint8_t *data, size_t length,
                                            uint8_t response[4]);
@@ -856,8 +927,8 @@ CUKVASHE_CHECK int cukvashe_emv_response_2(const uint8_t session[16], const uint
  * unwrap writes the header, the key and then zeros to 24 bytes, and into `key_length` how many bytes the key has. Look
  * at the header before you use the key: no call compares it with what you do, or with the key's length. Fields and
  * optional blocks are read whatever characters they have. Once the MAC is right, it branches on the key's length.
- * Errors: CUKVASHE_ERR_PROTECTION_KEY_LENGTH, _KEY_BLOCK_LENGTH, _VERSION, _HEADER, _OPTIONAL_BLOCK, _KEY_DATA_LENGTH,
- * _KEY_BLOCK_DIGIT, _KEY_BLOCK_MAC, _KEY_LENGTH.
+ * Errors of unwrap: CUKVASHE_ERR_PROTECTION_KEY_LENGTH, _KEY_BLOCK_LENGTH, _VERSION, _HEADER, _OPTIONAL_BLOCK,
+ * _KEY_DATA_LENGTH, _KEY_BLOCK_DIGIT, _KEY_BLOCK_MAC, _KEY_LENGTH.
  *
  * wrap writes the block of its parts and a zero byte, and into `length` how many characters the block has: without
  * optional blocks at most 96. `capacity` is the number of bytes at `block`, for the zero byte too. `padding` are random
@@ -879,8 +950,9 @@ CUKVASHE_CHECK int cukvashe_emv_response_2(const uint8_t session[16], const uint
  * header writes the fields of a block's header. context writes where the key may be, character 15 of the header: '0' in
  * storage and exchange, as wrap writes it, '1' in storage only, '2' in exchange only. optional_block writes the name of
  * the optional block at a place, from 0, into `offset` where in the block its content begins, and into `length` the
- * content's length. None takes a key: what they write is not authenticated. Errors: those of unwrap from
- * _KEY_BLOCK_LENGTH to _KEY_DATA_LENGTH; of optional_block then _NO_OPTIONAL_BLOCK.
+ * content's length. None takes a key: what they write is not authenticated. Errors of header, context and
+ * optional_block: CUKVASHE_ERR_KEY_BLOCK_LENGTH, _VERSION, _HEADER, _OPTIONAL_BLOCK, _KEY_DATA_LENGTH; then
+ * _NO_OPTIONAL_BLOCK of optional_block alone.
  */
 typedef struct {
   char version;        /* A, B or C */
@@ -921,12 +993,12 @@ CUKVASHE_CHECK int cukvashe_key_block_optional_block(const char *block, size_t b
  * CUKVASHE_SHA1 or CUKVASHE_SHA256, and without PBKDF2 also CUKVASHE_MD5, no number of OpenSSL's. -1 is no length,
  * though OpenSSL's PKCS5_PBKDF2_HMAC takes it for strlen: the call would read past the password.
  *
- * pbkdf2 writes the key of a password and a salt by PBKDF2 (RFC 8018, 5.2) with HMAC over the hash function. Errors:
- * CUKVASHE_ERR_HASH, _ITERATIONS; _KEY_LENGTH if the key is longer than 2^32 - 1 digests.
+ * pbkdf2 writes the key of a password and a salt by PBKDF2 (RFC 8018, 5.2) with HMAC over the hash function. Errors of
+ * pbkdf2: CUKVASHE_ERR_HASH, _ITERATIONS; _KEY_LENGTH if the key is longer than 2^32 - 1 digests.
  *
  * bytes_to_key writes the key, and after it the vector, that OpenSSL's EVP_BytesToKey makes with one iteration: ask for
  * both together, 32 bytes for a key of 24. The password stands before the salt, unlike in EVP_BytesToKey. The salt has
- * 8 bytes, without Salted__, or none (`-nosalt`). Errors: CUKVASHE_ERR_SALT_LENGTH, _HASH.
+ * 8 bytes, without Salted__, or none (`-nosalt`). Errors of bytes_to_key: CUKVASHE_ERR_SALT_LENGTH, _HASH.
  *
  * int cukvashe_NAME_open_salted(int hash, size_t iterations, const uint8_t *password, size_t password_length,
  *                               const uint8_t *bytes, size_t length, uint8_t *plain, size_t capacity,
@@ -939,8 +1011,8 @@ CUKVASHE_CHECK int cukvashe_key_block_optional_block(const char *block, size_t b
  * OpenSSL 1.1.0 CUKVASHE_MD5. `iterations` is that of `-iter`; 10000 if only `-pbkdf2` was given; 0, not 1, if neither
  * was: then bytes_to_key is taken, and else PBKDF2.
  *
- * It branches on the padding. Errors: CUKVASHE_ERR_HASH, _NOT_SALTED, _SALT_LENGTH, _ITERATIONS, _BLOCKS, _PADDING,
- * _CAPACITY. A wrong password, hash function or number of iterations is _PADDING, but for one in 256, which gives
+ * It branches on the padding. Errors of open_salted: CUKVASHE_ERR_HASH, _NOT_SALTED, _SALT_LENGTH, _ITERATIONS, _BLOCKS,
+ * _PADDING, _CAPACITY. A wrong password, hash function or number of iterations is _PADDING, but for one in 256, which gives
  * CUKVASHE_OK and wrong bytes: nothing here authenticates. Tell nobody who sends you files which error they gave.
  */
 CUKVASHE_CHECK int cukvashe_pbkdf2(int hash, size_t iterations, const uint8_t *password, size_t password_length,
@@ -956,6 +1028,59 @@ CUKVASHE_CHECK int cukvashe_tdes_ede2_open_salted(int hash, size_t iterations, c
 CUKVASHE_CHECK int cukvashe_tdes_ede3_open_salted(int hash, size_t iterations, const uint8_t *password,
                                                   size_t password_length, const uint8_t *bytes, size_t length,
                                                   uint8_t *plain, size_t capacity, size_t *plain_length);
+
+/*
+ * NUMBERS WITHOUT A C COMPILER
+ *
+ * For programs that load the library, and can't read this header: the size of each struct above, in bytes, and each
+ * number that is a macro, by its name in small letters. A struct may stand at any multiple of 8 bytes.
+ */
+size_t cukvashe_des_size(void);
+size_t cukvashe_tdes_ede2_size(void);
+size_t cukvashe_tdes_ede3_size(void);
+size_t cukvashe_cbc_mac_des_size(void);
+size_t cukvashe_cbc_mac_tdes_ede2_size(void);
+size_t cukvashe_cbc_mac_tdes_ede3_size(void);
+size_t cukvashe_retail_mac_des_size(void);
+size_t cukvashe_cmac_tdes_ede2_size(void);
+size_t cukvashe_cmac_tdes_ede3_size(void);
+size_t cukvashe_message_size(void);
+size_t cukvashe_dukpt_terminal_size(void);
+size_t cukvashe_pin_translation_size(void);
+size_t cukvashe_decimal_table_size(void);
+size_t cukvashe_key_block_fields_size(void);
+size_t cukvashe_key_block_parts_size(void);
+int cukvashe_version_major(void);
+int cukvashe_version_minor(void);
+int cukvashe_version_patch(void);
+size_t cukvashe_block_size(void);
+size_t cukvashe_tag_size(void);
+size_t cukvashe_des_key_size(void);
+size_t cukvashe_tdes_ede2_key_size(void);
+size_t cukvashe_tdes_ede3_key_size(void);
+size_t cukvashe_cbc_mac_des_key_size(void);
+size_t cukvashe_cbc_mac_tdes_ede2_key_size(void);
+size_t cukvashe_cbc_mac_tdes_ede3_key_size(void);
+size_t cukvashe_retail_mac_des_key_size(void);
+size_t cukvashe_cmac_tdes_ede2_key_size(void);
+size_t cukvashe_cmac_tdes_ede3_key_size(void);
+size_t cukvashe_check_value_size(void);
+size_t cukvashe_short_check_value_size(void);
+size_t cukvashe_dukpt_key_size(void);
+size_t cukvashe_dukpt_serial_size(void);
+size_t cukvashe_fill_size(void);
+size_t cukvashe_pin_size(void);
+size_t cukvashe_cvv_size(void);
+size_t cukvashe_pvv_size(void);
+size_t cukvashe_key_data_size(void);
+size_t cukvashe_key_block_size(void);
+int cukvashe_pkcs7(void);
+int cukvashe_iso7816(void);
+int cukvashe_md5(void);
+int cukvashe_sha1(void);
+int cukvashe_sha256(void);
+int cukvashe_mac_padding_1(void);
+int cukvashe_mac_padding_2(void);
 
 #if defined(__ELF__) || defined(__MACH__)
 #pragma GCC visibility pop

@@ -96,7 +96,7 @@ export class TableLength extends CukvasheError {}
 export class TableDigit extends CukvasheError {}
 /** The decimalization table has fewer than eight different digits. */
 export class TableVariety extends CukvasheError {}
-/** The PIN is not the one. */
+/** The PIN is wrong. */
 export class WrongPin extends CukvasheError {}
 /** There is no translation of PIN blocks from this format, only from 0, 1 and 3. */
 export class Formats extends CukvasheError {}
@@ -274,41 +274,15 @@ export function withOddParity(key: Uint8Array): Uint8Array;
  */
 export function equalButParity(first: Uint8Array, second: Uint8Array): boolean;
 /**
- * The check value of a key, three bytes: the first of the block of zeros encrypted. `cipher` is a class, as TdesEde2.
- * KeyLength.
+ * The check value (KCV) of a key, three bytes: the first of the block of zeros encrypted. `cipher` is a class, as
+ * TdesEde2. KeyLength.
  */
 export function checkValue(cipher: CipherClass, key: Uint8Array): Uint8Array;
-/**
- * The check value of a key or component of 8, 16 or 24 bytes, by DES or, where it is longer, triple DES (EDE).
- * KeyLength.
- */
-export function keyCheckValue(key: Uint8Array): Uint8Array;
-/** The first two bytes of keyCheckValue, which some systems show. KeyLength. */
-export function shortKeyCheckValue(key: Uint8Array): Uint8Array;
 /** The key that two or more components of 8, 16 or 24 bytes make: their xor, with odd parity. KeyLength, WeakKey. */
 export function combine(first: Uint8Array, second: Uint8Array, ...others: Uint8Array[]): Uint8Array;
 
 // ---- Keys of a transaction: DUKPT with triple DES (ANSI X9.24-1:2009). Keys have 16 bytes, key serial numbers ten
 
-/** The initial key of a terminal, from the base derivation key and a key serial number. KeyLength, SerialLength. */
-export function dukptInitialKey(base: Uint8Array, serial: Uint8Array): Uint8Array;
-/**
- * The key of a transaction, from the terminal's initial key, not the base derivation key, and the transaction's key
- * serial number. It takes every counter, and for 0 gives the initial key itself: ask dukptIsUsable first. KeyLength,
- * SerialLength.
- */
-export function dukptTransactionKey(initial: Uint8Array, serial: Uint8Array): Uint8Array;
-/** The key that encrypts PIN blocks, from the transaction's key. KeyLength. */
-export function dukptPinKey(transaction: Uint8Array): Uint8Array;
-/** The key that authenticates the request, or the response, from the transaction's key. KeyLength. */
-export function dukptMacKey(transaction: Uint8Array, isResponse?: boolean): Uint8Array;
-/** The key that encrypts the data of the request, or of the response, from the transaction's key. KeyLength. */
-export function dukptDataKey(transaction: Uint8Array, isResponse?: boolean): Uint8Array;
-/**
- * The key of dukptDataKey without its last step: some terminals encrypt data under it. It reveals the transaction's
- * other keys. KeyLength.
- */
-export function dukptDataVariant(transaction: Uint8Array, isResponse?: boolean): Uint8Array;
 /** The next key serial number with at most ten one bits in its counter, or null where there is none. SerialLength. */
 export function dukptNextSerial(serial: Uint8Array): Uint8Array | null;
 /**
@@ -423,52 +397,88 @@ export function pinOffsetVerify(
   key: Uint8Array, table: DecimalTable, validation: Uint8Array, pin: Digits, offset: Digits,
 ): true;
 
-// ---- Card cryptograms (EMV 4.3, Book 2), the issuer's side. Keys have 16 bytes
+// ---- Check values of keys of any length, keys of a transaction (DUKPT), card verification values, and card cryptograms
+// (EMV 4.3, Book 2), the issuer's side. Other keys have 16 bytes, key serial numbers ten
 
+// Calls like those of cukvashe_des.h: made of it by bindings/describe.
 /**
- * The key of a card (option A), with odd parity, from the issuer's key, an account number of 8 to 19 digits and a
- * sequence number of two: "00" where the card has none. KeyLength, AccountLength, AccountDigit, SequenceLength,
- * SequenceDigit.
+ * The check value of a key or component of 8, 16 or 24 bytes: by DES or, where it is longer, triple DES (EDE).
+ * KeyLength.
+ */
+export function keyCheckValue(key: Uint8Array): Uint8Array;
+/**
+ * The first two bytes of the check value of a key or component of 8, 16 or 24 bytes, which some systems show.
+ * KeyLength.
+ */
+export function shortKeyCheckValue(key: Uint8Array): Uint8Array;
+/**
+ * The initial key of a terminal, from the base derivation key and any of the terminal's key serial numbers, whose
+ * counter plays no part. KeyLength, SerialLength.
+ */
+export function dukptInitialKey(base: Uint8Array, serial: Uint8Array): Uint8Array;
+/**
+ * The key of a transaction, which encrypts nothing itself, from the terminal's initial key, not the base derivation
+ * key, and the transaction's key serial number. It takes every counter: ask first whether a transaction has this
+ * one. KeyLength, SerialLength.
+ */
+export function dukptTransactionKey(initial: Uint8Array, serial: Uint8Array): Uint8Array;
+/** The key that encrypts PIN blocks, from the transaction's key. KeyLength. */
+export function dukptPinKey(transaction: Uint8Array): Uint8Array;
+/** The key that authenticates the request, or the response, from the transaction's key. KeyLength. */
+export function dukptMacKey(transaction: Uint8Array, isResponse?: boolean): Uint8Array;
+/** The key that encrypts the data of the request, or of the response, from the transaction's key. KeyLength. */
+export function dukptDataKey(transaction: Uint8Array, isResponse?: boolean): Uint8Array;
+/**
+ * The key that encrypts the data, made without the last step: some terminals take it. It reveals the transaction's
+ * other keys. KeyLength.
+ */
+export function dukptDataVariant(transaction: Uint8Array, isResponse?: boolean): Uint8Array;
+/**
+ * The card verification value, three ASCII digits, under a key pair of 16 bytes, of an account number of 12 to 19
+ * digits, an expiry date of four, in the order that the issuer takes, and a service code of three. KeyLength,
+ * AccountLength, AccountDigit, ExpiryLength, ExpiryDigit, ServiceLength, ServiceDigit.
+ */
+export function cvv(key: Uint8Array, account: Digits, expiry: Digits, service: Digits): string;
+/**
+ * The key of a card (A1.4.1, option A), with odd parity, from the issuer's master key (IMK), an account number
+ * (PAN) of 8 to 19 digits and a sequence number (PSN) of two, `00` where the card has none. KeyLength,
+ * AccountLength, AccountDigit, SequenceLength, SequenceDigit.
  */
 export function emvCardKey(issuer: Uint8Array, account: Digits, sequence: Digits): Uint8Array;
 /**
- * The key of a card by option B, which differs where the account number has more than sixteen digits: take it if the
- * card scheme asks for it. Errors as of emvCardKey.
+ * The key of a card by option B (A1.4.2), which differs where the account number has more than sixteen digits: take
+ * it if the card scheme asks for it. KeyLength, AccountLength, AccountDigit, SequenceLength, SequenceDigit.
  */
 export function emvCardKeyB(issuer: Uint8Array, account: Digits, sequence: Digits): Uint8Array;
 /**
- * The session key of a card's key, from eight bytes that are different for each session: for secure messaging the
- * application cryptogram. The third of them plays no part. KeyLength, BlockLength.
- */
-export function emvSessionKey(card: Uint8Array, block: Uint8Array): Uint8Array;
-/**
- * The session key for application cryptograms, by the application transaction counter, two bytes. KeyLength,
- * DataLength.
+ * The session key for application cryptograms, from the card's key and the application transaction counter, two
+ * bytes. KeyLength, DataLength.
  */
 export function emvApplicationKey(card: Uint8Array, counter: Uint8Array): Uint8Array;
 /**
- * The application cryptogram of data under a session key, 8 bytes. To check one that a card sent call new
- * RetailMacDes(session, 2, data).verify(cryptogram). KeyLength.
+ * The session key for other uses (A1.3), from the card's key and eight bytes that are different for each session:
+ * for secure messaging the application cryptogram. The third of them plays no part. KeyLength, BlockLength.
+ */
+export function emvSessionKey(card: Uint8Array, block: Uint8Array): Uint8Array;
+/**
+ * The application cryptogram (8.1.2), 8 bytes, under a session key, of the data that the card scheme names: the
+ * retail MAC with padding method 2. To check one that a card sent call new RetailMacDes(session, 2,
+ * data).verify(cryptogram). KeyLength.
  */
 export function emvApplicationCryptogram(session: Uint8Array, data: Uint8Array): Uint8Array;
 /**
- * The issuer's response by method 1 to an application cryptogram, 8 bytes, with a response code of two bytes.
- * KeyLength, BlockLength, DataLength.
+ * The issuer's response by method 1 (8.2.1), 8 bytes, to an application cryptogram, with a response code of two
+ * ASCII characters. KeyLength, BlockLength, DataLength.
  */
 export function emvResponse1(session: Uint8Array, cryptogram: Uint8Array, code: Uint8Array): Uint8Array;
 /**
- * The issuer's response by method 2, 4 bytes, with a card status update of four bytes and at most eight bytes of the
- * issuer's. Errors as of emvResponse1.
+ * The issuer's response by method 2 (8.2.2), 4 bytes, to an application cryptogram, with a card status update of
+ * four bytes and at most 8 bytes of the issuer's. KeyLength, BlockLength, DataLength.
  */
 export function emvResponse2(
   session: Uint8Array, cryptogram: Uint8Array, status: Uint8Array, data?: Uint8Array,
 ): Uint8Array;
-/**
- * The card verification value, three digits, under a key pair of 16 bytes, of an account number of 12 to 19 digits, an
- * expiry date of four and a service code of three. KeyLength, AccountLength, AccountDigit, ExpiryLength, ExpiryDigit,
- * ServiceLength, ServiceDigit.
- */
-export function cvv(key: Uint8Array, account: Digits, expiry: Digits, service: Digits): string;
+// This ends what bindings/describe made.
 
 // ---- Key blocks (TR-31)
 
@@ -483,20 +493,21 @@ interface KeyBlockHeader {
   exportability: string;
 }
 /**
- * The header and the key of a key block of version A, B or C, under a protection key of 16 or 24 bytes. Look at the
- * header before you use the key. KeyBlockMac where the block was changed, or is under another key. ProtectionKeyLength,
- * KeyBlockLength, KeyBlockVersion, KeyBlockField, OptionalBlock, KeyDataLength, KeyBlockDigit, KeyLength.
+ * The header and the key of a key block of version A, B or C, under a protection key (KBPK) of 16 or 24 bytes. Look at
+ * the header before you use the key. KeyBlockMac where the block was changed, or is under another key.
+ * ProtectionKeyLength, KeyBlockLength, KeyBlockVersion, KeyBlockField, OptionalBlock, KeyDataLength, KeyBlockDigit,
+ * KeyLength.
  */
 export function unwrapKeyBlock(
   protection: Uint8Array, block: string | Uint8Array,
 ): { header: KeyBlockHeader; key: Uint8Array };
 /**
- * The key block of a key of 8, 16 or 24 bytes under a protection key of 16 or 24 bytes, of version B or C. `header` has
- * the fields that unwrapKeyBlock gives; no call compares them with the key's length. `optional` has pairs of a name of
- * two letters or digits and its content, printable ASCII, after which a block PB is added where they do not end at a
- * multiple of eight characters, and taken only as the last, where with it they do: OptionalBlock. `padding` is 6, 14 or
- * 22 random bytes that hide how long the key is: without it they come from the engine. KeyBlockVersion,
- * ProtectionKeyLength, KeyBlockField, KeyLength, PaddingLength, KeyBlockLength.
+ * The key block of a key of 8, 16 or 24 bytes under a protection key (KBPK) of 16 or 24 bytes, of version B or C.
+ * `header` has the fields that unwrapKeyBlock gives; no call compares them with the key's length. `optional` has pairs
+ * of a name of two letters or digits and its content, printable ASCII, after which a block PB is added where they do
+ * not end at a multiple of eight characters, and taken only as the last, where with it they do: OptionalBlock.
+ * `padding` is 6, 14 or 22 random bytes that hide how long the key is: without it they come from the engine.
+ * KeyBlockVersion, ProtectionKeyLength, KeyBlockField, KeyLength, PaddingLength, KeyBlockLength.
  */
 export function wrapKeyBlock(
   protection: Uint8Array, header: KeyBlockHeader, key: Uint8Array,

@@ -21,8 +21,8 @@ export const BLOCK_SIZE = 8;
 export const TAG_SIZE = 8;
 
 // The SHA-256 of the modules that this file was built with: the one of a 64-bit memory, and the same of a 32-bit memory.
-const MODULE_SUM = "44327d2182c10b8d312265197b1aaec8f8450ea3a42ab2746eb4b37b6e6674a2";
-const NARROW_SUM = "6a4a8aaeec3efc1e6fcb0f2a5422937bda07b520162aa23e03f00311c563008b";
+const MODULE_SUM = "7773d5a40ff20f991ef1c23b8ce1e4c463104296bdeeeaa0effb1f767fe1db25";
+const NARROW_SUM = "febc162d074c9c1d5308469e58e4f96e3d9555d401f8b84a35236b949300d68c";
 
 // The bytes of the module's stack, which lies at its address 0. `build` links it so.
 const STACK_SIZE = 131072;
@@ -121,7 +121,7 @@ const SENTENCES = [
   "the decimalization table does not have sixteen digits",
   "a character of the decimalization table is not a digit",
   "the decimalization table has fewer than eight different digits",
-  "the PIN is not the one",
+  "the PIN is wrong",
   "there is no translation of PIN blocks from this format, only from 0, 1 and 3",
   "decrypted, the PIN block is not one of its format and account number",
   "the sequence number does not have two digits",
@@ -724,8 +724,8 @@ function kindOf(Class, Base, what) {
   throw new TypeError(`${what}: a class is needed, such as ${Base === Cipher ? "TdesEde2" : "RetailMacDes"}`);
 }
 
-// The last word of the calls that make a context, of one that is not quiet.
-const QUICK = 0;
+// The last word of the calls that make a context, of one with tables.
+const WITH_TABLES = 0;
 
 class Keyed {
   close(...more) {
@@ -752,7 +752,7 @@ class Cipher extends Keyed {
     const size = 8 * kind.words;
     const context = inside((memory) => {
       const at = memory.room(size);
-      memory.call("internal_init", ...contextAt(kind, at), ...memory.list(held), QUICK);
+      memory.call("internal_init", ...contextAt(kind, at), ...memory.list(held), WITH_TABLES);
       return memory.taken(at, size);
     });
     keep(this, Cipher, kind, context);
@@ -880,7 +880,7 @@ function macContextOf(kind, key, padding, bytes) {
   const size = 8 * (kind.words + MESSAGE_WORDS);
   return inside((memory) => {
     const at = memory.room(size);
-    memory.call("internal_mac_init", ...contextAt(kind, at), ...memory.list(key), padding, QUICK);
+    memory.call("internal_mac_init", ...contextAt(kind, at), ...memory.list(key), padding, WITH_TABLES);
     memory.call("internal_mac_update", ...contextAt(kind, at), ...memory.list(bytes));
     return memory.taken(at, size);
   });
@@ -1012,16 +1012,6 @@ export function checkValue(cipher, key, ...more) {
   return written("internal_check_value", { keySize, key: bytes });
 }
 
-export function keyCheckValue(key, ...more) {
-  refuseMore(more);
-  return written("key_check_value", { key: keyOf(key, ...SIZES) });
-}
-
-export function shortKeyCheckValue(key, ...more) {
-  refuseMore(more);
-  return written("short_key_check_value", { key: keyOf(key, ...SIZES) });
-}
-
 export function combine(first, second, ...others) {
   const one = keyOf(first, ...SIZES);
   const size = one.length;
@@ -1043,47 +1033,6 @@ export function combine(first, second, ...others) {
 
 const SERIAL_SIZE = 10;
 const TRANSACTION_KEY_SIZE = 16;
-
-/** A key of a transaction. */
-const transactionKeyOf = (key) => keyOf(key, TRANSACTION_KEY_SIZE);
-
-export function dukptInitialKey(base, serial, ...more) {
-  refuseMore(more);
-  const number = serialOf(serial);
-  return written("dukpt_initial_key", { base: transactionKeyOf(base), serial: number });
-}
-
-export function dukptTransactionKey(initial, serial, ...more) {
-  refuseMore(more);
-  const number = serialOf(serial);
-  return written("dukpt_transaction_key", { initial: transactionKeyOf(initial), serial: number });
-}
-
-export function dukptPinKey(transaction, ...more) {
-  refuseMore(more);
-  return written("dukpt_pin_key", { transaction: transactionKeyOf(transaction) });
-}
-
-export function dukptMacKey(transaction, isResponse = false, ...more) {
-  refuseMore(more);
-  return keyOfMessage("dukpt_mac_key", transaction, isResponse);
-}
-
-export function dukptDataKey(transaction, isResponse = false, ...more) {
-  refuseMore(more);
-  return keyOfMessage("dukpt_data_key", transaction, isResponse);
-}
-
-export function dukptDataVariant(transaction, isResponse = false, ...more) {
-  refuseMore(more);
-  return keyOfMessage("dukpt_data_variant", transaction, isResponse);
-}
-
-/** The key for the request or the response. */
-function keyOfMessage(name, transaction, isResponse) {
-  const word = responseOf(isResponse);
-  return written(name, { transaction: transactionKeyOf(transaction), isResponse: word });
-}
 
 export function dukptNextSerial(serial, ...more) {
   refuseMore(more);
@@ -1280,64 +1229,158 @@ export function pinOffsetVerify(key, table, validation, pin, offset, ...more) {
   return true;
 }
 
-// ---- Card cryptograms (EMV 4.3, Book 2), the issuer's side. Keys have 16 bytes
+// ---- Check values, keys of a transaction, card verification values, and card cryptograms ----------------------------
 
-const cryptogramOf = (bytes) => dataOf(bytes, BLOCK_SIZE, "an application cryptogram", "has", BlockLength);
+// Calls like those of cukvashe_des.h: made of it by bindings/describe.
 
-function cardKeyBy(name, issuer, account, sequence) {
-  const key = keyOf(issuer, 16);
-  return written(name, { issuer: key, account: accountOf(account), sequence: textOf(sequence, "a sequence number") });
+export function keyCheckValue(key, ...more) {
+  refuseMore(more);
+  const given = {
+    key: keyOf(key, 8, 16, 24),
+  };
+  return written("key_check_value", given);
+}
+
+export function shortKeyCheckValue(key, ...more) {
+  refuseMore(more);
+  const given = {
+    key: keyOf(key, 8, 16, 24),
+  };
+  return written("short_key_check_value", given);
+}
+
+export function dukptInitialKey(base, serial, ...more) {
+  refuseMore(more);
+  const given = {
+    serial: dataOf(serial, 10, "a key serial number", "has", SerialLength),
+    base: keyOf(base, 16),
+  };
+  return written("dukpt_initial_key", given);
+}
+
+export function dukptTransactionKey(initial, serial, ...more) {
+  refuseMore(more);
+  const given = {
+    serial: dataOf(serial, 10, "a key serial number", "has", SerialLength),
+    initial: keyOf(initial, 16),
+  };
+  return written("dukpt_transaction_key", given);
+}
+
+export function dukptPinKey(transaction, ...more) {
+  refuseMore(more);
+  const given = {
+    transaction: keyOf(transaction, 16),
+  };
+  return written("dukpt_pin_key", given);
+}
+
+export function dukptMacKey(transaction, isResponse = false, ...more) {
+  refuseMore(more);
+  const given = {
+    isResponse: responseOf(isResponse),
+    transaction: keyOf(transaction, 16),
+  };
+  return written("dukpt_mac_key", given);
+}
+
+export function dukptDataKey(transaction, isResponse = false, ...more) {
+  refuseMore(more);
+  const given = {
+    isResponse: responseOf(isResponse),
+    transaction: keyOf(transaction, 16),
+  };
+  return written("dukpt_data_key", given);
+}
+
+export function dukptDataVariant(transaction, isResponse = false, ...more) {
+  refuseMore(more);
+  const given = {
+    isResponse: responseOf(isResponse),
+    transaction: keyOf(transaction, 16),
+  };
+  return written("dukpt_data_variant", given);
+}
+
+export function cvv(key, account, expiry, service, ...more) {
+  refuseMore(more);
+  const given = {
+    key: keyOf(key, 16),
+    account: textOf(account, "an account number"),
+    expiry: textOf(expiry, "an expiry date"),
+    service: textOf(service, "a service code"),
+  };
+  return writtenText("cvv", given);
 }
 
 export function emvCardKey(issuer, account, sequence, ...more) {
   refuseMore(more);
-  return cardKeyBy("emv_card_key", issuer, account, sequence);
+  const given = {
+    issuer: keyOf(issuer, 16),
+    account: textOf(account, "an account number"),
+    sequence: textOf(sequence, "a sequence number"),
+  };
+  return written("emv_card_key", given);
 }
 
 export function emvCardKeyB(issuer, account, sequence, ...more) {
   refuseMore(more);
-  return cardKeyBy("emv_card_key_b", issuer, account, sequence);
-}
-
-export function emvSessionKey(card, block, ...more) {
-  refuseMore(more);
-  const bytes = dataOf(block, BLOCK_SIZE, "the block of a session", "has", BlockLength);
-  return written("emv_session_key", { card: keyOf(card, 16), block: bytes });
+  const given = {
+    issuer: keyOf(issuer, 16),
+    account: textOf(account, "an account number"),
+    sequence: textOf(sequence, "a sequence number"),
+  };
+  return written("emv_card_key_b", given);
 }
 
 export function emvApplicationKey(card, counter, ...more) {
   refuseMore(more);
-  const bytes = dataOf(counter, 2, "a transaction counter", "has", DataLength);
-  return written("emv_application_key", { card: keyOf(card, 16), counter: bytes });
+  const given = {
+    counter: dataOf(counter, 2, "a transaction counter", "has", DataLength),
+    card: keyOf(card, 16),
+  };
+  return written("emv_application_key", given);
+}
+
+export function emvSessionKey(card, block, ...more) {
+  refuseMore(more);
+  const given = {
+    block: dataOf(block, 8, "the block of a session", "has", BlockLength),
+    card: keyOf(card, 16),
+  };
+  return written("emv_session_key", given);
 }
 
 export function emvApplicationCryptogram(session, data, ...more) {
   refuseMore(more);
-  return written("emv_application_cryptogram", { session: keyOf(session, 16), bytes: bytesOf(data, "data") });
+  const given = {
+    bytes: bytesOf(data, "data"),
+    session: keyOf(session, 16),
+  };
+  return written("emv_application_cryptogram", given);
 }
 
 export function emvResponse1(session, cryptogram, code, ...more) {
   refuseMore(more);
-  const request = cryptogramOf(cryptogram);
-  const word = dataOf(code, 2, "a response code", "has", DataLength);
-  return written("emv_response_1", { session: keyOf(session, 16), cryptogram: request, code: word });
+  const given = {
+    cryptogram: dataOf(cryptogram, 8, "an application cryptogram", "has", BlockLength),
+    code: dataOf(code, 2, "a response code", "has", DataLength),
+    session: keyOf(session, 16),
+  };
+  return written("emv_response_1", given);
 }
 
 export function emvResponse2(session, cryptogram, status, data = new Uint8Array(), ...more) {
   refuseMore(more);
-  const request = cryptogramOf(cryptogram);
-  const word = dataOf(status, 4, "a card status update", "has", DataLength);
-  const bytes = bytesOf(data, "data");
-  return written("emv_response_2", { session: keyOf(session, 16), cryptogram: request, status: word, bytes });
+  const given = {
+    cryptogram: dataOf(cryptogram, 8, "an application cryptogram", "has", BlockLength),
+    status: dataOf(status, 4, "a card status update", "has", DataLength),
+    bytes: bytesOf(data, "data"),
+    session: keyOf(session, 16),
+  };
+  return written("emv_response_2", given);
 }
-
-// ---- Card verification values
-
-export function cvv(key, account, expiry, service, ...more) {
-  refuseMore(more);
-  const given = { key: keyOf(key, 16), account: accountOf(account), expiry: textOf(expiry, "an expiry date") };
-  return writtenText("cvv", { ...given, service: textOf(service, "a service code") });
-}
+// This ends what bindings/describe made.
 
 // ---- Key blocks (ANSI X9.143, ASC X9 TR-31): a key with what it is for, encrypted and authenticated under another -----
 
