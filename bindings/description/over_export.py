@@ -132,7 +132,7 @@ class OverExport:
         return self._used((begun or pointers or [name])[0])
 
     def _shown(self, pointer, kind):
-        """A pointer as C hands it on: texts are bytes, and what a struct leaves out stands for zeros where the export takes so many."""
+        """A pointer as C hands it on. Texts are handed on as bytes; for a null pointer of a struct, zeros if the export takes a fixed size."""
         shown, its = self.values[pointer]
         is_const, base, _, size = shape(passed(pointer, kind)[0])
         own_const, own_base, _, own_size = shape(written(its, pointer))
