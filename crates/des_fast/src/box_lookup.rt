@@ -3,14 +3,12 @@
 ghost use Rattle.std.specs.Prelude.{◌≡◌};
 ghost use Rattle.des.specs.Rounds.{after_rounds};
 ghost use Rattle.des_fast.specs.Groups.{half_of};
-ghost use Rattle.des_fast.specs.HalfBlocks.{half_blocks_of};
-ghost use Rattle.des_fast.specs.SideBySide.{keys_of};
+ghost use Rattle.des_fast.specs.HalfBlocks.{half_blocks_of, round_keys_of};
+ghost use Rattle.des_fast.specs.SideBySide.{in_direction};
 
-use crate::halves::Halves;
-use crate::rounds::{Groups, halves_after_rounds};
-use crate::single::Des;
+use crate::halves::{HalfBlock, Halves, RoundKey};
+use crate::rounds::{Groups, after_rounds};
 use crate::three_blocks::ThreeGroups;
-use des::tdes::Pass;
 use std::simd::prelude::*;
 
 /// How S-boxes are looked up.
@@ -21,10 +19,11 @@ pub trait BoxLookup: Copy {
     /// The last blocks of a list go one by one up to this number: that is quicker.
     const ONE_BY_ONE: usize;
 
-    /// The halves of one block after the sixteen rounds of a pass, with the round keys in their order
-    /// or, to decipher, from the last to the first (FIPS 46-3, enciphering and deciphering).
-    fn after_rounds<'a, W>(halves: Halves, pass: &Pass<'a, Des<W>>) -> Halves
-        ensures { half_blocks_of result ≡ after_rounds (keys_of pass.now)
+    /// The halves of one block after sixteen rounds, with the round keys in their order or, to
+    /// decipher, from the last to the first (FIPS 46-3, enciphering and deciphering).
+    fn after_rounds(halves: Halves, round_keys: &[RoundKey; 16], deciphers: bool) -> Halves
+        ensures { half_blocks_of result
+            ≡ after_rounds (in_direction deciphers (round_keys_of round_keys.now))
             (half_of halves.left.groups) (half_of halves.right.groups) };
 }
 
@@ -39,9 +38,8 @@ impl BoxLookup for Tables {
     const ONE_BY_ONE: usize = 1;
 
     #[inline(always)]
-    fn after_rounds<'a, W>(halves: Halves, pass: &Pass<'a, Des<W>>) -> Halves {
-        let round_keys = &pass.cipher.schedule.round_keys;
-        if pass.deciphers {
+    fn after_rounds(halves: Halves, round_keys: &[RoundKey; 16], deciphers: bool) -> Halves {
+        if deciphers {
             halves.deciphered(round_keys)
         } else {
             halves.enciphered(round_keys)
@@ -60,7 +58,16 @@ impl BoxLookup for NoTables {
     const ONE_BY_ONE: usize = 2;
 
     #[inline(always)]
-    fn after_rounds<'a, W>(halves: Halves, pass: &Pass<'a, Des<W>>) -> Halves {
-        halves_after_rounds(halves, &pass.cipher.schedule.round_keys, pass.deciphers)
+    fn after_rounds(halves: Halves, round_keys: &[RoundKey; 16], deciphers: bool) -> Halves {
+        let (left, right) = after_rounds(
+            halves.left.groups,
+            halves.right.groups,
+            round_keys,
+            deciphers,
+        );
+        Halves {
+            left: HalfBlock { groups: left },
+            right: HalfBlock { groups: right },
+        }
     }
 }

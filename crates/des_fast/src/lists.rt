@@ -5,31 +5,26 @@ ghost use Rattle.std.specs.Prelude.{◌≡◌, ◌<◌, ◌≤◌, ℕ, List, []
 ghost use Rattle.std.specs.List.{All};
 ghost use Rattle.des.specs.Bits.{bits_of_bytes, bits_of_word};
 ghost use Rattle.des.specs.Blocks.{IsBlock};
-ghost use Rattle.des.specs.Rounds.{after_rounds};
-ghost use Rattle.des.specs.TripleCiphers.{passed_by, thrice_passed};
 ghost use Rattle.des_fast.specs.Slices.{InEachBlock};
-ghost use Rattle.des_fast.specs.Des.{encrypted, decrypted};
 ghost use Rattle.des_fast.specs.Groups.{half_of};
 ghost use Rattle.des_fast.specs.HalfBlocks.{first_halves, last_block};
-ghost use Rattle.des_fast.specs.SideBySide.{AreExpansions, keys_of, lane};
+ghost use Rattle.des_fast.specs.SideBySide.{AreExpansions, lane};
 
 use crate::box_lookup::BoxLookup;
-use crate::halves::{Halves, block_of, word_of};
+use crate::halves::{block_of, word_of};
 use crate::permutations;
-use crate::rounds::{Groups, after_rounds};
-use crate::single::Des;
+use crate::rounds::Groups;
 use des::cipher::are_blocks;
-use des::tdes::{Pass, ThreePasses};
 use std::simd::prelude::*;
 
 /// A pass of DES, or several in a row.
 pub(crate) trait BlockTransform {
     // The block that a block becomes.
-    ghost answered: { Self → List ℕ → List ℕ };
+    ghost output: { Self → List ℕ → List ℕ };
 
     /// Takes one block through.
     fn process_block<W: BoxLookup>(&self, block: &mut [u8; 8])
-        ensures { block.new ≡ answered self.now block.old };
+        ensures { block.new ≡ output self.now block.old };
 
     /// Takes the halves of blocks side by side through the rounds.
     fn process_halves<G: Groups>(&self, left: G, right: G) -> (G, G)
@@ -37,67 +32,14 @@ pub(crate) trait BlockTransform {
         requires right { AreExpansions G.BLOCKS G.word right }
         ensures left { AreExpansions G.BLOCKS G.word result.0 }
         ensures right { AreExpansions G.BLOCKS G.word result.1 }
-        ensures answered { InEachBlock G.BLOCKS (λ b. (block : List ℕ)
+        ensures output { InEachBlock G.BLOCKS (λ b. (block : List ℕ)
             → (half_of (G.word b left), half_of (G.word b right)) ≡ first_halves block
             → last_block (half_of (G.word b result.0), half_of (G.word b result.1))
-            ≡ answered self.now block) };
+            ≡ output self.now block) };
 }
 
-// The halves of blocks side by side after the rounds of a pass.
-#[inline(always)]
-fn groups_after<'a, G: Groups, W>(pass: &Pass<'a, Des<W>>, left: G, right: G) -> (G, G)
-    requires left { AreExpansions G.BLOCKS G.word left }
-    requires right { AreExpansions G.BLOCKS G.word right }
-    ensures left { AreExpansions G.BLOCKS G.word result.0 }
-    ensures right { AreExpansions G.BLOCKS G.word result.1 }
-    ensures halves { InEachBlock G.BLOCKS (λ b.
-        (half_of (G.word b result.0), half_of (G.word b result.1))
-        ≡ after_rounds (keys_of pass.now) (half_of (G.word b left)) (half_of (G.word b right))) }
-{
-    after_rounds(
-        left,
-        right,
-        &pass.cipher.schedule.round_keys,
-        pass.deciphers,
-    )
-}
-
-// The lookup `V` is the call's, not the cipher's: a list by a cipher of `Tables` may go without
-// them.
-impl<'a, W> BlockTransform for Pass<'a, Des<W>> {
-    ghost answered = { passed_by encrypted decrypted };
-
-    #[inline]
-    fn process_block<V: BoxLookup>(&self, block: &mut [u8; 8]) {
-        *block = V::after_rounds(Halves::of_block(block), self).into_block();
-    }
-
-    #[inline]
-    fn process_halves<G: Groups>(&self, left: G, right: G) -> (G, G) {
-        groups_after(self, left, right)
-    }
-}
-
-impl<'a, W> BlockTransform for ThreePasses<'a, Des<W>> {
-    ghost answered = { thrice_passed encrypted decrypted };
-
-    #[inline]
-    fn process_block<V: BoxLookup>(&self, block: &mut [u8; 8]) {
-        let halves = V::after_rounds(Halves::of_block(block), &self.first).swapped();
-        let halves = V::after_rounds(halves, &self.second).swapped();
-        *block = V::after_rounds(halves, &self.third).into_block();
-    }
-
-    #[inline]
-    fn process_halves<G: Groups>(&self, left: G, right: G) -> (G, G) {
-        let (left, right) = groups_after(&self.first, left, right);
-        let (left, right) = groups_after(&self.second, right, left);
-        groups_after(&self.third, right, left)
-    }
-}
-
-// The words of the first four blocks. A place after the last block repeats it, and its answer is not
-// used.
+// The words of the first four blocks. A place after the last block repeats it, and what becomes
+// of it is not used.
 #[inline(always)]
 fn words_of_blocks(blocks: &[[u8; 8]]) -> u64x4
     requires { 1 ≤ length blocks.now }
@@ -153,7 +95,7 @@ fn write_blocks<G: Groups>(blocks: &mut [[u8; 8]], left: G, right: G)
 fn process_side_by_side<G: Groups, A: BlockTransform>(blocks: &mut [[u8; 8]], passes: &A)
     requires some { 1 ≤ length blocks.old }
     requires few { length blocks.old ≤ G.BLOCKS }
-    ensures { blocks.new ≡ map (A.answered passes.now) blocks.old }
+    ensures { blocks.new ≡ map (A.output passes.now) blocks.old }
 {
     let (left, right) = halves_of_blocks::<G>(blocks);
     let (left, right) = passes.process_halves(left, right);
@@ -178,7 +120,7 @@ fn next_count<W: BoxLookup>(left: usize) -> usize
 /// Takes each block of a list through passes, some side by side, and then those that are left over.
 pub(crate) fn process<W: BoxLookup, A: BlockTransform>(blocks: &mut [[u8; 8]], passes: &A)
     ensures blocks { All IsBlock blocks.old }
-    ensures answered { blocks.new ≡ map (A.answered passes.now) blocks.old }
+    ensures output { blocks.new ≡ map (A.output passes.now) blocks.old }
 {
     are_blocks(blocks);
     let mut from = 0;

@@ -9,10 +9,10 @@ ghost use Rattle.des.specs.CipherFunction.{substitute, cipher_function};
 ghost use Rattle.des.specs.Rounds.{after_rounds};
 ghost use Rattle.des_fast.specs.Slices.{InEachBlock};
 ghost use Rattle.des_fast.specs.Groups.{IsOfGroups, IsExpansion, bits_of_groups, half_of};
-ghost use Rattle.des_fast.specs.HalfBlocks.{round_keys_of, half_blocks_of};
+ghost use Rattle.des_fast.specs.HalfBlocks.{round_keys_of};
 ghost use Rattle.des_fast.specs.SideBySide.{AreExpansions, in_direction};
 
-use crate::halves::{HalfBlock, Halves, RoundKey};
+use crate::halves::RoundKey;
 use crate::no_tables::{boxes, four_blocks};
 use std::simd::prelude::*;
 
@@ -216,28 +216,5 @@ pub(crate) fn after_rounds<G: Groups>(
         rounds(left, right, round_keys, true)
     } else {
         rounds(left, right, round_keys, false)
-    }
-}
-
-/// The halves of one block after the rounds, which go from the first round key or from the last.
-#[inline]
-pub(crate) fn halves_after_rounds(
-    halves: Halves,
-    round_keys: &[RoundKey; 16],
-    deciphers: bool,
-) -> Halves
-    ensures { half_blocks_of result
-        ≡ after_rounds (in_direction deciphers (round_keys_of round_keys.now))
-        (half_of halves.left.groups) (half_of halves.right.groups) }
-{
-    let (left, right) = after_rounds(
-        halves.left.groups,
-        halves.right.groups,
-        round_keys,
-        deciphers,
-    );
-    Halves {
-        left: HalfBlock { groups: left },
-        right: HalfBlock { groups: right },
     }
 }

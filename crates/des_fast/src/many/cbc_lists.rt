@@ -25,7 +25,7 @@ pub(super) fn cbc_encrypt<W: BoxLookup, P: BlockTransform>(
     passes: &P,
 )
     ensures blocks { All IsBlock blocks.old }
-    ensures chained { Cbc (P.answered passes.now) iv.now blocks.old blocks.new }
+    ensures chained { Cbc (P.output passes.now) iv.now blocks.old blocks.new }
 {
     are_blocks(blocks);
     let mut previous = *iv;
@@ -44,7 +44,7 @@ struct SideBySide<'a, P> {
 }
 
 impl<'a, P: BlockTransform> ListDecryption for SideBySide<'a, P> {
-    ghost decrypts = { λ few answer. answer ≡ P.answered few.passes.now };
+    ghost decrypts = { λ few answer. answer ≡ P.output few.passes.now };
 
     fn decrypt_list(&self, blocks: &mut [[u8; 8]]) {
         if self.no_tables {
@@ -64,7 +64,7 @@ pub(super) fn cbc_decrypt_few<P: BlockTransform>(
     passes: &P,
 )
     ensures blocks { All IsBlock blocks.old }
-    ensures unchained { Unchains (P.answered passes.now) iv.now blocks.old blocks.new }
+    ensures unchained { Unchains (P.output passes.now) iv.now blocks.old blocks.new }
 {
     let few = SideBySide { no_tables, passes };
     cbc::decrypt_by(&few, iv, blocks, &mut [[0; 8]; FEW_BY_TABLES]);

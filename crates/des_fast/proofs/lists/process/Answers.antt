@@ -10,7 +10,7 @@ parts-preserved g c =
     let m : ℕ = c.parts.from in
     let count : ℕ = c.next_count-count.result in
     let n : ℕ = m + count - m in
-    let f : List ℕ → List ℕ = g.A.BlockTransform.answered c.args.passes.now in
+    let f : List ℕ → List ℕ = g.A.BlockTransform.output c.args.passes.now in
     let old : List (List ℕ) = c.args.blocks.now in
     let part : List (List ℕ) = take n (drop m c.parts.blocks) in
     let next : m + n ≡ m + count = omega arith in
@@ -29,7 +29,7 @@ parts-preserved g c =
       ],
     )
 
-pub returns-clause-answered : goal.returns-clause-answered
-returns-clause-answered g c =
+pub returns-clause-output : goal.returns-clause-output
+returns-clause-output g c =
     c.parts.invariant.1
-    ∙ answered-all (g.A.BlockTransform.answered c.args.passes.now) c.parts.from c.args.blocks.now (omega arith)
+    ∙ answered-all (g.A.BlockTransform.output c.args.passes.now) c.parts.from c.args.blocks.now (omega arith)

@@ -5,9 +5,9 @@ use Rattle.des_fast.proofs.lists.process_side_by_side.Goals as goal
 
 pub returns : goal.returns
 returns g c =
-    answered-at (g.A.BlockTransform.answered c.args.passes.now) c.args.blocks.now c.write_blocks.new.blocks
+    answered-at (g.A.BlockTransform.output c.args.passes.now) c.args.blocks.now c.write_blocks.new.blocks
     c.write_blocks.ensures.count
     (λ k below.
     let inside : k < g.G.Groups.BLOCKS = omega (arith, c.requires.few) in
     c.write_blocks.ensures.written k below
-    ∙ c.process_halves-left.ensures.answered k inside _ (c.halves_of_blocks-left.ensures.halves k inside below))
+    ∙ c.process_halves-left.ensures.output k inside _ (c.halves_of_blocks-left.ensures.halves k inside below))

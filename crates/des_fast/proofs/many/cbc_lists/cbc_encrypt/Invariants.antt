@@ -6,7 +6,7 @@ use Rattle.des_fast.proofs.many.cbc_lists.cbc_encrypt.Given as goal
 abbrev pub invariant-loop-block : goal.invariant-loop-block
 invariant-loop-block g l = record {
   chained : (n : ℕ) → 1 ≤ n → n ≤ l.block-index → block_at l.blocks n
-      ≡ g.P.BlockTransform.answered l.passes (xor_blocks (block_at l.initial.blocks n) (block_before l.iv l.blocks n));
+      ≡ g.P.BlockTransform.output l.passes (xor_blocks (block_at l.initial.blocks n) (block_before l.iv l.blocks n));
   rest : (k : ℕ) → l.block-index ≤ k → get_or l.blocks k [] ≡ get_or l.initial.blocks k [];
   last : l.previous ≡ block_before l.iv l.blocks (l.block-index + 1);
 }

@@ -6,7 +6,7 @@ use Rattle.des_fast.proofs.many.ciphers.cbc_decrypt_list.Goals as goal
 
 pub returns-clause-unchained : goal.returns-clause-unchained
 returns-clause-unchained g c =
-    let D = g.P.BlockTransform.answered c.args.passes.now in
+    let D = g.P.BlockTransform.output c.args.passes.now in
     let iv : List ℕ = c.args.iv.now in
     let blocks : List (List ℕ) = c.args.blocks.now in
     let batches : List (List ℕ) = c.split_at_mut-batches.result.0.now in

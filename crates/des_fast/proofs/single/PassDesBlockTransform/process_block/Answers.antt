@@ -3,7 +3,7 @@ use Rattle.des_fast.specs.HalfBlocks.{half_blocks_of}
 use Rattle.des_fast.specs.SideBySide.{keys_of}
 use Rattle.des_fast.proofs.HalfPasses.{after, answer_by-one}
 use Rattle.des_fast.proofs.PassDirections.{passed_by-keys}
-use Rattle.des_fast.proofs.lists.PassDesBlockTransform.process_block.Goals as goal
+use Rattle.des_fast.proofs.single.PassDesBlockTransform.process_block.Goals as goal
 
 pub returns : goal.returns
 returns g c =

@@ -2,10 +2,10 @@ use Rattle.std.proofs.Common.{ℕ, List, Bool, refl, ap, ◌∙◌}
 use Rattle.des_fast.specs.SideBySide.{keys_of}
 use Rattle.des_fast.proofs.HalfPasses.{after, answer_by-three}
 use Rattle.des_fast.proofs.PassDirections.{through-keys}
-use Rattle.des_fast.proofs.lists.ThreePassesDesBlockTransform.process_halves.Goals as goal
+use Rattle.des_fast.proofs.tdes.ThreePassesSingleDesBlockTransform.process_halves.Goals as goal
 
-pub returns-clause-answered : goal.returns-clause-answered
-returns-clause-answered g c b within block starts =
+pub returns-clause-output : goal.returns-clause-output
+returns-clause-output g c b within block starts =
     let passes = c.args.self.now in
     let k1 : List (List Bool) = keys_of passes.first in
     answer_by-three k1 (keys_of passes.second) (keys_of passes.third) block _ _ _ _
