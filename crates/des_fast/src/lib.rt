@@ -15,7 +15,6 @@
 #![tactic(auto)]
 
 pub mod box_lookup;
-mod boxes;
 mod halves;
 mod lists;
 pub mod many;

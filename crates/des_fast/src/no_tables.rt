@@ -7,8 +7,8 @@
 //! The source is written so. That a compiler keeps to it on each processor is not proved, and no
 //! claim is made on the time that a call takes.
 
-pub(crate) mod boxes;
-pub(crate) mod four_blocks;
+mod boxes;
+mod four_blocks;
 
 use crate::box_lookup::NoTables;
 use crate::single;

@@ -13,8 +13,6 @@ ghost use Rattle.des_fast.specs.HalfBlocks.{round_keys_of};
 ghost use Rattle.des_fast.specs.SideBySide.{AreExpansions, in_direction};
 
 use crate::halves::RoundKey;
-use crate::no_tables::{boxes, four_blocks};
-use std::simd::prelude::*;
 
 /// A word of groups of each of some blocks.
 pub trait Groups: Copy {
@@ -54,86 +52,6 @@ pub trait Groups: Copy {
     ghost some_blocks: { 1 ≤ BLOCKS };
 
     ghost at_most: { BLOCKS ≤ 4 };
-}
-
-/// One block.
-impl Groups for u64 {
-    ghost use Rattle.std.proofs.Common.{lit≤};
-
-    const BLOCKS: usize = 1;
-
-    ghost BLOCKS = { 1 };
-
-    ghost word = { λ b groups. groups };
-
-    #[inline(always)]
-    fn same(groups: u64) -> u64 {
-        groups
-    }
-
-    #[inline(always)]
-    fn xor(self, other: u64) -> u64 {
-        self ^ other
-    }
-
-    #[inline(always)]
-    fn substitute(self) -> u64 {
-        boxes::substitute(self)
-    }
-
-    #[inline(always)]
-    fn of_words(words: [u64; 4]) -> u64 {
-        words[0]
-    }
-
-    #[inline(always)]
-    fn into_words(self) -> [u64; 4] {
-        [self; 4]
-    }
-
-    ghost some_blocks = { lit≤ tt };
-
-    ghost at_most = { lit≤ tt };
-}
-
-/// Four blocks.
-impl Groups for u64x4 {
-    ghost use Rattle.std.proofs.Common.{lit≤};
-
-    const BLOCKS: usize = 4;
-
-    ghost BLOCKS = { 4 };
-
-    ghost word = { λ b groups. slice_index_or groups b 0 };
-
-    #[inline(always)]
-    fn same(groups: u64) -> u64x4 {
-        u64x4::splat(groups)
-    }
-
-    #[inline(always)]
-    fn xor(self, other: u64x4) -> u64x4 {
-        self ^ other
-    }
-
-    #[inline(always)]
-    fn substitute(self) -> u64x4 {
-        four_blocks::substitute(self)
-    }
-
-    #[inline(always)]
-    fn of_words(words: [u64; 4]) -> u64x4 {
-        u64x4::from_array(words)
-    }
-
-    #[inline(always)]
-    fn into_words(self) -> [u64; 4] {
-        self.to_array()
-    }
-
-    ghost some_blocks = { lit≤ tt };
-
-    ghost at_most = { lit≤ tt };
 }
 
 // The half block that a round makes: the left half, xor f of the right half and the round key (FIPS

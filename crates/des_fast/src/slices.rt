@@ -9,8 +9,9 @@ ghost use Rattle.std.specs.Mem.{type_size};
 ghost use Rattle.des.specs.Bits.{bits_of_bytes, xor};
 ghost use Rattle.des.specs.Blocks.{block_of_bits};
 ghost use Rattle.des_fast.specs.Slices.{InEachBlock, place_of_block};
-ghost use Rattle.des_fast.specs.Transposition.{AreSlicesOf, AreBlocksOf, ArePairwise, all_come_from, exchanged, interleaved, joined, bit_steps, byte_steps, bits_from, bytes_from, pairs_places, bits_of_lane};
+ghost use Rattle.des_fast.specs.Transposition.{ArePairwise, all_come_from, exchanged, interleaved, joined, bit_steps, byte_steps, bits_from, bytes_from, pairs_places, bits_of_lane};
 
+mod boxes;
 mod keys;
 mod passes;
 mod rounds;
@@ -21,8 +22,7 @@ mod vectors;
 
 pub(crate) use keys::{PassKeys, PassSlices};
 pub(crate) use passes::slices_through_passes;
-use rows::{read_rows, write_rows};
-use transposition::{Rows, transpose};
+pub(crate) use rows::{read_blocks, write_blocks};
 
 /// The number of blocks in the largest batch.
 pub(crate) const LARGEST_BATCH: usize = 256;
@@ -120,23 +120,4 @@ pub trait Slice: Copy {
     ghost bytes: { all_come_from BATCH byte_steps bytes_from ≡ true };
 
     ghost bits: { all_come_from BATCH bit_steps bits_from ≡ true };
-}
-
-/// Makes slices those of a batch of blocks.
-pub(crate) fn read_blocks<S: Slice>(slices: &mut Rows<S>, blocks: &[[u8; 8]])
-    requires { length blocks.now ≡ S.BATCH }
-    ensures { AreSlicesOf S.BATCH S.bit blocks.now slices.new }
-{
-    read_rows(slices, blocks);
-    transpose(slices);
-}
-
-/// Writes the batch of blocks of slices, which are used up.
-pub(crate) fn write_blocks<S: Slice>(blocks: &mut [[u8; 8]], slices: &mut Rows<S>)
-    requires { length blocks.old ≡ S.BATCH }
-    ensures written { AreBlocksOf S.BATCH S.bit slices.old blocks.new }
-    ensures count { length blocks.new ≡ length blocks.old }
-{
-    transpose(slices);
-    write_rows(blocks, slices);
 }

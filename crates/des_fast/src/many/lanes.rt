@@ -12,8 +12,9 @@ ghost use Rattle.des_fast.specs.RoundKeySlices.{round_keys_in};
 ghost use Rattle.des_fast.specs.SpreadKeys.{used};
 ghost use Rattle.des_fast.specs.EachKey.{round_keys_under, round_keys_of_parts, AreSpreadBelow, lane_answer};
 
-use super::{LARGEST_BATCH, Slice};
-use crate::slices::{PassSlices, read_blocks, slices_through_passes, write_blocks};
+use crate::slices::{
+    LARGEST_BATCH, PassSlices, Slice, read_blocks, slices_through_passes, write_blocks,
+};
 use des::cipher::KeyBytes;
 use des::tdes::key_part;
 

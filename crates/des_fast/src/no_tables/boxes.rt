@@ -14,6 +14,7 @@ ghost use Rattle.des_fast.specs.Groups.{IsOfGroups, IsExpansion, bits_of_groups,
 ghost use Rattle.des_fast.specs.GroupBytes.{box_of_byte, in_order};
 
 use crate::halves::word_of;
+use crate::rounds::Groups;
 use std::simd::prelude::*;
 
 // The entries of the boxes S1, S3, S5, S7, S2, S4, S6 and S8, in the order of the groups in a word:
@@ -125,10 +126,50 @@ const MIDDLE: [u8; 16] = [4, 4, 4, 4, 4, 4, 4, 4, 8, 8, 8, 8, 8, 8, 8, 8];
 #[rattlefmt::skip]
 const FIRST: [u8; 16] = [16, 16, 16, 16, 16, 16, 16, 16, 32, 32, 32, 32, 32, 32, 32, 32];
 
+/// One block.
+impl Groups for u64 {
+    ghost use Rattle.std.proofs.Common.{lit≤};
+
+    const BLOCKS: usize = 1;
+
+    ghost BLOCKS = { 1 };
+
+    ghost word = { λ b groups. groups };
+
+    #[inline(always)]
+    fn same(groups: u64) -> u64 {
+        groups
+    }
+
+    #[inline(always)]
+    fn xor(self, other: u64) -> u64 {
+        self ^ other
+    }
+
+    #[inline(always)]
+    fn substitute(self) -> u64 {
+        substitute(self)
+    }
+
+    #[inline(always)]
+    fn of_words(words: [u64; 4]) -> u64 {
+        words[0]
+    }
+
+    #[inline(always)]
+    fn into_words(self) -> [u64; 4] {
+        [self; 4]
+    }
+
+    ghost some_blocks = { lit≤ tt };
+
+    ghost at_most = { lit≤ tt };
+}
+
 /// The substitution by S1 to S8 of the 48 bits in a word of groups, and P after it, as the word of
 /// groups of its expansion E (FIPS 46-3, cipher function).
 #[inline]
-pub(crate) fn substitute(word: u64) -> u64
+fn substitute(word: u64) -> u64
     requires { IsOfGroups word }
     ensures expansion { IsExpansion result }
     ensures substituted { half_of result ≡ select permutation (substitute (bits_of_groups word)) }

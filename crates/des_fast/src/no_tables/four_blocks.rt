@@ -18,6 +18,7 @@ ghost use Rattle.des_fast.specs.GroupBytes.{box_of_byte};
 ghost use Rattle.des_fast.specs.ChosenTerms.{AreMasks, AreSums, AreChoices};
 ghost use Rattle.des_fast.specs.JoinedEntries.{entry_order, entry_bits, joined_bits, first_entries, second_entries};
 
+use crate::rounds::Groups;
 use std::simd::prelude::*;
 
 // The terms of the entries, each box in the byte of its group: in the second half of the byte for
@@ -35,10 +36,50 @@ static TERMS: [u64; 32] = [
     0xf577f45420f30154, 0xf1a2cccc000fc9d6, 0x0000000000000000, 0x0000000000000000,
 ];
 
+/// Four blocks.
+impl Groups for u64x4 {
+    ghost use Rattle.std.proofs.Common.{lit≤};
+
+    const BLOCKS: usize = 4;
+
+    ghost BLOCKS = { 4 };
+
+    ghost word = { λ b groups. slice_index_or groups b 0 };
+
+    #[inline(always)]
+    fn same(groups: u64) -> u64x4 {
+        u64x4::splat(groups)
+    }
+
+    #[inline(always)]
+    fn xor(self, other: u64x4) -> u64x4 {
+        self ^ other
+    }
+
+    #[inline(always)]
+    fn substitute(self) -> u64x4 {
+        substitute(self)
+    }
+
+    #[inline(always)]
+    fn of_words(words: [u64; 4]) -> u64x4 {
+        u64x4::from_array(words)
+    }
+
+    #[inline(always)]
+    fn into_words(self) -> [u64; 4] {
+        self.to_array()
+    }
+
+    ghost some_blocks = { lit≤ tt };
+
+    ghost at_most = { lit≤ tt };
+}
+
 /// The substitution by S1 to S8 of the 48 bits in each word of groups, and P after it, as the word
 /// of groups of its expansion E (FIPS 46-3, cipher function).
 #[inline(always)]
-pub(crate) fn substitute(groups: u64x4) -> u64x4
+fn substitute(groups: u64x4) -> u64x4
     requires { InEachBlock 4 (λ b. IsOfGroups (slice_index_or groups b 0)) }
     ensures expansion { InEachBlock 4 (λ b. IsExpansion (slice_index_or result b 0)) }
     ensures substituted { InEachBlock 4 (λ b. half_of (slice_index_or result b 0)

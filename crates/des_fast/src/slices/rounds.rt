@@ -9,8 +9,8 @@ ghost use Rattle.des_fast.specs.Slices.{InEachBlock, xor_at};
 ghost use Rattle.des_fast.specs.RoundKeySlices.{round_key_of};
 
 use super::Slice;
+use super::boxes::{s1, s2, s3, s4, s5, s6, s7, s8};
 use super::keys::KeyHalves;
-use crate::boxes::{s1, s2, s3, s4, s5, s6, s7, s8};
 
 // Permuted choice 2, in the rows of the standard's table, from 0: a position of D, from 29 on, is
 // 27 places on, since C stands before it twice.

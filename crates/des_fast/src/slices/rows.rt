@@ -5,10 +5,10 @@ ghost use Rattle.std.specs.Prelude.{◌≡◌, length};
 ghost use Rattle.std.specs.Int.{to_le_bytes, w64};
 ghost use Rattle.des.specs.Bits.{bits_of_bytes};
 ghost use Rattle.des.specs.Blocks.{block_of_bits};
-ghost use Rattle.des_fast.specs.Transposition.{AreRowsOf, AreBlocksOfRows};
+ghost use Rattle.des_fast.specs.Transposition.{AreSlicesOf, AreBlocksOf, AreRowsOf, AreBlocksOfRows};
 
 use super::Slice;
-use super::transposition::Rows;
+use super::transposition::{Rows, transpose};
 
 /// A function for the proof alone: the word of a block, whose first byte is the least significant. In
 /// a vector the bytes then stand as in memory. Of an element of a list of blocks the proof knows
@@ -47,4 +47,23 @@ pub(super) fn write_rows<S: Slice>(blocks: &mut [[u8; 8]], rows: &Rows<S>)
     'rows: for n in 0..64usize {
         rows[n].write_row(blocks, n);
     }
+}
+
+/// Makes slices those of a batch of blocks.
+pub(crate) fn read_blocks<S: Slice>(slices: &mut Rows<S>, blocks: &[[u8; 8]])
+    requires { length blocks.now ≡ S.BATCH }
+    ensures { AreSlicesOf S.BATCH S.bit blocks.now slices.new }
+{
+    read_rows(slices, blocks);
+    transpose(slices);
+}
+
+/// Writes the batch of blocks of slices, which are used up.
+pub(crate) fn write_blocks<S: Slice>(blocks: &mut [[u8; 8]], slices: &mut Rows<S>)
+    requires { length blocks.old ≡ S.BATCH }
+    ensures written { AreBlocksOf S.BATCH S.bit slices.old blocks.new }
+    ensures count { length blocks.new ≡ length blocks.old }
+{
+    transpose(slices);
+    write_rows(blocks, slices);
 }

@@ -11,7 +11,7 @@
 ghost use Rattle.des.specs.Tables.{s1, s2, s3, s4, s5, s6, s7, s8};
 ghost use Rattle.des_fast.specs.Slices.{ReplacesGroups};
 
-use crate::slices::Slice;
+use super::Slice;
 
 /// The box S1 on slices (FIPS 46-3, S-boxes): a circuit of 53 gates.
 #[inline(always)]

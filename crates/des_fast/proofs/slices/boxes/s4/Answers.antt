@@ -4,7 +4,7 @@ use Rattle.des.specs.Bits.{bits_of, number_of, select}
 use Rattle.des.specs.Tables.{s4}
 use Rattle.des.specs.CipherFunction.{box_entry}
 use Rattle.des_fast.proofs.Circuits.{complement, and, and_not, or, xor, Circuit, done, ◌▸◌, made-entry}
-use Rattle.des_fast.proofs.boxes.s4.Goals as goal
+use Rattle.des_fast.proofs.slices.boxes.s4.Goals as goal
 
 -- its gates, in the order of the code
 abbrev circuit : Circuit

@@ -1,6 +1,6 @@
 use Rattle.std.proofs.Common.{◌≡◌, ◌*◌, arith}
 use Rattle.des_fast.proofs.BlockRows.{AreBlocksOf-rows}
-use Rattle.des_fast.proofs.slices.write_blocks.Goals as goal
+use Rattle.des_fast.proofs.slices.rows.write_blocks.Goals as goal
 
 pub returns : goal.returns
 returns g c =

@@ -1,6 +1,6 @@
 use Rattle.std.proofs.Common.{◌≡◌, ◌*◌, arith}
 use Rattle.des_fast.proofs.BlockRows.{AreSlicesOf-rows}
-use Rattle.des_fast.proofs.slices.read_blocks.Goals as goal
+use Rattle.des_fast.proofs.slices.rows.read_blocks.Goals as goal
 
 pub returns : goal.returns
 returns g c =
