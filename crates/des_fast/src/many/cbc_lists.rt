@@ -1,6 +1,6 @@
-//! Chained blocks (FIPS 81, cipher block chaining mode). To encipher, block goes after block: each
-//! waits for the one before it. To decipher, a batch goes at a time, or some side by side: each
-//! block is deciphered by itself, and xored with the ciphertext block before it.
+//! Lists by CBC (FIPS 81, cipher block chaining mode). To encrypt, block goes after block: each waits
+//! for the one before it. To decrypt, a batch goes at a time, or some side by side: each block is
+//! deciphered by itself, and xored with the ciphertext block before it.
 
 ghost use Rattle.std.specs.Prelude.{◌≡◌, ℕ, List};
 ghost use Rattle.std.specs.List.{All};
@@ -16,8 +16,8 @@ use crate::slices::PassSlices;
 use des::cbc::{self, ListDecryption};
 use des::cipher::are_blocks;
 
-/// Takes blocks through passes one after another, in the chain that begins with `iv`. Not inlined:
-/// with both lookups in one function each of them is slower.
+/// Encrypts blocks by CBC from `iv`, each through passes. Not inlined: with both lookups in one
+/// function each of them is slower.
 #[inline(never)]
 pub(super) fn cbc_encrypt<W: BoxLookup, P: BlockTransform>(
     blocks: &mut [[u8; 8]],
@@ -44,7 +44,7 @@ struct SideBySide<'a, P> {
 }
 
 impl<'a, P: BlockTransform> ListDecryption for SideBySide<'a, P> {
-    ghost decrypts = { λ few answer. answer ≡ P.output few.passes.now };
+    ghost decrypts = { λ few decryption. decryption ≡ P.output few.passes.now };
 
     fn decrypt_list(&self, blocks: &mut [[u8; 8]]) {
         if self.no_tables {
@@ -55,8 +55,7 @@ impl<'a, P: BlockTransform> ListDecryption for SideBySide<'a, P> {
     }
 }
 
-/// Takes a few blocks through passes, some side by side, and out of the chain that begins with
-/// `iv`.
+/// Decrypts a few blocks that CBC chained from `iv`, some side by side, through passes.
 pub(super) fn cbc_decrypt_few<P: BlockTransform>(
     no_tables: bool,
     blocks: &mut [[u8; 8]],
@@ -77,19 +76,20 @@ struct InBatches<'a, S> {
 }
 
 impl<'a, S: Slice> ListDecryption for InBatches<'a, S> {
-    ghost decrypts = { λ batches answer. AreSlicesFor S.BATCH S.bit batches.passes.now answer };
+    ghost decrypts = { λ batches decryption. AreSlicesFor S.BATCH S.bit batches.passes.now decryption };
 
     fn decrypt_list(&self, blocks: &mut [[u8; 8]]) {
         process::<S>(blocks, self.passes);
     }
 }
 
-/// Takes blocks through passes, and out of the chain that begins with `iv`, batch after batch, and
-/// then what is left over.
+/// Decrypts blocks that CBC chained from `iv` through passes, batch after batch, and then what is
+/// left over.
 pub(super) fn cbc_decrypt<S: Slice>(blocks: &mut [[u8; 8]], iv: &[u8; 8], passes: &[PassSlices<S>])
     ensures blocks { All IsBlock blocks.old }
-    ensures unchained { (answer : List ℕ → List ℕ) → AreSlicesFor S.BATCH S.bit passes.now answer
-        → Unchains answer iv.now blocks.old blocks.new }
+    ensures unchained { (decryption : List ℕ → List ℕ)
+        → AreSlicesFor S.BATCH S.bit passes.now decryption
+        → Unchains decryption iv.now blocks.old blocks.new }
 {
     let mut buffer = [[0; 8]; LARGEST_BATCH];
     cbc::decrypt_by(&InBatches { passes }, iv, blocks, &mut buffer[..S::BATCH]);
