@@ -10,7 +10,7 @@ use Rattle.des_fast.specs.declared.slices.keys.PassSlices.{PassSlices}
 use Rattle.des_fast.specs.declared.many.lanes.PassPart.{PassPart}
 use Rattle.des_fast.specs.RoundKeySlices.{round_keys_in}
 use Rattle.des_fast.specs.Passes.{block_through_passes}
-use Rattle.des_fast.specs.EachKey.{round_keys_of_parts, triple_parts, lane_answer}
+use Rattle.des_fast.specs.EachKey.{round_keys_of_parts, triple_parts, lane_output}
 use Rattle.des_fast.specs.LaneKeys.{answer_in}
 use Rattle.des_fast.proofs.ThreePasses.{block_through_passes-three}
 
@@ -23,7 +23,7 @@ pub lane-by_parts : {A : Type 0} (bit : A → Bool) (passes : List (PassSlices A
     (answer : List ℕ → List ℕ → List ℕ) (keys : List (List ℕ)) (k : ℕ)
     → map (round_keys_in bit) passes ≡ round_keys_of_parts parts (get_or keys k [])
     → block_through_passes (round_keys_of_parts parts (get_or keys k [])) ≡ answer (get_or keys k [])
-    → lane_answer bit passes ≡ answer (get_or (map (λ key. key) keys) k [])
+    → lane_output bit passes ≡ answer (get_or (map (λ key. key) keys) k [])
 lane-by_parts bit passes parts answer keys k spread is =
     ap block_through_passes spread
     ∙ is

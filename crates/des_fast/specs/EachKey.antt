@@ -34,8 +34,8 @@ triple_parts has_three second true =
     ∷ record { number = 2; deciphers = not second } ∷ record { number = 1; deciphers = true } ∷ []
 
 -- what passes make of a block in a lane, by the round keys that the slices hold for it
-abbrev pub lane_answer : {A : Type 0} → (A → Bool) → List (PassSlices A) → List ℕ → List ℕ
-lane_answer bit passes block = block_through_passes (map (round_keys_in bit) passes) block
+abbrev pub lane_output : {A : Type 0} → (A → Bool) → List (PassSlices A) → List ℕ → List ℕ
+lane_output bit passes block = block_through_passes (map (round_keys_in bit) passes) block
 
 -- the first n passes are those under the first n parts of each key, of the key at its place
 abbrev pub AreSpreadBelow : {A : Type 0} → (ℕ → A → Bool) → List PassPart → List (List ℕ)

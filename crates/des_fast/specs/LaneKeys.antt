@@ -2,7 +2,7 @@
 use Rattle.std.specs.Prelude.{◌≡◌, ℕ, ◌<◌, List, [], Bool, true, false, length, slice_index_or}
 use Rattle.des_fast.specs.declared.many.lanes.LaneKeys.{LaneKeys}
 use Rattle.des_fast.specs.SpreadKeys.{used}
-use Rattle.des_fast.specs.EachKey.{lane_answer}
+use Rattle.des_fast.specs.EachKey.{lane_output}
 
 -- of what a cipher answers in its two directions, that of decryption where it is asked for
 abbrev pub answer_in : Bool → (List ℕ → List ℕ → List ℕ) → (List ℕ → List ℕ → List ℕ)
@@ -15,4 +15,4 @@ abbrev pub AnswerLanes : {A : Type 0} → (ℕ → A → Bool) → LaneKeys A �
     → List (List ℕ) → Type 0
 AnswerLanes bit lanes answer keys =
     (k : ℕ) → k < length keys
-    → lane_answer (bit k) (used lanes.is_triple lanes.passes) ≡ answer (slice_index_or keys k [])
+    → lane_output (bit k) (used lanes.is_triple lanes.passes) ≡ answer (slice_index_or keys k [])

@@ -1,7 +1,7 @@
 //! Keys of chains: one for all, or one for each.
 
 ghost use Rattle.std.specs.Prelude.{◌≡◌, ◌↔◌, ◌≤◌, ◌<◌, ◌+◌, ⊤, ℕ, List, IsTrue};
-ghost use Rattle.des_fast.specs.EachKey.{lane_answer};
+ghost use Rattle.des_fast.specs.EachKey.{lane_output};
 ghost use Rattle.des_fast.specs.SpreadKeys.{AreSlicesFor, used};
 
 use super::Slice;
@@ -36,7 +36,7 @@ pub trait ChainKeys {
         requires within { (n : ℕ) × are_for self.now n × (from + count ≤ n) }
         ensures { (encryption : ℕ → List ℕ → List ℕ) → encrypt self.now encryption
             → (k : ℕ) → k < count
-            → encryption (from + k) ≡ lane_answer (Self.Slices.bit k) result.now };
+            → encryption (from + k) ≡ lane_output (Self.Slices.bit k) result.now };
 }
 
 // One key for all chains, if all lanes have the same: of other keys `encrypt` says nothing.

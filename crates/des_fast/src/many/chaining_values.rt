@@ -5,7 +5,7 @@
 ghost use Rattle.std.specs.Prelude.{◌≡◌, ◌≤◌, ◌<◌, ◌+◌, ◌^◌, ℕ, List, length};
 ghost use Rattle.des.specs.Cbc.{xor_blocks};
 ghost use Rattle.des_fast.specs.Transposition.{block_at};
-ghost use Rattle.des_fast.specs.EachKey.{lane_answer};
+ghost use Rattle.des_fast.specs.EachKey.{lane_output};
 ghost use Rattle.des_fast.specs.ChainingValues.{AreChainingValues};
 ghost use Rattle.des_fast.specs.Largest.{IsLargest};
 
@@ -112,7 +112,7 @@ fn last_values_of_group<S: Slice, L: BlockLists>(
     requires there { from + length chains.old ≤ L.list_count lists.now }
     requires fits { from + length chains.old < 2 ^ 64 }
     ensures count { length chains.new ≡ length chains.old }
-    ensures ends { AreChainingValues (λ k. lane_answer (S.bit k) passes.now)
+    ensures ends { AreChainingValues (λ k. lane_output (S.bit k) passes.now)
         (λ k. L.block_of lists.now (from + k)) (λ k. L.count_of lists.now (from + k))
         chains.old chains.new }
 {

@@ -4,7 +4,7 @@ ghost use Rattle.std.specs.Prelude.{◌≡◌, ◌↔◌, ◌≤◌, IsOk, OnOk,
 ghost use Rattle.std.specs.Simd.Lanes.{zip2};
 ghost use Rattle.des_fast.specs.Slices.{InEachBlock};
 ghost use Rattle.des_fast.specs.SpreadKeys.{used};
-ghost use Rattle.des_fast.specs.EachKey.{lane_answer, last_part, triple_parts};
+ghost use Rattle.des_fast.specs.EachKey.{lane_output, last_part, triple_parts};
 ghost use Rattle.des_fast.specs.LaneKeys.{AnswerLanes, answer_in};
 ghost use Rattle.des_fast.specs.ChainingValues.{AreChainingValues, under_key};
 
@@ -146,7 +146,7 @@ impl<'a, S: Slice, C: KeyForEach> ChainKeys for EachKey<'a, S, C> {
 
 // Makes the lanes' keys for encryption the first of these, a batch of them.
 fn spread_batch<S: Slice, C: KeyForEach>(keys: &[C::Key; LARGEST_BATCH], lanes: &mut LaneKeys<S>)
-    ensures { InEachBlock S.BATCH (λ b. lane_answer (S.bit b)
+    ensures { InEachBlock S.BATCH (λ b. lane_output (S.bit b)
         (used lanes.new.is_triple lanes.new.passes)
         ≡ under_key C.encryption (map C.Key.bytes_of keys.now) b) }
 {

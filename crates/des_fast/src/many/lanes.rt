@@ -10,7 +10,7 @@ ghost use Rattle.des_fast.specs.Slices.{InEachBlock};
 ghost use Rattle.des_fast.specs.Transposition.{block_at};
 ghost use Rattle.des_fast.specs.RoundKeySlices.{round_keys_in};
 ghost use Rattle.des_fast.specs.SpreadKeys.{used};
-ghost use Rattle.des_fast.specs.EachKey.{round_keys_under, round_keys_of_parts, AreSpreadBelow, lane_answer};
+ghost use Rattle.des_fast.specs.EachKey.{round_keys_under, round_keys_of_parts, AreSpreadBelow, lane_output};
 
 use crate::slices::{
     LARGEST_BATCH, PassSlices, Slice, read_blocks, slices_through_passes, write_blocks,
@@ -163,7 +163,7 @@ pub(super) fn process_lanes<S: Slice>(blocks: &mut [[u8; 8]], passes: &[PassSlic
     requires { length blocks.old ≡ S.BATCH }
     ensures count { length blocks.new ≡ length blocks.old }
     ensures lanes { InEachBlock S.BATCH (λ b. block_at blocks.new b
-        ≡ lane_answer (S.bit b) passes.now (block_at blocks.old b)) }
+        ≡ lane_output (S.bit b) passes.now (block_at blocks.old b)) }
 {
     let mut slices = [S::same(false); 64];
     read_blocks(&mut slices, blocks);
@@ -178,7 +178,7 @@ pub(super) fn process_filled<S: Slice>(
     passes: &[PassSlices<S>],
 )
     ensures { (k : ℕ) → k < S.BATCH
-        → block_at lanes.new k ≡ lane_answer (S.bit k) passes.now (block_at lanes.old k) }
+        → block_at lanes.new k ≡ lane_output (S.bit k) passes.now (block_at lanes.old k) }
 {
     process_lanes(&mut lanes[..S::BATCH], passes);
 }
@@ -192,7 +192,7 @@ pub(super) fn write_processed<S: Slice>(
 )
     requires { length blocks.now ≤ S.BATCH }
     ensures { (k : ℕ) → k < length blocks.now → block_at answers.new k
-        ≡ lane_answer (S.bit k) passes.now (block_at blocks.now k) }
+        ≡ lane_output (S.bit k) passes.now (block_at blocks.now k) }
 {
     answers[..blocks.len()].copy_from_slice(blocks);
     process_filled(answers, passes);
@@ -203,7 +203,7 @@ pub(super) fn process_lanes_part<S: Slice>(blocks: &mut [[u8; 8]], passes: &[Pas
     requires { length blocks.old ≤ S.BATCH }
     ensures count { length blocks.new ≡ length blocks.old }
     ensures lanes { (k : ℕ) → k < length blocks.old → block_at blocks.new k
-        ≡ lane_answer (S.bit k) passes.now (block_at blocks.old k) }
+        ≡ lane_output (S.bit k) passes.now (block_at blocks.old k) }
 {
     if blocks.len() == S::BATCH {
         return process_lanes(blocks, passes);

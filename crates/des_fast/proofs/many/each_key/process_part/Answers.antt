@@ -1,6 +1,6 @@
 use Rattle.std.proofs.Common.{◌≡◌, ℕ, List, [], length, map, get_or, ap, ◌∙◌, arith}
 use Rattle.std.proofs.lemmas.List.{length-map}
-use Rattle.des_fast.specs.EachKey.{lane_answer}
+use Rattle.des_fast.specs.EachKey.{lane_output}
 use Rattle.des_fast.specs.LaneKeys.{answer_in}
 use Rattle.des_fast.proofs.ZippedParts.{zipped-at}
 use Rattle.des_fast.proofs.many.each_key.process_part.Goals as goal
@@ -14,5 +14,5 @@ returns g c =
     c.process_lanes_part.new.blocks count c.process_lanes_part.ensures.count
     (λ k below.
     c.process_lanes_part.ensures.lanes k below
-    ∙ ap (λ passes. lane_answer (g.S.Slice.bit k) passes (get_or old k [])) c.passes.ensures
+    ∙ ap (λ passes. lane_output (g.S.Slice.bit k) passes (get_or old k [])) c.passes.ensures
     ∙ ap (λ (f : List ℕ → List ℕ). f (get_or old k [])) (c.spread_each.ensures k (omega (arith, count))))

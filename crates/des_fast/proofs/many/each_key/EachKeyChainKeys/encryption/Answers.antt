@@ -1,7 +1,7 @@
 -- Lane k has the key of chain `from + k`.
 use Rattle.std.proofs.Common.{◌≡◌, ◌≤◌, ℕ, ◌+◌, ◌-◌, List, length, map, take, drop, ap, sym, ◌∙◌, arith, length-take-le}
 use Rattle.std.proofs.lemmas.List.{length-map, length-drop}
-use Rattle.des_fast.specs.EachKey.{lane_answer}
+use Rattle.des_fast.specs.EachKey.{lane_output}
 use Rattle.des_fast.proofs.KeysAtPlaces.{under_key-part}
 use Rattle.des_fast.proofs.many.each_key.EachKeyChainKeys.encryption.Goals as goal
 
@@ -18,4 +18,4 @@ returns g c encryption are k below =
     ap (λ (f : ℕ → List ℕ → List ℕ). f (m + k)) are
     ∙ sym (under_key-part bytes g.C.KeyedCipher.encryption keys m w k (omega arith))
     ∙ sym (c.spread_each.ensures k (omega (arith, in_part)))
-    ∙ ap (lane_answer (g.S.Slice.bit k)) (sym c.passes.ensures)
+    ∙ ap (lane_output (g.S.Slice.bit k)) (sym c.passes.ensures)
