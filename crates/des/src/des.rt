@@ -44,7 +44,7 @@ fn run_rounds<'a, I: Iterator<Item = &'a u64>>(block: &mut [u8; 8], round_keys: 
     requires can { I.can_next round_keys }
     requires ends { IsFinite (I.remaining round_keys) }
     ensures was_block { IsBlock block.old }
-    ensures answered { (words : List ℕ)
+    ensures processed { (words : List ℕ)
         → AlwaysYields I.next_gives (λ word. word.now) round_keys words
         → block.new ≡ answer_by (round_keys_of words) block.old }
 {

@@ -126,7 +126,7 @@ pub fn encrypt_ecb<S: Slice>(context: &[u64], blocks: &mut [[u8; 8]], size: usiz
     ensures accepted { (result ≡ OK) ↔ (HasMark NO_MAC context.now × AreBytesOf blocks.old size) }
     ensures refused { (result ≡ ERR_BLOCKS)
         ↔ (HasMark NO_MAC context.now × ¬ (AreBytesOf blocks.old size)) }
-    ensures answered { result ≡ OK → (key : List ℕ) → IsContextOf context.now key
+    ensures processed { result ≡ OK → (key : List ℕ) → IsContextOf context.now key
         → IsTheOne (λ answers. AnswersEach (relation_of key) blocks.old answers) blocks.new }
     ensures kept { result ≢ OK → blocks.new ≡ blocks.old }
 {
@@ -147,7 +147,7 @@ pub fn decrypt_ecb<S: Slice>(context: &[u64], blocks: &mut [[u8; 8]], size: usiz
     ensures accepted { (result ≡ OK) ↔ (HasMark NO_MAC context.now × AreBytesOf blocks.old size) }
     ensures refused { (result ≡ ERR_BLOCKS)
         ↔ (HasMark NO_MAC context.now × ¬ (AreBytesOf blocks.old size)) }
-    ensures answered { result ≡ OK → (key : List ℕ) → IsContextOf context.now key
+    ensures processed { result ≡ OK → (key : List ℕ) → IsContextOf context.now key
         → IsTheOne (λ answers. AnswersEach (relation_of key) answers blocks.old) blocks.new }
     ensures kept { result ≢ OK → blocks.new ≡ blocks.old }
 {

@@ -17,7 +17,7 @@ fn encrypt_by<C: ContextCipher + KeyForEach, S: Slice>(keys: &[u8], blocks: &mut
     ensures accepted { (result ≡ OK) ↔ (length (keys_of C.KEY_SIZE keys.now) ≡ length blocks.old) }
     ensures refused { (result ≡ ERR_COUNTS)
         ↔ (length (keys_of C.KEY_SIZE keys.now) ≢ length blocks.old) }
-    ensures answered { result ≡ OK
+    ensures processed { result ≡ OK
         → blocks.new ≡ zip2 encryption_of (keys_of C.KEY_SIZE keys.now) blocks.old }
     ensures kept { result ≢ OK → blocks.new ≡ blocks.old }
 {
@@ -35,7 +35,7 @@ pub fn encrypt_each<S: Slice>(key_size: usize, keys: &[u8], blocks: &mut [[u8; 8
     ensures accepted { (result ≡ OK) ↔ (length (keys_of key_size keys.now) ≡ length blocks.old) }
     ensures refused { (result ≡ ERR_COUNTS)
         ↔ (length (keys_of key_size keys.now) ≢ length blocks.old) }
-    ensures answered { result ≡ OK
+    ensures processed { result ≡ OK
         → blocks.new ≡ zip2 encryption_of (keys_of key_size keys.now) blocks.old }
     ensures kept { result ≢ OK → blocks.new ≡ blocks.old }
 {
@@ -52,7 +52,7 @@ fn decrypt_by<C: ContextCipher + KeyForEach, S: Slice>(keys: &[u8], blocks: &mut
     ensures accepted { (result ≡ OK) ↔ (length (keys_of C.KEY_SIZE keys.now) ≡ length blocks.old) }
     ensures refused { (result ≡ ERR_COUNTS)
         ↔ (length (keys_of C.KEY_SIZE keys.now) ≢ length blocks.old) }
-    ensures answered { result ≡ OK
+    ensures processed { result ≡ OK
         → blocks.new ≡ zip2 decryption_of (keys_of C.KEY_SIZE keys.now) blocks.old }
     ensures kept { result ≢ OK → blocks.new ≡ blocks.old }
 {
@@ -69,7 +69,7 @@ pub fn decrypt_each<S: Slice>(key_size: usize, keys: &[u8], blocks: &mut [[u8; 8
     ensures accepted { (result ≡ OK) ↔ (length (keys_of key_size keys.now) ≡ length blocks.old) }
     ensures refused { (result ≡ ERR_COUNTS)
         ↔ (length (keys_of key_size keys.now) ≢ length blocks.old) }
-    ensures answered { result ≡ OK
+    ensures processed { result ≡ OK
         → blocks.new ≡ zip2 decryption_of (keys_of key_size keys.now) blocks.old }
     ensures kept { result ≢ OK → blocks.new ≡ blocks.old }
 {

@@ -61,7 +61,7 @@ fn xored(block: &[u8; 8], other: &[u8; 8]) -> [u8; 8]
 // Takes blocks through passes, batch after batch, and then what is left over.
 fn process<S: Slice>(blocks: &mut [[u8; 8]], passes: &[PassSlices<S>])
     ensures blocks { All IsBlock blocks.old }
-    ensures answered { (answer : List ℕ → List ℕ) → AreSlicesFor S.BATCH S.bit passes.now answer
+    ensures processed { (answer : List ℕ → List ℕ) → AreSlicesFor S.BATCH S.bit passes.now answer
         → blocks.new ≡ map answer blocks.old }
 {
     are_blocks(blocks);
@@ -86,7 +86,7 @@ pub trait ManyBlocks: Relating {
     fn encrypt_list_by<S: Slice>(&self, no_tables: bool, blocks: &mut [[u8; 8]])
         ensures blocks { All IsBlock blocks.old }
         ensures encrypted { blocks.new ≡ map (Self.encrypted self.now) blocks.old }
-        ensures answered { (key : List ℕ) → Self.is_made_from self.now key
+        ensures processed { (key : List ℕ) → Self.is_made_from self.now key
             → IsTheOne (λ answers. AnswersEach (Self.relation key) blocks.old answers) blocks.new };
 
     /// Decrypts each block of 8 bytes in place, in order, as `decrypt_blocks` does, in batches of
@@ -94,7 +94,7 @@ pub trait ManyBlocks: Relating {
     fn decrypt_list_by<S: Slice>(&self, no_tables: bool, blocks: &mut [[u8; 8]])
         ensures blocks { All IsBlock blocks.old }
         ensures decrypted { blocks.new ≡ map (Self.decrypted self.now) blocks.old }
-        ensures answered { (key : List ℕ) → Self.is_made_from self.now key
+        ensures processed { (key : List ℕ) → Self.is_made_from self.now key
             → IsTheOne (λ answers. AnswersEach (Self.relation key) answers blocks.old) blocks.new };
 
     /// Encrypts in place a list of blocks of 8 bytes by CBC (FIPS 81, cipher block chaining mode),

@@ -22,7 +22,7 @@ pub fn encrypt_complements<C: Complementing + Drop>(
     block: &mut [u8; 8],
 ) -> Result<(), InvalidLength>
     ensures accepted { IsOk result ↔ (length key.old ≡ C.KEY_SIZE) }
-    ensures answered { OnOk result (block.new ≡ complement (C.encryption key.old block.old)) }
+    ensures processed { OnOk result (block.new ≡ complement (C.encryption key.old block.old)) }
     ensures refused { OnErr result (block.new ≡ complement block.old) }
     ensures key { key.new ≡ complement key.old }
 {
@@ -38,7 +38,7 @@ pub fn decrypt_complements<C: Complementing + Drop>(
     block: &mut [u8; 8],
 ) -> Result<(), InvalidLength>
     ensures accepted { IsOk result ↔ (length key.old ≡ C.KEY_SIZE) }
-    ensures answered { OnOk result (block.new ≡ complement (C.decryption key.old block.old)) }
+    ensures processed { OnOk result (block.new ≡ complement (C.decryption key.old block.old)) }
     ensures refused { OnErr result (block.new ≡ complement block.old) }
     ensures key { key.new ≡ complement key.old }
 {

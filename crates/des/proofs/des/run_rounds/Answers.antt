@@ -29,8 +29,8 @@ loop-round_key-preserved g c =
           (sym (map-append read c.loop-round_key.yielded (c.in-Some.field-0 ∷ [])));
     }
 
-pub returns-clause-answered : goal.returns-clause-answered
-returns-clause-answered g c words yields =
+pub returns-clause-processed : goal.returns-clause-processed
+returns-clause-processed g c words yields =
     let first : ℕ = c.first_halves-halves.result in
     let same : c.into_iter-round_key-iterator.result ≡ c.args.round_keys = search rules in
     let yielded : YieldsList g.I.Iterator.next_gives (λ word. word.now) c.into_iter-round_key-iterator.result words =

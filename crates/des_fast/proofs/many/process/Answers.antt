@@ -27,7 +27,7 @@ parts-preserved g c = (
       ∙ ap (λ (k : ℕ). map f (take k old) ++ drop k old) next,
 )
 
-pub returns-clause-answered : goal.returns-clause-answered
-returns-clause-answered g c f are =
+pub returns-clause-processed : goal.returns-clause-processed
+returns-clause-processed g c f are =
     c.parts.invariant.1 f are
     ∙ answered-all f c.parts.from c.args.blocks.now (omega arith)

@@ -8,8 +8,8 @@ use Rattle.des_uses.proofs.complements.decrypt_complements.Goals as goal
 
 -- the cipher is made from the complemented key, so it answers as that key does, which is the complement of what the
 -- key answers
-pub returns-clause-answered : goal.returns-clause-answered
-returns-clause-answered g c =
+pub returns-clause-processed : goal.returns-clause-processed
+returns-clause-processed g c =
     let size : ℕ = g.C.KeySizeUser.KEY_SIZE in
     let key : List ℕ = c.args.key.now in
     let block : List ℕ = c.args.block.now in
@@ -29,5 +29,5 @@ returns-clause-answered g c =
     (g.met.C.KeyedCipher.decrypts_by_key cipher (complement key) (complement block)
     (IsKey-complement size key is_key) made (IsKey-complement 8 block is_block)) in
     ◌∙◌ {b = g.C.KeyedCipher.decryption (complement key) (complement block)}
-    (◌∙◌ {b = answers c.complement_bytes-2.new.bytes} c.decrypt_block.ensures answered)
+    (◌∙◌ {b = answers c.complement_bytes-2.new.bytes} c.decrypt_block.ensures processed)
     (g.met.C.Complementing.decryption_complements key block is_key is_block)

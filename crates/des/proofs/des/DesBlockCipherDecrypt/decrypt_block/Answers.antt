@@ -8,7 +8,7 @@ use Rattle.des.proofs.des.DesBlockCipherDecrypt.decrypt_block.Goals as goal
 pub returns-clause-decrypted : goal.returns-clause-decrypted
 returns-clause-decrypted c =
     let words = c.args.self.now.round_keys in
-    c.run_rounds.ensures.answered (reverse words) (YieldsList-from_rev_slice words (search rules)).runs
+    c.run_rounds.ensures.processed (reverse words) (YieldsList-from_rev_slice words (search rules)).runs
     ∙ ap (λ keys. answer_by keys c.args.block.now) (round_keys_of-reverse words)
 
 pub returns-clause-deciphers : goal.returns-clause-deciphers

@@ -6,7 +6,7 @@ use Rattle.des.proofs.des.DesBlockCipherEncrypt.encrypt_block.Goals as goal
 pub returns-clause-encrypted : goal.returns-clause-encrypted
 returns-clause-encrypted c =
     let words = c.args.self.now.round_keys in
-    c.run_rounds.ensures.answered words (YieldsList-from_slice words (search rules)).runs
+    c.run_rounds.ensures.processed words (YieldsList-from_slice words (search rules)).runs
 
 pub returns-clause-enciphers : goal.returns-clause-enciphers
 returns-clause-enciphers c key of_key =

@@ -5,11 +5,11 @@ use Rattle.des_fast.specs.Des.{encrypted, decrypted}
 use Rattle.des_fast.proofs.RelatedTriples.{encrypts-triple}
 use Rattle.des_fast.proofs.many.ciphers.TripleManyBlocks.encrypt_list_by.Goals as goal
 
-pub returns-clause-answered : goal.returns-clause-answered
-returns-clause-answered g c key made =
+pub returns-clause-processed : goal.returns-clause-processed
+returns-clause-processed g c key made =
     let ciphers = g.P.Parts.ciphers c.args.self.now.parts in
     let deciphers = g.F.Form.DECIPHERS_SECOND in
-    rw (c.process_list.ensures.answered, c.encryption_passes.ensures)
+    rw (c.process_list.ensures.processed, c.encryption_passes.ensures)
     (IsTheOne-map (triple_encrypted encrypted decrypted deciphers ciphers)
     (λ x y. EnciphersTriple g.P.Parts.has_three deciphers key x y)
     (encrypts-triple deciphers ciphers g.P.Parts.has_three key made) c.args.blocks.now c.process_list.ensures.blocks)

@@ -11,5 +11,5 @@ process-requires g c = omega (arith, pass_slices-le _ _ g.met.S.Slice.small_gaps
 
 pub returns-clause-decrypted : goal.returns-clause-decrypted
 returns-clause-decrypted g c encrypted decrypted are =
-    c.process.ensures.answered decrypted
+    c.process.ensures.processed decrypted
     (subst (λ passes. AreSlicesFor g.S.Slice.BATCH g.S.Slice.bit passes decrypted) (sym c.passes.ensures) are.decryption)

@@ -11,5 +11,5 @@ process-requires g c = omega (arith, pass_slices-le _ _ g.met.S.Slice.small_gaps
 
 pub returns-clause-encrypted : goal.returns-clause-encrypted
 returns-clause-encrypted g c encrypted decrypted are =
-    c.process.ensures.answered encrypted
+    c.process.ensures.processed encrypted
     (subst (λ passes. AreSlicesFor g.S.Slice.BATCH g.S.Slice.bit passes encrypted) (sym c.passes.ensures) are.encryption)
