@@ -1,60 +1,15 @@
-/* The six ciphers: DES-EDE3, DES-EDE and DES, by ECB and CBC, in steps as OpenSSL's own, with its statuses and errors. */
-#include "internal.h"
-#include <openssl/evp.h>
+/* Contexts of ciphers, their parameters, and messages in steps, as OpenSSL's own, with its statuses and errors. */
+#include "cipher.h"
 #include <sys/random.h>
-
-union round_keys {
-  cukvashe_des des;
-  cukvashe_tdes_ede2 tdes_ede2;
-  cukvashe_tdes_ede3 tdes_ede3;
-};
-
-struct context;
-
-/* A cipher in its mode. `run` takes whole blocks, in place, and chains them from the context's vector. */
-struct cipher {
-  uint32_t mode, key_length, vector_length;
-  int (*init)(union round_keys *keys, const uint8_t *key, size_t length, bool no_tables);
-  int (*run)(struct context *context, uint8_t *data, size_t length);
-};
-
-/* A message under a key. `held` came and is not processed: a part of a block, or a whole last one that may be padding. */
-struct context {
-  const struct provider *provider;
-  const struct cipher *cipher;
-  union round_keys keys;
-  bool has_key, has_vector, encrypts, pads;
-  uint32_t number; /* means nothing here, and stays what a program sets it to */
-  uint8_t first_vector[BLOCK], vector[BLOCK], held[BLOCK];
-  size_t held_length;
-};
-
-#define DEFINE_RUNS(NAME)                                                                                             \
-  static int NAME##_init(union round_keys *keys, const uint8_t *key, size_t length, bool no_tables) {                 \
-    if (no_tables) return cukvashe_##NAME##_init_no_tables(&keys->NAME, key, length);                                 \
-    return cukvashe_##NAME##_init(&keys->NAME, key, length);                                                          \
-  }                                                                                                                   \
-  static int NAME##_ecb(struct context *context, uint8_t *data, size_t length) {                                      \
-    if (context->encrypts) return cukvashe_##NAME##_encrypt_ecb(&context->keys.NAME, data, length);                   \
-    return cukvashe_##NAME##_decrypt_ecb(&context->keys.NAME, data, length);                                          \
-  }                                                                                                                   \
-  static int NAME##_cbc(struct context *context, uint8_t *data, size_t length) {                                      \
-    if (context->encrypts) return cukvashe_##NAME##_encrypt_cbc(&context->keys.NAME, context->vector, data, length);  \
-    return cukvashe_##NAME##_decrypt_cbc(&context->keys.NAME, context->vector, data, length);                         \
-  }
-
-DEFINE_RUNS(des)
-DEFINE_RUNS(tdes_ede2)
-DEFINE_RUNS(tdes_ede3)
 
 static int run(struct context *context, uint8_t *data, size_t length) {
   if (context->cipher->run(context, data, length) == CUKVASHE_OK) return 1;
   return REFUSE(context->provider, PROV_R_CIPHER_OPERATION_FAILED, NULL);
 }
 
-/* Up to 128 blocks the library takes no vectors of 256 bits. */
+/* Up to 128 segments the library takes no vectors of 256 bits. */
 static NOT_INLINED int run_in_pieces(struct context *context, uint8_t *data, size_t length) {
-  const size_t most = 128 * BLOCK;
+  const size_t most = 128 * context->cipher->segment_bits / 8;
   for (; length > most; length -= most, data += most)
     if (!run(context, data, most)) return 0;
   return run(context, data, length);
@@ -62,7 +17,7 @@ static NOT_INLINED int run_in_pieces(struct context *context, uint8_t *data, siz
 
 /* ---- Contexts ---- */
 
-static void *new_context(struct provider *provider, const struct cipher *cipher) {
+void *new_context(struct provider *provider, const struct cipher *cipher) {
   struct context *context = new_memory(provider, sizeof *context);
   if (context == NULL) return NULL;
   context->provider = provider;
@@ -71,12 +26,12 @@ static void *new_context(struct provider *provider, const struct cipher *cipher)
   return context;
 }
 
-static void free_context(void *given) {
+void free_context(void *given) {
   struct context *context = given;
   if (context != NULL) wipe_and_free(context->provider, context, sizeof *context);
 }
 
-static void *copy_context(void *given) {
+void *copy_context(void *given) {
   const struct context *context = given;
   struct context *other = new_memory(context->provider, sizeof *other);
   if (other != NULL) *other = *context;
@@ -87,7 +42,7 @@ static void *copy_context(void *given) {
 
 #define COUNT(LIST) (sizeof(LIST) / sizeof *(LIST))
 
-static const OSSL_PARAM *gettable_params(void *provider) {
+const OSSL_PARAM *gettable_params(void *provider) {
   static const OSSL_PARAM known[] = {OSSL_PARAM_uint(OSSL_CIPHER_PARAM_MODE, NULL),
                                      OSSL_PARAM_size_t(OSSL_CIPHER_PARAM_KEYLEN, NULL),
                                      OSSL_PARAM_size_t(OSSL_CIPHER_PARAM_IVLEN, NULL),
@@ -102,20 +57,20 @@ static const OSSL_PARAM *gettable_params(void *provider) {
   return known;
 }
 
-static int get_params(const struct cipher *cipher, OSSL_PARAM params[]) {
+int get_params_of(const struct cipher *cipher, OSSL_PARAM params[]) {
   const struct number numbers[] = {{OSSL_CIPHER_PARAM_MODE, cipher->mode},
                                    {OSSL_CIPHER_PARAM_KEYLEN, cipher->key_length},
                                    {OSSL_CIPHER_PARAM_IVLEN, cipher->vector_length},
-                                   {OSSL_CIPHER_PARAM_BLOCK_SIZE, BLOCK},
+                                   {OSSL_CIPHER_PARAM_BLOCK_SIZE, cipher->block_size},
                                    {OSSL_CIPHER_PARAM_AEAD, 0},
-                                   {OSSL_CIPHER_PARAM_CUSTOM_IV, 0},
+                                   {OSSL_CIPHER_PARAM_CUSTOM_IV, cipher->has_own_vector},
                                    {OSSL_CIPHER_PARAM_CTS, 0},
                                    {OSSL_CIPHER_PARAM_TLS1_MULTIBLOCK, 0},
                                    {OSSL_CIPHER_PARAM_HAS_RAND_KEY, 1}};
   return put_numbers(params, numbers, COUNT(numbers));
 }
 
-static const OSSL_PARAM *gettable_ctx_params(void *context, void *provider) {
+const OSSL_PARAM *gettable_ctx_params(void *context, void *provider) {
   static const OSSL_PARAM known[] = {OSSL_PARAM_size_t(OSSL_CIPHER_PARAM_KEYLEN, NULL),
                                      OSSL_PARAM_size_t(OSSL_CIPHER_PARAM_IVLEN, NULL),
                                      OSSL_PARAM_uint(OSSL_CIPHER_PARAM_PADDING, NULL),
@@ -142,7 +97,7 @@ static bool put_random_key(OSSL_PARAM *param, size_t length) {
   return true;
 }
 
-static int get_ctx_params(void *given, OSSL_PARAM params[]) {
+int get_ctx_params(void *given, OSSL_PARAM params[]) {
   const struct context *context = given;
   const struct cipher *cipher = context->cipher;
   const struct number numbers[] = {{OSSL_CIPHER_PARAM_KEYLEN, cipher->key_length},
@@ -163,9 +118,10 @@ static int get_ctx_params(void *given, OSSL_PARAM params[]) {
   return 1;
 }
 
-static const OSSL_PARAM *settable_ctx_params(void *context, void *provider) {
+const OSSL_PARAM *settable_ctx_params(void *context, void *provider) {
   static const OSSL_PARAM known[] = {OSSL_PARAM_uint(OSSL_CIPHER_PARAM_PADDING, NULL),
                                      OSSL_PARAM_uint(OSSL_CIPHER_PARAM_NUM, NULL),
+                                     OSSL_PARAM_uint(OSSL_CIPHER_PARAM_USE_BITS, NULL),
                                      OSSL_PARAM_uint(OSSL_CIPHER_PARAM_TLS_VERSION, NULL), OSSL_PARAM_END};
   (void)context;
   (void)provider;
@@ -173,16 +129,19 @@ static const OSSL_PARAM *settable_ctx_params(void *context, void *provider) {
 }
 
 /* A record of TLS wants its padding and its MAC taken off in here, in constant time. That is refused, and not done badly. */
-static int set_ctx_params(void *given, const OSSL_PARAM params[]) {
+int set_ctx_params(void *given, const OSSL_PARAM params[]) {
   struct context *context = given;
   const struct provider *provider = context->provider;
   for (const OSSL_PARAM *param = params; param != NULL && param->key != NULL; param++) {
     const bool is_padding = is_named(param, OSSL_CIPHER_PARAM_PADDING), is_number = is_named(param, OSSL_CIPHER_PARAM_NUM);
+    const bool is_of_bits = is_named(param, OSSL_CIPHER_PARAM_USE_BITS);
     uint32_t value;
-    if (!is_padding && !is_number && !is_named(param, OSSL_CIPHER_PARAM_TLS_VERSION)) continue;
+    if (!is_padding && !is_number && !is_of_bits && !is_named(param, OSSL_CIPHER_PARAM_TLS_VERSION)) continue;
     if (!take_number(param, &value)) return REFUSE(provider, PROV_R_FAILED_TO_GET_PARAMETER, NULL);
     if (is_padding)
       context->pads = value != 0;
+    else if (is_of_bits)
+      context->counts_bits = value != 0;
     else if (is_number && value >= BLOCK) /* as newer versions of OpenSSL have it */
       return REFUSE(provider, PROV_R_FAILED_TO_GET_PARAMETER, NULL);
     else if (is_number)
@@ -220,26 +179,23 @@ static int begin(struct context *context, const uint8_t *key, size_t key_length,
   return (key == NULL || set_key(context, key, key_length)) && set_ctx_params(context, params);
 }
 
-static int encrypt_init(void *context, const unsigned char *key, size_t key_length, const unsigned char *vector,
+int encrypt_init(void *context, const unsigned char *key, size_t key_length, const unsigned char *vector,
                         size_t vector_length, const OSSL_PARAM params[]) {
   return begin(context, key, key_length, vector, vector_length, params, true);
 }
 
-static int decrypt_init(void *context, const unsigned char *key, size_t key_length, const unsigned char *vector,
+int decrypt_init(void *context, const unsigned char *key, size_t key_length, const unsigned char *vector,
                         size_t vector_length, const OSSL_PARAM params[]) {
   return begin(context, key, key_length, vector, vector_length, params, false);
 }
 
-/* ---- The message ---- */
+/* ---- The message in blocks ---- */
 
 /* How many of `total` bytes go through the cipher now: all whole blocks, but for a last one that may be padding. */
 static size_t ready_of(const struct context *context, size_t total) {
   const bool keeps_block = context->pads && !context->encrypts && total != 0 && total % BLOCK == 0;
   return total - (keeps_block ? BLOCK : total % BLOCK);
 }
-
-/* A negative length of EVP comes as one that no buffer has. */
-static bool is_length(size_t length) { return length <= SIZE_MAX / 2; }
 
 /* Input that was moved to its place in the output. */
 static int run_moved(struct context *context, unsigned char *output, size_t length) {
@@ -261,8 +217,8 @@ static NOT_INLINED int run_with_held(struct context *context, unsigned char *out
   return run_moved(context, output, ready);
 }
 
-static int update(void *given, unsigned char *output, size_t *output_length, size_t size, const unsigned char *input,
-                  size_t length) {
+int block_update(void *given, unsigned char *output, size_t *output_length, size_t size, const unsigned char *input,
+                 size_t length) {
   struct context *context = given;
   const size_t held = context->held_length, total = held + length, ready = ready_of(context, total);
   if (!context->has_key) return REFUSE(context->provider, PROV_R_NO_KEY_SET, NULL);
@@ -312,7 +268,7 @@ static int final_decryption(struct context *context, unsigned char *output, size
   return give_last(context, output, output_length, size, length);
 }
 
-static int final(void *given, unsigned char *output, size_t *output_length, size_t size) {
+int block_final(void *given, unsigned char *output, size_t *output_length, size_t size) {
   struct context *context = given;
   if (!context->has_key) return REFUSE(context->provider, PROV_R_NO_KEY_SET, NULL);
   if (context->encrypts) return final_encryption(context, output, output_length, size);
@@ -320,8 +276,8 @@ static int final(void *given, unsigned char *output, size_t *output_length, size
 }
 
 /* EVP_Cipher: whole blocks, beside what is held. */
-static int run_alone(void *given, unsigned char *output, size_t *output_length, size_t size, const unsigned char *input,
-                     size_t length) {
+int block_at_once(void *given, unsigned char *output, size_t *output_length, size_t size, const unsigned char *input,
+                  size_t length) {
   struct context *context = given;
   if (!context->has_key) return REFUSE(context->provider, PROV_R_NO_KEY_SET, NULL);
   if (size < length) return REFUSE(context->provider, PROV_R_OUTPUT_BUFFER_TOO_SMALL, NULL);
@@ -331,50 +287,49 @@ static int run_alone(void *given, unsigned char *output, size_t *output_length, 
   return run_moved(context, output, length);
 }
 
-/* ---- The list. `newctx` and `get_params` are not told which cipher is meant, so that each has its own ---- */
+/* ---- The message in bytes, or in bits, which begin a byte: of others in the last byte the output keeps its own ---- */
 
-#define DEFINE_CIPHER(NAME, MODE, mode, KEY_LENGTH, VECTOR_LENGTH)                                                     \
-  static const struct cipher NAME##_##mode##_cipher = {EVP_CIPH_##MODE##_MODE, KEY_LENGTH, VECTOR_LENGTH, NAME##_init, \
-                                                       NAME##_##mode};                                                 \
-  static void *new_##NAME##_##mode(void *provider) { return new_context(provider, &NAME##_##mode##_cipher); }          \
-  static int get_params_of_##NAME##_##mode(OSSL_PARAM params[]) { return get_params(&NAME##_##mode##_cipher, params); } \
-  static const OSSL_DISPATCH NAME##_##mode##_calls[] = {                                                               \
-      CALL(OSSL_FUNC_CIPHER_NEWCTX, new_##NAME##_##mode),                                                              \
-      CALL(OSSL_FUNC_CIPHER_FREECTX, free_context),                                                                    \
-      CALL(OSSL_FUNC_CIPHER_DUPCTX, copy_context),                                                                     \
-      CALL(OSSL_FUNC_CIPHER_ENCRYPT_INIT, encrypt_init),                                                               \
-      CALL(OSSL_FUNC_CIPHER_DECRYPT_INIT, decrypt_init),                                                               \
-      CALL(OSSL_FUNC_CIPHER_UPDATE, update),                                                                           \
-      CALL(OSSL_FUNC_CIPHER_FINAL, final),                                                                             \
-      CALL(OSSL_FUNC_CIPHER_CIPHER, run_alone),                                                                        \
-      CALL(OSSL_FUNC_CIPHER_GET_PARAMS, get_params_of_##NAME##_##mode),                                                \
-      CALL(OSSL_FUNC_CIPHER_GETTABLE_PARAMS, gettable_params),                                                         \
-      CALL(OSSL_FUNC_CIPHER_GET_CTX_PARAMS, get_ctx_params),                                                           \
-      CALL(OSSL_FUNC_CIPHER_GETTABLE_CTX_PARAMS, gettable_ctx_params),                                                 \
-      CALL(OSSL_FUNC_CIPHER_SET_CTX_PARAMS, set_ctx_params),                                                           \
-      CALL(OSSL_FUNC_CIPHER_SETTABLE_CTX_PARAMS, settable_ctx_params),                                                 \
-      NO_MORE_CALLS};
+static bool counts_bits(const struct context *context) { return context->cipher->takes_bits && context->counts_bits; }
 
-DEFINE_CIPHER(tdes_ede3, CBC, cbc, CUKVASHE_TDES_EDE3_KEY_SIZE, BLOCK)
-DEFINE_CIPHER(tdes_ede3, ECB, ecb, CUKVASHE_TDES_EDE3_KEY_SIZE, 0)
-DEFINE_CIPHER(tdes_ede2, CBC, cbc, CUKVASHE_TDES_EDE2_KEY_SIZE, BLOCK)
-DEFINE_CIPHER(tdes_ede2, ECB, ecb, CUKVASHE_TDES_EDE2_KEY_SIZE, 0)
-DEFINE_CIPHER(des, CBC, cbc, CUKVASHE_DES_KEY_SIZE, BLOCK)
-DEFINE_CIPHER(des, ECB, ecb, CUKVASHE_DES_KEY_SIZE, 0)
+static int run_by_bits(struct context *context, unsigned char *output, const unsigned char *input, size_t bits) {
+  const size_t whole = bits / 8, part = bits % 8;
+  uint8_t last = 0;
+  if (part != 0) {
+    const uint8_t behind = (uint8_t)(0xff >> part);
+    last = (uint8_t)((input[whole] & ~behind) | (output[whole] & behind));
+  }
+  copy(output, input, whole);
+  if (!run_moved(context, output, whole)) return 0;
+  if (part == 0) return 1;
+  output[whole] = last;
+  if (run_bits(context, output + whole, part) == CUKVASHE_OK) return 1;
+  return REFUSE(context->provider, PROV_R_CIPHER_OPERATION_FAILED, NULL);
+}
 
-/* The names are OpenSSL's, all of each: the core refuses a list that joins names of two algorithms. */
-#define TRIPLE_CIPHERS                                                                                            \
-  {"DES-EDE3-CBC:DES3:1.2.840.113549.3.7", PROPERTIES, tdes_ede3_cbc_calls, "triple DES of three keys, CBC"},     \
-      {"DES-EDE3-ECB:DES-EDE3", PROPERTIES, tdes_ede3_ecb_calls, "triple DES of three keys, ECB"},                \
-      {"DES-EDE-CBC", PROPERTIES, tdes_ede2_cbc_calls, "triple DES of two keys, CBC"},                            \
-      {"DES-EDE-ECB:DES-EDE:1.3.14.3.2.17", PROPERTIES, tdes_ede2_ecb_calls, "triple DES of two keys, ECB"}
+/* EVP_Cipher does the same as an update. */
+int stream_at_once(void *given, unsigned char *output, size_t *output_length, size_t size, const unsigned char *input,
+                   size_t length) {
+  struct context *context = given;
+  if (!context->has_key) return REFUSE(context->provider, PROV_R_NO_KEY_SET, NULL);
+  if (!is_length(length)) return REFUSE(context->provider, PROV_R_BAD_LENGTH, NULL);
+  if (size < length) return REFUSE(context->provider, PROV_R_OUTPUT_BUFFER_TOO_SMALL, NULL);
+  *output_length = length;
+  if (length == 0) return 1;
+  if (counts_bits(context)) return run_by_bits(context, output, input, length);
+  copy(output, input, length);
+  return run_moved(context, output, length);
+}
 
-static const OSSL_ALGORITHM triple_ciphers[] = {TRIPLE_CIPHERS, {NULL, NULL, NULL, NULL}};
-static const OSSL_ALGORITHM all_ciphers[] = {TRIPLE_CIPHERS,
-                                             {"DES-CBC:DES:1.3.14.3.2.7", PROPERTIES, des_cbc_calls, "DES, CBC"},
-                                             {"DES-ECB:1.3.14.3.2.6", PROPERTIES, des_ecb_calls, "DES, ECB"},
-                                             {NULL, NULL, NULL, NULL}};
+int stream_update(void *given, unsigned char *output, size_t *output_length, size_t size, const unsigned char *input,
+                  size_t length) {
+  return stream_at_once(given, output, output_length, size, input, length);
+}
 
-const OSSL_ALGORITHM *ciphers_of(const struct provider *provider) {
-  return provider->single_des ? all_ciphers : triple_ciphers;
+int stream_final(void *given, unsigned char *output, size_t *output_length, size_t size) {
+  const struct context *context = given;
+  (void)output;
+  (void)size;
+  if (!context->has_key) return REFUSE(context->provider, PROV_R_NO_KEY_SET, NULL);
+  *output_length = 0;
+  return 1;
 }

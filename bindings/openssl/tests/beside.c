@@ -1,5 +1,5 @@
 /*
- * The six ciphers beside OpenSSL's own: the same calls of EVP to both, and the same statuses, errors, bytes and parameters.
+ * The ciphers beside OpenSSL's own: the same calls of EVP to both, and the same statuses, errors, bytes and parameters.
  *
  *   beside FOLDER CONFIGURATION SEED CALLS    so many random calls, in messages of up to 24, and what stands below
  */
@@ -9,7 +9,8 @@ enum { ROOM = 8192 };
 
 static OSSL_LIB_CTX *libraries[2];
 static size_t calls, refusals;
-static bool refuses_large_numbers; /* whether OpenSSL does, in its parameter "num", as newer versions */
+/* Whether OpenSSL refuses in its parameter "num" what is no place in a block, and in streams all but 0, as newer versions. */
+static bool refuses_large_numbers, refuses_stream_numbers;
 
 /* A cipher of both, a context of both, and what came of one call to each. */
 struct pair {
@@ -18,7 +19,7 @@ struct pair {
   int status[2], length[2];
   unsigned long error[2];
   int key_length, iv_length;
-  bool has_begun, has_ended;
+  bool is_stream, has_begun, has_ended;
 };
 
 static uint8_t input[2][ROOM], output[2][2 * ROOM];
@@ -34,6 +35,7 @@ static void make(struct pair *pair, const char *name) {
   }
   pair->key_length = EVP_CIPHER_get_key_length(pair->cipher[THEIRS]);
   pair->iv_length = EVP_CIPHER_get_iv_length(pair->cipher[THEIRS]);
+  pair->is_stream = EVP_CIPHER_get_block_size(pair->cipher[THEIRS]) == 1;
 }
 
 static void drop(struct pair *pair) {
@@ -62,11 +64,11 @@ static bool agree(const struct pair *pair) {
 
 /* ---- What a cipher says of itself ---- */
 
-/* Each parameter of one list is in the other, but for those of other modes and of records of TLS. */
+/* Each parameter of one list is in the other, but for those of records of TLS. */
 static void are_all_in(const OSSL_PARAM *some, const OSSL_PARAM *others) {
   for (; some->key != NULL; some++) {
     const OSSL_PARAM *other = OSSL_PARAM_locate_const(others, some->key);
-    if (strcmp(some->key, "use-bits") == 0 || strncmp(some->key, "tls-", 4) == 0) continue;
+    if (strncmp(some->key, "tls-", 4) == 0) continue;
     CHECK(other != NULL && other->data_type == some->data_type);
   }
 }
@@ -107,6 +109,12 @@ static size_t some_length(void) {
   }
 }
 
+/* Of streams of short segments, which take long, a part of it. */
+static size_t some_length_for(const struct pair *pair) {
+  const char *name = EVP_CIPHER_get0_name(pair->cipher[THEIRS]);
+  return once_in(2) ? some_length() / blocks_of_eight(name) : some_length() % (800 / blocks_of_eight(name));
+}
+
 /* Now and then without a cipher, a key or a vector, or in the direction of before, which at first are faults. */
 static void begin(struct pair *pair) {
   uint8_t key[24], vector[8];
@@ -124,7 +132,7 @@ static void begin(struct pair *pair) {
 
 /* From a buffer to another, at any place; what stands around the output stays. */
 static void update_apart(struct pair *pair) {
-  const size_t from = below(16), to = below(16), length = some_length();
+  const size_t from = below(16), to = below(16), length = some_length_for(pair);
   random_bytes(input[OURS], from + length);
   memset(output, 7, sizeof output);
   EACH(who) ASK(who, EVP_CipherUpdate(pair->context[who], output[who] + to, &pair->length[who], input[OURS] + from, (int)length));
@@ -132,11 +140,15 @@ static void update_apart(struct pair *pair) {
   CHECK(memcmp(output[OURS], output[THEIRS], sizeof output[OURS]) == 0);
 }
 
-/* Ours over its own input, displaced by up to 40 bytes or not at all; theirs from a buffer to another, since it can't. */
+/*
+ * Ours over its own input, displaced by up to 40 bytes or not at all; theirs from a buffer to another, since it can't, where
+ * there is the same before, since by bits a part of it may stay.
+ */
 static void update_over(struct pair *pair) {
-  const size_t length = some_length(), from = 40 + (once_in(2) ? 0 : below(81)), to = from == 40 ? 40 : 80;
+  const size_t length = some_length_for(pair), from = 40 + (once_in(2) ? 0 : below(81)), to = from == 40 ? 40 : 80;
   random_bytes(output[OURS], sizeof output[OURS]);
   memcpy(input[THEIRS], output[OURS] + from, length);
+  memcpy(output[THEIRS], output[OURS] + to, length);
   ASK(OURS, EVP_CipherUpdate(pair->context[OURS], output[OURS] + to, &pair->length[OURS], output[OURS] + from, (int)length));
   ASK(THEIRS, EVP_CipherUpdate(pair->context[THEIRS], output[THEIRS], &pair->length[THEIRS], input[THEIRS], (int)length));
   if (!agree(pair)) return;
@@ -152,9 +164,9 @@ static void update_by_nothing(struct pair *pair) {
   if (agree(pair)) CHECK(pair->length[OURS] == pair->length[THEIRS]);
 }
 
-/* EVP_Cipher, over whole blocks, in place, which leaves what is held. Its status is a length. */
+/* EVP_Cipher, over whole blocks but for streams, in place, which leaves what is held. Its status is a length. */
 static void run_alone(struct pair *pair) {
-  const size_t length = 8 * below(300);
+  const size_t length = pair->is_stream ? some_length_for(pair) : 8 * below(300);
   random_bytes(output[OURS], length);
   memcpy(output[THEIRS], output[OURS], length);
   EACH(who) ASK(who, EVP_Cipher(pair->context[who], output[who], output[who], (unsigned)length));
@@ -182,25 +194,37 @@ static void set_padding(struct pair *pair) {
   agree(pair);
 }
 
-/* Ours does as the newer versions: a number as large as a block is refused. */
-static void learn_of_numbers(void) {
+/* Ours does as the newer versions: a number as large as a block is refused. In streams others are not. */
+static bool refuses_number(const char *name, unsigned number) {
   struct pair made, *pair = &made;
-  unsigned number = 8;
   OSSL_PARAM params[] = {OSSL_PARAM_construct_uint(OSSL_CIPHER_PARAM_NUM, &number), OSSL_PARAM_construct_end()};
-  make(pair, "DES-EDE3-CBC");
+  make(pair, name);
   EACH(who) CHECK(EVP_CipherInit_ex2(pair->context[who], pair->cipher[who], NULL, NULL, 1, NULL) == 1);
   EACH(who) ASK(who, EVP_CIPHER_CTX_set_params(pair->context[who], params));
-  CHECK(pair->status[OURS] == 0);
-  refuses_large_numbers = pair->status[THEIRS] == 0;
+  CHECK(pair->status[OURS] == (number < 8));
   drop(pair);
+  return pair->status[THEIRS] == 0;
+}
+
+static void learn_of_numbers(void) {
+  refuses_large_numbers = refuses_number("DES-EDE3-CBC", 8);
+  CHECK(refuses_number("DES-EDE3-CFB", 8) == refuses_large_numbers);
+  refuses_stream_numbers = refuses_number("DES-EDE3-CFB", 1);
+}
+
+/* A number that both take, or refuse. */
+static uint64_t some_number(const struct pair *pair) {
+  if (pair->is_stream && refuses_stream_numbers) return once_in(2) ? 0 : 8 + below(100);
+  if (!refuses_large_numbers) return below(8);
+  return once_in(4) ? random_word() : below(9);
 }
 
 /* A parameter that a cipher takes, as a number of each width and sign, one that fits none of them, and one that is unknown. */
 static void set_params(struct pair *pair) {
-  static const char *const keys[] = {OSSL_CIPHER_PARAM_PADDING, OSSL_CIPHER_PARAM_NUM, "unknown"};
+  static const char *const keys[] = {OSSL_CIPHER_PARAM_PADDING, OSSL_CIPHER_PARAM_NUM, OSSL_CIPHER_PARAM_USE_BITS, "unknown"};
   const char *key = keys[below(COUNT(keys))];
-  const bool is_bounded = strcmp(key, OSSL_CIPHER_PARAM_NUM) == 0 && !refuses_large_numbers;
-  const uint64_t bits = is_bounded ? below(8) : once_in(4) ? random_word() : below(9);
+  const bool is_number = strcmp(key, OSSL_CIPHER_PARAM_NUM) == 0;
+  const uint64_t bits = is_number ? some_number(pair) : once_in(4) ? random_word() : below(9);
   uint64_t wide = bits;
   int64_t wide_int = (int64_t)bits;
   uint32_t narrow = (uint32_t)bits;

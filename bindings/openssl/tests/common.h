@@ -50,12 +50,23 @@ static inline void random_bytes(uint8_t *bytes, size_t count) {
   for (size_t i = 0; i < count; i++) bytes[i] = (uint8_t)random_word();
 }
 
-/* The six ciphers, those of single DES last, and all of OpenSSL's names for them. */
-static const char *const ciphers[] = {"DES-EDE3-CBC", "DES-EDE3-ECB", "DES-EDE-CBC", "DES-EDE-ECB", "DES-CBC", "DES-ECB"};
-static const char *const names[] = {"DES-EDE3-CBC", "DES3",         "1.2.840.113549.3.7", "DES-EDE3-ECB", "DES-EDE3",
-                                    "DES-EDE-CBC",  "DES-EDE-ECB",  "DES-EDE",            "1.3.14.3.2.17", "DES-CBC",
-                                    "DES",          "1.3.14.3.2.7", "DES-ECB",            "1.3.14.3.2.6"};
-enum { CIPHERS = COUNT(ciphers), NAMES = COUNT(names) };
+/* The ciphers but key wrap, those of OpenSSL's legacy provider last, and all of OpenSSL's names for each. */
+static const char *const ciphers[] = {"DES-EDE3-CBC",  "DES-EDE3-ECB",  "DES-EDE3-OFB", "DES-EDE3-CFB", "DES-EDE3-CFB8",
+                                      "DES-EDE3-CFB1", "DES-EDE-CBC",   "DES-EDE-ECB",  "DES-EDE-OFB",  "DES-EDE-CFB",
+                                      "DES-CBC",       "DES-ECB",       "DES-OFB",      "DES-CFB",      "DES-CFB8",
+                                      "DES-CFB1",      "DESX-CBC"};
+static const char *const names[] = {
+    "DES-EDE3-CBC", "DES3",          "1.2.840.113549.3.7", "DES-EDE3-ECB", "DES-EDE3",      "DES-EDE3-OFB", "DES-EDE3-CFB",
+    "DES-EDE3-CFB8", "DES-EDE3-CFB1", "DES-EDE-CBC",        "DES-EDE-ECB",  "DES-EDE",       "1.3.14.3.2.17", "DES-EDE-OFB",
+    "DES-EDE-CFB",  "DES-CBC",       "DES",                "1.3.14.3.2.7", "DES-ECB",       "1.3.14.3.2.6", "DES-OFB",
+    "1.3.14.3.2.8", "DES-CFB",       "1.3.14.3.2.9",       "DES-CFB8",     "DES-CFB1",      "DESX-CBC",     "DESX"};
+static const char *const wraps[] = {"DES3-WRAP", "id-smime-alg-CMS3DESwrap", "1.2.840.113549.1.9.16.3.6"};
+enum { CIPHERS = COUNT(ciphers), NAMES = COUNT(names), WRAPS = COUNT(wraps) };
+
+/* How many times a cipher encrypts a block for 8 bytes of a message. */
+static inline size_t blocks_of_eight(const char *name) {
+  return strstr(name, "CFB1") != NULL ? 64 : strstr(name, "CFB8") != NULL ? 8 : 1;
+}
 
 #ifdef BUILTIN
 OSSL_provider_init_fn OSSL_provider_init;
