@@ -373,6 +373,97 @@ static void compare_paddings(void) {
   drop(&pair);
 }
 
+/* ---- Key wrap, whose answers are random: what one wraps the other unwraps ---- */
+
+enum { LONGEST_KEY = 256 };
+
+static void begin_wrap(struct pair *pair, const uint8_t *key, int encrypts) {
+  EACH(who) ASK(who, EVP_CipherInit_ex2(pair->context[who], pair->cipher[who], key, NULL, encrypts, NULL));
+  CHECK(agree(pair));
+}
+
+/* Both unwrap the same, into an output of zeros; ours over its input too, where it has the same answer. */
+static bool unwrap(struct pair *pair, const uint8_t *wrapped, size_t length) {
+  memset(output, 0, sizeof output);
+  EACH(who) {
+    pair->length[who] = 77;
+    ASK(who, EVP_CipherUpdate(pair->context[who], output[who], &pair->length[who], wrapped, (int)length));
+  }
+  const bool is_done = agree(pair);
+  CHECK(pair->length[OURS] == pair->length[THEIRS] && memcmp(output[OURS], output[THEIRS], sizeof output[OURS]) == 0);
+  const size_t to = below(40), from = below(40);
+  memcpy(input[OURS] + from, wrapped, length);
+  ASK(OURS, EVP_CipherUpdate(pair->context[OURS], input[OURS] + to, &pair->length[OURS], input[OURS] + from, (int)length));
+  CHECK((pair->status[OURS] == 1) == is_done);
+  if (is_done) CHECK(memcmp(input[OURS] + to, output[THEIRS], (size_t)pair->length[THEIRS]) == 0);
+  return is_done;
+}
+
+/* RFC 3217, 3.4. */
+static void unwraps_as_published(struct pair *pair) {
+  static const uint8_t wrapping[25] = "\x25\x5e\x0d\x1c\x07\xb6\x46\xdf\xb3\x13\x4c\xc8\x43\xba\x8a\xa7\x1f\x02\x5b\x7c\x08\x38\x25\x1f";
+  static const uint8_t key[25] = "\x29\x23\xbf\x85\xe0\x6d\xd6\xae\x52\x91\x49\xf1\xf1\xba\xe9\xea\xb3\xa7\xda\x3d\x86\x0d\x3e\x98";
+  static const uint8_t wrapped[41] = "\x69\x01\x07\x61\x8e\xf0\x92\xb3\xb4\x8c\xa1\x79\x6b\x23\x4a\xe9\xfa\x33\xeb\xb4"
+                                     "\x15\x96\x04\x03\x7d\xb5\xd6\xa8\x4e\xb3\xaa\xc2\x76\x8c\x63\x27\x75\xa4\x67\xd4";
+  begin_wrap(pair, wrapping, 0);
+  CHECK(unwrap(pair, wrapped, 40) && pair->length[OURS] == 24 && memcmp(output[OURS], key, 24) == 0);
+}
+
+static void compare_wraps(struct pair *pair) {
+  uint8_t wrapping[24], key[LONGEST_KEY], wrapped[2][LONGEST_KEY + 16];
+  const size_t length = 8 * (1 + below(LONGEST_KEY / 8));
+  random_bytes(wrapping, sizeof wrapping);
+  random_bytes(key, sizeof key);
+  begin_wrap(pair, wrapping, 1);
+  EACH(who) ASK(who, EVP_CipherUpdate(pair->context[who], wrapped[who], &pair->length[who], key, (int)length));
+  CHECK(agree(pair) && pair->length[OURS] == (int)length + 16 && pair->length[THEIRS] == (int)length + 16);
+  CHECK(memcmp(wrapped[OURS], wrapped[THEIRS], length + 16) != 0);
+  end(pair);
+  begin_wrap(pair, wrapping, 0);
+  EACH(who) CHECK(unwrap(pair, wrapped[who], length + 16) && memcmp(output[OURS], key, length) == 0);
+  wrapped[OURS][below(length + 16)] ^= (uint8_t)(1 + below(255));
+  CHECK(!unwrap(pair, wrapped[OURS], length + 16));
+  CHECK(!unwrap(pair, wrapped[THEIRS], 1 + below(length + 15)));
+  end(pair);
+}
+
+/* By EVP_Cipher, without an output, which tells the length, and by a copy, which OpenSSL's own does not make. */
+static void compare_other_wraps(struct pair *pair) {
+  static const uint8_t wrapping[24] = "a key of 24 bytes, any", key[25] = "keys of eight bytes each";
+  uint8_t wrapped[48];
+  EVP_CIPHER_CTX *copy = EVP_CIPHER_CTX_new();
+  for (int encrypts = 0; encrypts < 2; encrypts++) {
+    begin_wrap(pair, wrapping, encrypts);
+    for (int length = 1; length < 100; length++) {
+      EACH(who) ASK(who, EVP_Cipher(pair->context[who], NULL, input[OURS], (unsigned)length));
+      agree(pair);
+      EACH(who) ASK(who, EVP_CipherUpdate(pair->context[who], NULL, &pair->length[who], input[OURS], length));
+      agree(pair);
+      CHECK(pair->length[OURS] == pair->length[THEIRS]);
+    }
+    update_by_nothing(pair);
+  }
+  CHECK(EVP_CIPHER_CTX_copy(copy, pair->context[OURS]) == 1);
+  CHECK(EVP_Cipher(copy, wrapped, key, 24) == 40);
+  EVP_CIPHER_CTX_free(copy);
+  begin_wrap(pair, wrapping, 0);
+  CHECK(unwrap(pair, wrapped, 40) && memcmp(output[OURS], key, 24) == 0);
+  EACH(who) ASK(who, EVP_Cipher(pair->context[who], output[who], wrapped, 40));
+  CHECK(agree(pair) && memcmp(output[OURS], key, 24) == 0);
+  make_keys(pair);
+  get_params(pair);
+}
+
+static void compare_all_wraps(size_t times) {
+  struct pair pair;
+  for (size_t i = 0; i < WRAPS; i++) compare_ciphers(wraps[i]);
+  make(&pair, wraps[0]);
+  unwraps_as_published(&pair);
+  while (times-- != 0) compare_wraps(&pair);
+  compare_other_wraps(&pair);
+  drop(&pair);
+}
+
 int main(int count, char **words) {
   CHECK(count == 5);
   libraries[OURS] = ours_by(words[1], words[2]);
@@ -384,6 +475,7 @@ int main(int count, char **words) {
   while (calls < wanted) random_calls();
   const size_t random = calls, refused = refusals;
   if (wanted >= 1000) compare_paddings();
+  compare_all_wraps(wanted / 100);
   drop_libraries(libraries[OURS], libraries[THEIRS]);
   printf("beside OpenSSL %s: %zu calls from seed %llu, %zu of them refused alike\n", OpenSSL_version(OPENSSL_VERSION_STRING),
          random, (unsigned long long)seed, refused);
