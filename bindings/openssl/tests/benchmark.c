@@ -57,7 +57,7 @@ struct row {
   double least[2];
 };
 
-enum { ROWS = 1000 };
+enum { ROWS = 2000 };
 
 static struct row rows[ROWS];
 static size_t count_of_rows;
@@ -82,7 +82,7 @@ static void add_rows(OSSL_LIB_CTX *const libraries[2]) {
   static const int lengths[] = {8, 16, 24, 32, 64, 120, 128, 136, 192, 256, 512, 1024, 1032, 2048, 2056, 8192, 65536, MOST};
   for (size_t number = 0; number < CIPHERS; number++)
     for (int encrypts = 0; encrypts < 2; encrypts++)
-      for (size_t i = 0; i < COUNT(lengths); i++) {
+      for (size_t i = 0; i < COUNT(lengths) && (size_t)lengths[i] * blocks_of_eight(ciphers[number]) <= MOST; i++) {
         add_row(libraries, ciphers[number], encrypts, lengths[i], update);
         if (lengths[i] <= 2048) add_row(libraries, ciphers[number], encrypts, lengths[i], message);
       }

@@ -5,6 +5,7 @@
  */
 #include "../internal.h"
 #include <openssl/err.h>
+#include <openssl/evp.h>
 #include <stdarg.h>
 #include <stdio.h>
 #include <stdlib.h>
@@ -121,6 +122,8 @@ static const OSSL_ALGORITHM *algorithms(int operation) {
   return list;
 }
 
+enum { TRIPLE = 11, ALL = 18 };
+
 static size_t count_of_ciphers(void) {
   size_t count = 0;
   for (const OSSL_ALGORITHM *cipher = algorithms(OSSL_OP_CIPHER); cipher->algorithm_names != NULL; cipher++) count++;
@@ -160,7 +163,7 @@ static void sets(bool is_no_tables, bool is_single_des, bool is_small_stack) {
   CHECK(load(whole_core) == 1);
   const struct provider *loaded = provider;
   CHECK(loaded->no_tables == is_no_tables && loaded->single_des == is_single_des && loaded->small_stack == is_small_stack);
-  CHECK(count_of_ciphers() == (is_single_des ? 6 : 4) && algorithms(OSSL_OP_DIGEST) == NULL);
+  CHECK(count_of_ciphers() == (is_single_des ? ALL : TRIPLE) && algorithms(OSSL_OP_DIGEST) == NULL);
   snprintf(expected, sizeof expected, "%s%s%s%s", CUKVASHE_VERSION, is_no_tables ? " no-tables" : "",
            is_single_des ? " single-des" : "", is_small_stack ? " small-stack" : "");
   CHECK(((OSSL_FUNC_provider_get_params_fn *)function_of(calls, OSSL_FUNC_PROVIDER_GET_PARAMS))(provider, params) == 1);
@@ -312,12 +315,15 @@ static OSSL_FUNC_cipher_final_fn *final;
 static OSSL_FUNC_cipher_cipher_fn *run_alone;
 static OSSL_FUNC_cipher_get_ctx_params_fn *get_ctx_params;
 static OSSL_FUNC_cipher_set_ctx_params_fn *set_ctx_params;
-static size_t key_length, vector_length;
+static size_t key_length, vector_length, block_size;
+static unsigned mode;
 
 static void take_cipher(const OSSL_ALGORITHM *cipher) {
   const OSSL_DISPATCH *list = cipher->implementation;
   OSSL_PARAM params[] = {OSSL_PARAM_size_t(OSSL_CIPHER_PARAM_KEYLEN, &key_length),
-                         OSSL_PARAM_size_t(OSSL_CIPHER_PARAM_IVLEN, &vector_length), OSSL_PARAM_END};
+                         OSSL_PARAM_size_t(OSSL_CIPHER_PARAM_IVLEN, &vector_length),
+                         OSSL_PARAM_size_t(OSSL_CIPHER_PARAM_BLOCK_SIZE, &block_size),
+                         OSSL_PARAM_uint(OSSL_CIPHER_PARAM_MODE, &mode), OSSL_PARAM_END};
   new_context = (OSSL_FUNC_cipher_newctx_fn *)function_of(list, OSSL_FUNC_CIPHER_NEWCTX);
   free_context = (OSSL_FUNC_cipher_freectx_fn *)function_of(list, OSSL_FUNC_CIPHER_FREECTX);
   copy_context = (OSSL_FUNC_cipher_dupctx_fn *)function_of(list, OSSL_FUNC_CIPHER_DUPCTX);
@@ -382,14 +388,59 @@ static void refuses_room(OSSL_FUNC_cipher_encrypt_init_fn *init) {
   }
 }
 
-static void refuses_other_arguments(void) {
+static void refuses_lengths(void) {
   static uint8_t block[16];
   void *context = begun(decrypt_init);
   size_t made = 77;
   for (size_t below = 1; below <= 64; below++)
     CHECK(update(context, block, &made, SIZE_MAX, block, (size_t)0 - below) == 0 && was_refused(PROV_R_BAD_LENGTH, ""));
-  for (size_t length = 1; length < 8; length++)
+  for (size_t length = 1; length < 8 && block_size != 1; length++)
     CHECK(run_alone(context, block, &made, 16, block, length) == 0 && was_refused(PROV_R_WRONG_FINAL_BLOCK_LENGTH, ""));
+  CHECK(made == 77);
+  free_context(context);
+}
+
+/* A stream gives as many bytes as it takes, and asks for no more room. */
+static void refuses_room_of_streams(void) {
+  static uint8_t input[64], output[64], wanted[64];
+  for (size_t length = 1; length <= 40; length++) {
+    void *context = begun(decrypt_init), *other = begun(decrypt_init);
+    size_t made = 0;
+    memset(wanted, 0, sizeof wanted);
+    memset(output, 0, sizeof output);
+    CHECK(run_alone(other, wanted, &made, length, input, length) == 1 && made == length);
+    for (size_t room = 0; room < length; room++) {
+      CHECK(update(context, output, &made, room, input, length) == 0 && was_refused(PROV_R_OUTPUT_BUFFER_TOO_SMALL, ""));
+      CHECK(run_alone(context, output, &made, room, input, length) == 0 && was_refused(PROV_R_OUTPUT_BUFFER_TOO_SMALL, ""));
+    }
+    CHECK(update(context, output, &made, length, input, length) == 1 && made == length);
+    CHECK(memcmp(output, wanted, sizeof output) == 0 && final(context, output, &made, 0) == 1 && made == 0);
+    free_context(context);
+    free_context(other);
+  }
+}
+
+static void refuses_to_wrap(void) {
+  static uint8_t input[40], output[40];
+  void *context = begun(encrypt_init);
+  size_t made;
+  for (size_t room = 0; room < 24; room++) {
+    CHECK(update(context, output, &made, room, input, 24) == 0 && was_refused(PROV_R_OUTPUT_BUFFER_TOO_SMALL, ""));
+    CHECK(run_alone(context, output, &made, room, input, 24) == 0 && was_refused(PROV_R_OUTPUT_BUFFER_TOO_SMALL, ""));
+  }
+  for (size_t below = 1; below <= 64; below++)
+    CHECK(update(context, output, &made, SIZE_MAX, input, (size_t)0 - below) == 0 &&
+          was_refused(PROV_R_CIPHER_OPERATION_FAILED, ""));
+  CHECK(run_alone(context, output, &made, 1 << 30, input, 1 << 30) == 0 && made == 0);
+  refused_request = requests;
+  CHECK(update(context, output, &made, 24, input, 24) == 0 && made == 0 && was_refused(PROV_R_CIPHER_OPERATION_FAILED, ""));
+  refused_request = SIZE_MAX;
+  CHECK(update(context, output, &made, 24, input, 24) == 1 && made == 40);
+  free_context(context);
+}
+
+static void refuses_records_of_tls(void) {
+  void *context = begun(decrypt_init);
   for (unsigned tls_version = 0; tls_version < 0x305; tls_version += 0x300) {
     OSSL_PARAM params[] = {OSSL_PARAM_uint(OSSL_CIPHER_PARAM_TLS_VERSION, &tls_version), OSSL_PARAM_END};
     if (tls_version == 0)
@@ -397,7 +448,6 @@ static void refuses_other_arguments(void) {
     else
       CHECK(set_ctx_params(context, params) == 0 && was_refused(PROV_R_NOT_SUPPORTED, "records of TLS"));
   }
-  CHECK(made == 77);
   free_context(context);
 }
 
@@ -471,9 +521,24 @@ static void leaves_no_text(void) {
 
 static void try_ciphers(void) {
   /* OpenSSL's names, which its own name map would add to if one were left out here. */
-  static const char *const names[] = {"DES-EDE3-CBC:DES3:1.2.840.113549.3.7", "DES-EDE3-ECB:DES-EDE3",
-                                      "DES-EDE-CBC",                          "DES-EDE-ECB:DES-EDE:1.3.14.3.2.17",
-                                      "DES-CBC:DES:1.3.14.3.2.7",             "DES-ECB:1.3.14.3.2.6"};
+  static const char *const names[ALL] = {"DES-EDE3-CBC:DES3:1.2.840.113549.3.7",
+                                         "DES-EDE3-ECB:DES-EDE3",
+                                         "DES-EDE3-OFB",
+                                         "DES-EDE3-CFB",
+                                         "DES-EDE3-CFB8",
+                                         "DES-EDE3-CFB1",
+                                         "DES3-WRAP:id-smime-alg-CMS3DESwrap:1.2.840.113549.1.9.16.3.6",
+                                         "DES-EDE-CBC",
+                                         "DES-EDE-ECB:DES-EDE:1.3.14.3.2.17",
+                                         "DES-EDE-OFB",
+                                         "DES-EDE-CFB",
+                                         "DES-CBC:DES:1.3.14.3.2.7",
+                                         "DES-ECB:1.3.14.3.2.6",
+                                         "DES-OFB:1.3.14.3.2.8",
+                                         "DES-CFB:1.3.14.3.2.9",
+                                         "DES-CFB8",
+                                         "DES-CFB1",
+                                         "DESX-CBC:DESX"};
   const char *const *name = names;
   single_des = "yes";
   CHECK(load(whole_core) == 1);
@@ -481,11 +546,18 @@ static void try_ciphers(void) {
   for (const OSSL_ALGORITHM *cipher = algorithms(OSSL_OP_CIPHER); cipher->algorithm_names != NULL; cipher++) {
     CHECK(strcmp(cipher->algorithm_names, *name++) == 0 && strcmp(cipher->property_definition, "provider=cukvashe") == 0);
     take_cipher(cipher);
-    leaves_no_text();
     refuses_lengths_of_keys_and_vectors();
-    refuses_room(encrypt_init);
-    refuses_room(decrypt_init);
-    refuses_other_arguments();
+    if (mode == EVP_CIPH_WRAP_MODE)
+      refuses_to_wrap();
+    else
+      refuses_lengths();
+    if (mode == EVP_CIPH_CBC_MODE || mode == EVP_CIPH_ECB_MODE) {
+      leaves_no_text();
+      refuses_room(encrypt_init);
+      refuses_room(decrypt_init);
+    }
+    if (block_size == 1) refuses_room_of_streams();
+    refuses_records_of_tls();
     puts_a_random_key_into_bytes_alone();
     lives_with_refused_memory();
   }
@@ -497,20 +569,23 @@ static void answers_alike_in_pieces(void) {
   enum { LENGTH = 8 * 1000 };
   static uint8_t input[LENGTH], output[2][LENGTH];
   for (size_t i = 0; i < LENGTH; i++) input[i] = (uint8_t)(i * i);
-  for (size_t number = 0; number < 6; number++)
+  single_des = "yes";
+  for (size_t number = 0; number < ALL; number++)
     for (int pieces = 0; pieces < 2; pieces++) {
       size_t made;
       void *context;
       small_stack = pieces ? "yes" : "no";
       CHECK(load(whole_core) == 1);
       take_cipher(&algorithms(OSSL_OP_CIPHER)[number]);
-      context = begun(decrypt_init);
-      CHECK(run_alone(context, output[pieces], &made, LENGTH, input, LENGTH) == 1 && made == LENGTH);
-      free_context(context);
+      if (mode != EVP_CIPH_WRAP_MODE) {
+        context = begun(decrypt_init);
+        CHECK(run_alone(context, output[pieces], &made, LENGTH, input, LENGTH) == 1 && made == LENGTH);
+        free_context(context);
+      }
       unload();
       if (pieces) CHECK(memcmp(output[0], output[1], LENGTH) == 0);
     }
-  small_stack = NULL;
+  single_des = small_stack = NULL;
 }
 
 /* ---- The MAC ---- */

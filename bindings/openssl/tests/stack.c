@@ -69,7 +69,7 @@ static size_t most_of_ciphers(OSSL_LIB_CTX *library, size_t longest) {
     EVP_CIPHER *cipher = EVP_CIPHER_fetch(library, ciphers[number], NULL);
     CHECK(cipher != NULL);
     for (size_t i = 0; i < 2 * COUNT(lengths) && lengths[i / 2] <= longest; i++) {
-      struct work work = {cipher, NULL, (int)(i % 2), lengths[i / 2]};
+      struct work work = {cipher, NULL, (int)(i % 2), lengths[i / 2] / blocks_of_eight(ciphers[number])};
       const size_t used = used_by(&work);
       if (used > most) most = used;
     }
