@@ -15,6 +15,11 @@ try:
 except ImportError:
     from cryptography.hazmat.primitives.ciphers.algorithms import TripleDES
 
+try:
+    from cryptography.hazmat.decrepit.ciphers.modes import CFB, CFB8, OFB
+except ImportError:
+    from cryptography.hazmat.primitives.ciphers.modes import CFB, CFB8, OFB
+
 
 def of_three_parts(key):
     """The package wants three: one part three times makes DES, and two make a key of two when the first comes again."""
@@ -63,6 +68,22 @@ def check_long_record():
         check(unpadder.update(opened) + unpadder.finalize() == text, "a long record")
 
 
+def check_feedback():
+    """FIPS 81, appendices C and D, by a key of equal parts: CFB of 64 and of 8 bits, and OFB."""
+    key, vector = of_three_parts(bytes.fromhex("0123456789abcdef")), bytes.fromhex("1234567890abcdef")
+    for mode, published in [
+        (CFB, "f3096249c7f46e51a69e839b1a92f78403467133898ea622"),
+        (CFB8, "f31fda07011462ee187f"),
+        (OFB, "f3096249c7f46e5135f24a242eeb3d3f3d6d5be3255af8c3"),
+    ]:
+        answer = bytes.fromhex(published)
+        text = b"Now is the time for all "[: len(answer)]
+        encryptor, decryptor = Cipher(TripleDES(key), mode(vector)).encryptor(), Cipher(TripleDES(key), mode(vector)).decryptor()
+        pieces = [text[at : at + 5] for at in range(0, len(text), 5)]
+        check(b"".join(map(encryptor.update, pieces)) + encryptor.finalize() == answer, f"{mode.name}, encryption")
+        check(decryptor.update(answer) + decryptor.finalize() == text, f"{mode.name}, decryption")
+
+
 def check_faults():
     """What the package refuses, and by its own words."""
     decryptor = Cipher(TripleDES(bytes(range(24))), modes.CBC(bytes(8))).decryptor()
@@ -95,6 +116,7 @@ def main():
         for got in answers(key, vector, answer, True):
             check(got == text, f"{name} {key.hex()}, decryption")
     check_long_record()
+    check_feedback()
     check_faults()
     check_cmac()
     print(f"Python's cryptography over {backend.openssl_version_text()}: {len(chains)} published answers, both ways")
