@@ -11,7 +11,7 @@ union keys {
   cukvashe_tdes_ede3 tdes_ede3;
   struct {
     cukvashe_des des;
-    uint8_t before[BLOCK], after[BLOCK];
+    uint8_t after[BLOCK], both[BLOCK]; /* what is added after DES, and its sum with what is added before */
   } desx;
   uint8_t wrapping[CUKVASHE_TDES_EDE3_KEY_SIZE];
 };
@@ -23,7 +23,7 @@ struct context;
  * vector. OFB and CFB have a mode of the library, and a call for whole segments, which leaves the vector.
  */
 struct cipher {
-  uint32_t mode, key_length, vector_length, block_size;
+  uint32_t evp_mode, key_length, vector_length, block_size;
   bool has_own_vector, takes_bits;
   size_t segment_bits;
   int (*init)(union keys *keys, const uint8_t *key, size_t length, bool no_tables);
@@ -57,7 +57,7 @@ extern OSSL_FUNC_cipher_dupctx_fn copy_context;
 extern OSSL_FUNC_cipher_encrypt_init_fn encrypt_init;
 extern OSSL_FUNC_cipher_decrypt_init_fn decrypt_init;
 extern OSSL_FUNC_cipher_update_fn block_update, stream_update, wrap_update;
-extern OSSL_FUNC_cipher_final_fn block_final, stream_final;
+extern OSSL_FUNC_cipher_final_fn block_final, stream_final, wrap_final;
 extern OSSL_FUNC_cipher_cipher_fn block_at_once, stream_at_once, wrap_at_once;
 extern OSSL_FUNC_cipher_gettable_params_fn gettable_params;
 extern OSSL_FUNC_cipher_get_ctx_params_fn get_ctx_params;

@@ -58,7 +58,7 @@ const OSSL_PARAM *gettable_params(void *provider) {
 }
 
 int get_params_of(const struct cipher *cipher, OSSL_PARAM params[]) {
-  const struct number numbers[] = {{OSSL_CIPHER_PARAM_MODE, cipher->mode},
+  const struct number numbers[] = {{OSSL_CIPHER_PARAM_MODE, cipher->evp_mode},
                                    {OSSL_CIPHER_PARAM_KEYLEN, cipher->key_length},
                                    {OSSL_CIPHER_PARAM_IVLEN, cipher->vector_length},
                                    {OSSL_CIPHER_PARAM_BLOCK_SIZE, cipher->block_size},

@@ -6,11 +6,11 @@ enum { OVERHEAD = 2 * BLOCK, MOST = 1 << 30 };
 
 static bool wrap(const struct context *context, const uint8_t *key, size_t length, uint8_t *output) {
   const uint8_t *wrapping = context->keys.wrapping;
+  const size_t room = length + OVERHEAD;
   uint8_t vector[BLOCK];
   size_t made;
-  return getrandom(vector, sizeof vector, 0) == sizeof vector &&
-         cukvashe_cms_wrap_key(wrapping, sizeof context->keys.wrapping, vector, key, length, output, length + OVERHEAD, &made) ==
-             CUKVASHE_OK;
+  if (getrandom(vector, sizeof vector, 0) != sizeof vector) return false;
+  return cukvashe_cms_wrap_key(wrapping, sizeof context->keys.wrapping, vector, key, length, output, room, &made) == CUKVASHE_OK;
 }
 
 /* Of what is refused, zeros stand in the output, as by OpenSSL's own. */
@@ -67,4 +67,8 @@ int wrap_update(void *given, unsigned char *output, size_t *output_length, size_
   if (!is_ready(context, size, length)) return 0;
   if (run(context, output, output_length, input, length)) return 1;
   return REFUSE(context->provider, PROV_R_CIPHER_OPERATION_FAILED, NULL);
+}
+
+int wrap_final(void *context, unsigned char *output, size_t *output_length, size_t size) {
+  return stream_final(context, output, output_length, size);
 }

@@ -2,22 +2,22 @@
 #include "cipher.h"
 #include <openssl/evp.h>
 
-#define DEFINE_RUNS(NAME)                                                                                             \
-  static int NAME##_init(union keys *keys, const uint8_t *key, size_t length, bool no_tables) {                       \
-    if (no_tables) return cukvashe_##NAME##_init_no_tables(&keys->NAME, key, length);                                 \
-    return cukvashe_##NAME##_init(&keys->NAME, key, length);                                                          \
-  }                                                                                                                   \
-  static int NAME##_ecb(struct context *context, uint8_t *data, size_t length) {                                      \
-    if (context->encrypts) return cukvashe_##NAME##_encrypt_ecb(&context->keys.NAME, data, length);                   \
-    return cukvashe_##NAME##_decrypt_ecb(&context->keys.NAME, data, length);                                          \
-  }                                                                                                                   \
-  static int NAME##_cbc(struct context *context, uint8_t *data, size_t length) {                                      \
-    if (context->encrypts) return cukvashe_##NAME##_encrypt_cbc(&context->keys.NAME, context->vector, data, length);  \
-    return cukvashe_##NAME##_decrypt_cbc(&context->keys.NAME, context->vector, data, length);                         \
-  }                                                                                                                   \
-  static int NAME##_mode(const struct context *context, bool encrypts, int mode, uint8_t *data, size_t length) {      \
-    if (encrypts) return cukvashe_##NAME##_encrypt_mode(&context->keys.NAME, mode, context->vector, data, length);    \
-    return cukvashe_##NAME##_decrypt_mode(&context->keys.NAME, mode, context->vector, data, length);                  \
+#define DEFINE_RUNS(NAME)                                                                                            \
+  static int NAME##_init(union keys *keys, const uint8_t *key, size_t length, bool no_tables) {                      \
+    if (no_tables) return cukvashe_##NAME##_init_no_tables(&keys->NAME, key, length);                                \
+    return cukvashe_##NAME##_init(&keys->NAME, key, length);                                                         \
+  }                                                                                                                  \
+  static int NAME##_ecb(struct context *context, uint8_t *data, size_t length) {                                     \
+    if (context->encrypts) return cukvashe_##NAME##_encrypt_ecb(&context->keys.NAME, data, length);                  \
+    return cukvashe_##NAME##_decrypt_ecb(&context->keys.NAME, data, length);                                         \
+  }                                                                                                                  \
+  static int NAME##_cbc(struct context *context, uint8_t *data, size_t length) {                                     \
+    if (context->encrypts) return cukvashe_##NAME##_encrypt_cbc(&context->keys.NAME, context->vector, data, length); \
+    return cukvashe_##NAME##_decrypt_cbc(&context->keys.NAME, context->vector, data, length);                        \
+  }                                                                                                                  \
+  static int NAME##_mode(const struct context *context, bool encrypts, int mode, uint8_t *data, size_t length) {     \
+    if (encrypts) return cukvashe_##NAME##_encrypt_mode(&context->keys.NAME, mode, context->vector, data, length);   \
+    return cukvashe_##NAME##_decrypt_mode(&context->keys.NAME, mode, context->vector, data, length);                 \
   }
 
 DEFINE_RUNS(des)
@@ -32,27 +32,26 @@ static void xor_blocks(uint8_t *data, size_t length, const uint8_t block[BLOCK])
   for (size_t at = 0; at < length; at += BLOCK) xor_block(data + at, block);
 }
 
-/* ---- DESX: a key of DES, a block that is added before it, and one that is added after it ---- */
+/*
+ * ---- DESX: a key of DES, a block that is added before it, and one that is added after it ----
+ *
+ * By definition C[i] = after ^ E(P[i] ^ C[i-1] ^ before), where C[0] is the vector. With D[i] = C[i] ^ after that is
+ * D[i] = E(P[i] ^ before ^ after ^ D[i-1]): CBC of DES over the blocks P[i] ^ before ^ after.
+ */
 
 static int desx_init(union keys *keys, const uint8_t *key, size_t length, bool no_tables) {
   if (length != 3 * BLOCK) return CUKVASHE_ERR_KEY_LENGTH;
-  memcpy(keys->desx.before, key + BLOCK, BLOCK);
   memcpy(keys->desx.after, key + 2 * BLOCK, BLOCK);
+  memcpy(keys->desx.both, key + BLOCK, BLOCK);
+  xor_block(keys->desx.both, keys->desx.after);
   if (no_tables) return cukvashe_des_init_no_tables(&keys->desx.des, key, BLOCK);
   return cukvashe_des_init(&keys->desx.des, key, BLOCK);
 }
 
-/*
- * By definition C[i] = after ^ E(P[i] ^ C[i-1] ^ before), where C[0] is the vector. With D[i] = C[i] ^ after that is
- * D[i] = E(P[i] ^ before ^ after ^ D[i-1]): CBC of DES over the blocks P[i] ^ before ^ after.
- */
 static int desx_cbc(struct context *context, uint8_t *data, size_t length) {
   const cukvashe_des *des = &context->keys.desx.des;
-  const uint8_t *after = context->keys.desx.after;
-  uint8_t both[BLOCK];
+  const uint8_t *both = context->keys.desx.both, *after = context->keys.desx.after;
   int status;
-  memcpy(both, context->keys.desx.before, BLOCK);
-  xor_block(both, after);
   xor_blocks(data, length, context->encrypts ? both : after);
   xor_block(context->vector, after);
   if (context->encrypts)
@@ -61,7 +60,6 @@ static int desx_cbc(struct context *context, uint8_t *data, size_t length) {
     status = cukvashe_des_decrypt_cbc(des, context->vector, data, length);
   xor_block(context->vector, after);
   xor_blocks(data, length, context->encrypts ? after : both);
-  cukvashe_wipe(both, sizeof both);
   return status;
 }
 
@@ -95,7 +93,7 @@ static int run_cfb(struct context *context, uint8_t *data, size_t length) {
   return status;
 }
 
-/* Whole blocks of OFB, at least one. The last output block is what was added to the last of them. */
+/* Whole blocks of OFB, at least one. The last output block is what the last of them was added to. */
 static int run_ofb(struct context *context, uint8_t *data, size_t length) {
   uint8_t *const last = data + length - BLOCK;
   uint8_t next[BLOCK];
@@ -117,7 +115,7 @@ static int begin_block(struct context *context) {
 
 /* Bytes of a block that has begun. */
 static void run_in_block(struct context *context, uint8_t *data, size_t length) {
-  const bool is_cfb = context->cipher->mode == EVP_CIPH_CFB_MODE;
+  const bool is_cfb = context->cipher->evp_mode == EVP_CIPH_CFB_MODE;
   for (size_t i = 0; i < length; i++) {
     uint8_t *const output = &context->vector[context->number];
     const uint8_t given = data[i];
@@ -133,13 +131,13 @@ static int run_with_number(struct context *context, uint8_t *data, size_t length
   const size_t part = (length - rest) % BLOCK, whole = length - rest - part;
   int status = CUKVASHE_OK;
   run_in_block(context, data, rest);
-  if (whole != 0) status = (context->cipher->mode == EVP_CIPH_CFB_MODE ? run_cfb : run_ofb)(context, data + rest, whole);
+  if (whole != 0) status = (context->cipher->evp_mode == EVP_CIPH_CFB_MODE ? run_cfb : run_ofb)(context, data + rest, whole);
   if (part != 0 && status == CUKVASHE_OK) status = begin_block(context);
   if (status == CUKVASHE_OK) run_in_block(context, data + rest + whole, part);
   return status;
 }
 
-/* A whole byte goes through the library, since no bit decides on those before it. Then others than the first are put back. */
+/* A whole byte goes through the library, since no bit changes those before it. Then all but the first bits are put back. */
 int run_bits(struct context *context, uint8_t *byte, size_t bits) {
   const size_t others = 8 - bits;
   const uint8_t given = *byte;
@@ -154,7 +152,7 @@ int run_bits(struct context *context, uint8_t *byte, size_t bits) {
   return status;
 }
 
-/* ---- Key wrap, which takes the key itself ---- */
+/* ---- Key wrap, which takes the key itself, and reads no tables ---- */
 
 static int wrap_init(union keys *keys, const uint8_t *key, size_t length, bool no_tables) {
   (void)no_tables;
@@ -165,44 +163,44 @@ static int wrap_init(union keys *keys, const uint8_t *key, size_t length, bool n
 
 /* ---- The list. `newctx` and `get_params` are not told which cipher is meant, so that each has its own ---- */
 
-#define DEFINE_CIPHER(NAME, STEPS, ...)                                                                             \
-  static const struct cipher NAME##_cipher = {__VA_ARGS__};                                                         \
-  static void *new_##NAME(void *provider) { return new_context(provider, &NAME##_cipher); }                         \
-  static int get_params_of_##NAME(OSSL_PARAM params[]) { return get_params_of(&NAME##_cipher, params); }            \
-  static const OSSL_DISPATCH NAME##_calls[] = {CALL(OSSL_FUNC_CIPHER_NEWCTX, new_##NAME),                           \
-                                               CALL(OSSL_FUNC_CIPHER_FREECTX, free_context),                        \
-                                               CALL(OSSL_FUNC_CIPHER_DUPCTX, copy_context),                         \
-                                               CALL(OSSL_FUNC_CIPHER_ENCRYPT_INIT, encrypt_init),                   \
-                                               CALL(OSSL_FUNC_CIPHER_DECRYPT_INIT, decrypt_init),                   \
-                                               CALL(OSSL_FUNC_CIPHER_UPDATE, STEPS##_update),                       \
-                                               CALL(OSSL_FUNC_CIPHER_FINAL, STEPS##_final),                         \
-                                               CALL(OSSL_FUNC_CIPHER_CIPHER, STEPS##_at_once),                      \
-                                               CALL(OSSL_FUNC_CIPHER_GET_PARAMS, get_params_of_##NAME),             \
-                                               CALL(OSSL_FUNC_CIPHER_GETTABLE_PARAMS, gettable_params),             \
-                                               CALL(OSSL_FUNC_CIPHER_GET_CTX_PARAMS, get_ctx_params),               \
-                                               CALL(OSSL_FUNC_CIPHER_GETTABLE_CTX_PARAMS, gettable_ctx_params),     \
-                                               CALL(OSSL_FUNC_CIPHER_SET_CTX_PARAMS, set_ctx_params),               \
-                                               CALL(OSSL_FUNC_CIPHER_SETTABLE_CTX_PARAMS, settable_ctx_params),     \
+#define DEFINE_CIPHER(NAME, STEPS, ...)                                                                         \
+  static const struct cipher NAME##_cipher = {__VA_ARGS__};                                                     \
+  static void *new_##NAME(void *provider) { return new_context(provider, &NAME##_cipher); }                     \
+  static int get_params_of_##NAME(OSSL_PARAM params[]) { return get_params_of(&NAME##_cipher, params); }        \
+  static const OSSL_DISPATCH NAME##_calls[] = {CALL(OSSL_FUNC_CIPHER_NEWCTX, new_##NAME),                       \
+                                               CALL(OSSL_FUNC_CIPHER_FREECTX, free_context),                    \
+                                               CALL(OSSL_FUNC_CIPHER_DUPCTX, copy_context),                     \
+                                               CALL(OSSL_FUNC_CIPHER_ENCRYPT_INIT, encrypt_init),               \
+                                               CALL(OSSL_FUNC_CIPHER_DECRYPT_INIT, decrypt_init),               \
+                                               CALL(OSSL_FUNC_CIPHER_UPDATE, STEPS##_update),                   \
+                                               CALL(OSSL_FUNC_CIPHER_FINAL, STEPS##_final),                     \
+                                               CALL(OSSL_FUNC_CIPHER_CIPHER, STEPS##_at_once),                  \
+                                               CALL(OSSL_FUNC_CIPHER_GET_PARAMS, get_params_of_##NAME),         \
+                                               CALL(OSSL_FUNC_CIPHER_GETTABLE_PARAMS, gettable_params),         \
+                                               CALL(OSSL_FUNC_CIPHER_GET_CTX_PARAMS, get_ctx_params),           \
+                                               CALL(OSSL_FUNC_CIPHER_GETTABLE_CTX_PARAMS, gettable_ctx_params), \
+                                               CALL(OSSL_FUNC_CIPHER_SET_CTX_PARAMS, set_ctx_params),           \
+                                               CALL(OSSL_FUNC_CIPHER_SETTABLE_CTX_PARAMS, settable_ctx_params), \
                                                NO_MORE_CALLS};
 
-#define DEFINE_BLOCK_CIPHER(NAME, MODE, KEY_LENGTH, VECTOR_LENGTH, INIT)                                                \
-  DEFINE_CIPHER(NAME, block, .mode = EVP_CIPH_##MODE##_MODE, .key_length = KEY_LENGTH, .vector_length = VECTOR_LENGTH, \
+#define DEFINE_BLOCK_CIPHER(NAME, MODE, KEY_LENGTH, VECTOR_LENGTH, INIT)                                                   \
+  DEFINE_CIPHER(NAME, block, .evp_mode = EVP_CIPH_##MODE##_MODE, .key_length = KEY_LENGTH, .vector_length = VECTOR_LENGTH, \
                 .block_size = BLOCK, .segment_bits = 8 * BLOCK, .init = INIT, .run = NAME)
 
-#define DEFINE_STREAM(NAME, mode_name, MODE, KEY_LENGTH, LIBRARY_MODE, SEGMENT_BITS, RUN, TAKES_BITS)              \
-  DEFINE_CIPHER(NAME##_##mode_name, stream, .mode = EVP_CIPH_##MODE##_MODE, .key_length = KEY_LENGTH,              \
-                .vector_length = BLOCK, .block_size = 1, .takes_bits = TAKES_BITS, .segment_bits = SEGMENT_BITS,   \
+#define DEFINE_STREAM(NAME, mode, MODE, KEY_LENGTH, LIBRARY_MODE, SEGMENT_BITS, RUN, TAKES_BITS)                 \
+  DEFINE_CIPHER(NAME##_##mode, stream, .evp_mode = EVP_CIPH_##MODE##_MODE, .key_length = KEY_LENGTH,             \
+                .vector_length = BLOCK, .block_size = 1, .takes_bits = TAKES_BITS, .segment_bits = SEGMENT_BITS, \
                 .init = NAME##_init, .run = RUN, .run_mode = NAME##_mode, .library_mode = LIBRARY_MODE)
 
-#define DEFINE_CIPHERS(NAME, KEY_LENGTH)                                                            \
-  DEFINE_BLOCK_CIPHER(NAME##_cbc, CBC, KEY_LENGTH, BLOCK, NAME##_init)                              \
-  DEFINE_BLOCK_CIPHER(NAME##_ecb, ECB, KEY_LENGTH, 0, NAME##_init)                                  \
-  DEFINE_STREAM(NAME, ofb, OFB, KEY_LENGTH, CUKVASHE_OFB, 8 * BLOCK, run_with_number, false)        \
+#define DEFINE_CIPHERS(NAME, KEY_LENGTH)                                                     \
+  DEFINE_BLOCK_CIPHER(NAME##_cbc, CBC, KEY_LENGTH, BLOCK, NAME##_init)                       \
+  DEFINE_BLOCK_CIPHER(NAME##_ecb, ECB, KEY_LENGTH, 0, NAME##_init)                           \
+  DEFINE_STREAM(NAME, ofb, OFB, KEY_LENGTH, CUKVASHE_OFB, 8 * BLOCK, run_with_number, false) \
   DEFINE_STREAM(NAME, cfb64, CFB, KEY_LENGTH, CUKVASHE_CFB64, 8 * BLOCK, run_with_number, false)
 
 /* OpenSSL counts bits in CFB of 1 bit for triple DES alone. */
-#define DEFINE_SHORT_CFB(NAME, KEY_LENGTH, TAKES_BITS)                            \
-  DEFINE_STREAM(NAME, cfb8, CFB, KEY_LENGTH, CUKVASHE_CFB8, 8, run_cfb, false)    \
+#define DEFINE_SHORT_CFB(NAME, KEY_LENGTH, TAKES_BITS)                         \
+  DEFINE_STREAM(NAME, cfb8, CFB, KEY_LENGTH, CUKVASHE_CFB8, 8, run_cfb, false) \
   DEFINE_STREAM(NAME, cfb1, CFB, KEY_LENGTH, CUKVASHE_CFB1, 1, run_cfb, TAKES_BITS)
 
 DEFINE_CIPHERS(tdes_ede3, CUKVASHE_TDES_EDE3_KEY_SIZE)
@@ -212,23 +210,22 @@ DEFINE_CIPHERS(des, CUKVASHE_DES_KEY_SIZE)
 DEFINE_SHORT_CFB(des, CUKVASHE_DES_KEY_SIZE, false)
 DEFINE_BLOCK_CIPHER(desx_cbc, CBC, 3 * BLOCK, BLOCK, desx_init)
 
-#define wrap_final stream_final
-DEFINE_CIPHER(wrap, wrap, .mode = EVP_CIPH_WRAP_MODE, .key_length = CUKVASHE_TDES_EDE3_KEY_SIZE, .block_size = BLOCK,
+DEFINE_CIPHER(wrap, wrap, .evp_mode = EVP_CIPH_WRAP_MODE, .key_length = CUKVASHE_TDES_EDE3_KEY_SIZE, .block_size = BLOCK,
               .has_own_vector = true, .init = wrap_init)
 
 /* The names are OpenSSL's, all of each: the core refuses a list that joins names of two algorithms. */
-#define TRIPLE_CIPHERS                                                                                                 \
-  {"DES-EDE3-CBC:DES3:1.2.840.113549.3.7", PROPERTIES, tdes_ede3_cbc_calls, "triple DES of three keys, CBC"},          \
-      {"DES-EDE3-ECB:DES-EDE3", PROPERTIES, tdes_ede3_ecb_calls, "triple DES of three keys, ECB"},                     \
-      {"DES-EDE3-OFB", PROPERTIES, tdes_ede3_ofb_calls, "triple DES of three keys, OFB"},                              \
-      {"DES-EDE3-CFB", PROPERTIES, tdes_ede3_cfb64_calls, "triple DES of three keys, CFB of 64 bits"},                 \
-      {"DES-EDE3-CFB8", PROPERTIES, tdes_ede3_cfb8_calls, "triple DES of three keys, CFB of 8 bits"},                  \
-      {"DES-EDE3-CFB1", PROPERTIES, tdes_ede3_cfb1_calls, "triple DES of three keys, CFB of 1 bit"},                   \
-      {"DES3-WRAP:id-smime-alg-CMS3DESwrap:1.2.840.113549.1.9.16.3.6", PROPERTIES, wrap_calls,                         \
-       "key wrap under triple DES of three keys (RFC 3217)"},                                                          \
-      {"DES-EDE-CBC", PROPERTIES, tdes_ede2_cbc_calls, "triple DES of two keys, CBC"},                                 \
-      {"DES-EDE-ECB:DES-EDE:1.3.14.3.2.17", PROPERTIES, tdes_ede2_ecb_calls, "triple DES of two keys, ECB"},           \
-      {"DES-EDE-OFB", PROPERTIES, tdes_ede2_ofb_calls, "triple DES of two keys, OFB"},                                 \
+#define TRIPLE_CIPHERS                                                                                        \
+  {"DES-EDE3-CBC:DES3:1.2.840.113549.3.7", PROPERTIES, tdes_ede3_cbc_calls, "triple DES of three keys, CBC"}, \
+      {"DES-EDE3-ECB:DES-EDE3", PROPERTIES, tdes_ede3_ecb_calls, "triple DES of three keys, ECB"},            \
+      {"DES-EDE3-OFB", PROPERTIES, tdes_ede3_ofb_calls, "triple DES of three keys, OFB"},                     \
+      {"DES-EDE3-CFB", PROPERTIES, tdes_ede3_cfb64_calls, "triple DES of three keys, CFB of 64 bits"},        \
+      {"DES-EDE3-CFB8", PROPERTIES, tdes_ede3_cfb8_calls, "triple DES of three keys, CFB of 8 bits"},         \
+      {"DES-EDE3-CFB1", PROPERTIES, tdes_ede3_cfb1_calls, "triple DES of three keys, CFB of 1 bit"},          \
+      {"DES3-WRAP:id-smime-alg-CMS3DESwrap:1.2.840.113549.1.9.16.3.6", PROPERTIES, wrap_calls,                \
+       "key wrap under triple DES of three keys (RFC 3217)"},                                                 \
+      {"DES-EDE-CBC", PROPERTIES, tdes_ede2_cbc_calls, "triple DES of two keys, CBC"},                        \
+      {"DES-EDE-ECB:DES-EDE:1.3.14.3.2.17", PROPERTIES, tdes_ede2_ecb_calls, "triple DES of two keys, ECB"},  \
+      {"DES-EDE-OFB", PROPERTIES, tdes_ede2_ofb_calls, "triple DES of two keys, OFB"},                        \
       {"DES-EDE-CFB", PROPERTIES, tdes_ede2_cfb64_calls, "triple DES of two keys, CFB of 64 bits"}
 
 static const OSSL_ALGORITHM triple_ciphers[] = {TRIPLE_CIPHERS, {NULL, NULL, NULL, NULL}};
