@@ -22,7 +22,7 @@ struct provider {
   OSSL_FUNC_core_set_error_debug_fn *set_error_debug;
   OSSL_FUNC_core_vset_error_fn *vset_error;
   bool no_tables;   /* no table at a secret index */
-  bool single_des;  /* single DES is offered too */
+  bool single_des;  /* single DES and DESX are offered too */
   bool small_stack; /* no vectors of 256 bits, whose calls take more of the stack */
   char build_info[64];
 };
