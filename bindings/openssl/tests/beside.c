@@ -382,20 +382,27 @@ static void begin_wrap(struct pair *pair, const uint8_t *key, int encrypts) {
   CHECK(agree(pair));
 }
 
-/* Both unwrap the same, into an output of zeros; ours over its input too, where it has the same answer. */
+/* Ours over its own input, displaced by up to 40 bytes, whose answer comes to another place. */
+static bool run_over(struct pair *pair, uint8_t *made, const uint8_t *bytes, size_t length) {
+  const size_t to = below(41), from = 40;
+  memcpy(output[OURS] + from, bytes, length);
+  ASK(OURS, EVP_CipherUpdate(pair->context[OURS], output[OURS] + to, &pair->length[OURS], output[OURS] + from, (int)length));
+  if (pair->status[OURS] == 1) memcpy(made, output[OURS] + to, (size_t)pair->length[OURS]);
+  return pair->status[OURS] == 1;
+}
+
+/* Both unwrap the same, and leave the same where they refuse. */
 static bool unwrap(struct pair *pair, const uint8_t *wrapped, size_t length) {
-  memset(output, 0, sizeof output);
+  uint8_t over[LONGEST_KEY + 16];
+  const bool is_over = run_over(pair, over, wrapped, length);
+  memset(output, 7, sizeof output);
   EACH(who) {
     pair->length[who] = 77;
     ASK(who, EVP_CipherUpdate(pair->context[who], output[who], &pair->length[who], wrapped, (int)length));
   }
   const bool is_done = agree(pair);
   CHECK(pair->length[OURS] == pair->length[THEIRS] && memcmp(output[OURS], output[THEIRS], sizeof output[OURS]) == 0);
-  const size_t to = below(40), from = below(40);
-  memcpy(input[OURS] + from, wrapped, length);
-  ASK(OURS, EVP_CipherUpdate(pair->context[OURS], input[OURS] + to, &pair->length[OURS], input[OURS] + from, (int)length));
-  CHECK((pair->status[OURS] == 1) == is_done);
-  if (is_done) CHECK(memcmp(input[OURS] + to, output[THEIRS], (size_t)pair->length[THEIRS]) == 0);
+  CHECK(is_over == is_done && (!is_done || memcmp(over, output[THEIRS], (size_t)pair->length[THEIRS]) == 0));
   return is_done;
 }
 
@@ -410,7 +417,7 @@ static void unwraps_as_published(struct pair *pair) {
 }
 
 static void compare_wraps(struct pair *pair) {
-  uint8_t wrapping[24], key[LONGEST_KEY], wrapped[2][LONGEST_KEY + 16];
+  uint8_t wrapping[24], key[LONGEST_KEY], wrapped[2][LONGEST_KEY + 16], over[LONGEST_KEY + 16];
   const size_t length = 8 * (1 + below(LONGEST_KEY / 8));
   random_bytes(wrapping, sizeof wrapping);
   random_bytes(key, sizeof key);
@@ -418,9 +425,11 @@ static void compare_wraps(struct pair *pair) {
   EACH(who) ASK(who, EVP_CipherUpdate(pair->context[who], wrapped[who], &pair->length[who], key, (int)length));
   CHECK(agree(pair) && pair->length[OURS] == (int)length + 16 && pair->length[THEIRS] == (int)length + 16);
   CHECK(memcmp(wrapped[OURS], wrapped[THEIRS], length + 16) != 0);
+  CHECK(run_over(pair, over, key, length) && memcmp(over, wrapped[OURS], length + 16) != 0);
   end(pair);
   begin_wrap(pair, wrapping, 0);
   EACH(who) CHECK(unwrap(pair, wrapped[who], length + 16) && memcmp(output[OURS], key, length) == 0);
+  CHECK(unwrap(pair, over, length + 16) && memcmp(output[OURS], key, length) == 0);
   wrapped[OURS][below(length + 16)] ^= (uint8_t)(1 + below(255));
   CHECK(!unwrap(pair, wrapped[OURS], length + 16));
   CHECK(!unwrap(pair, wrapped[THEIRS], 1 + below(length + 15)));

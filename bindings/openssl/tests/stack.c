@@ -63,6 +63,14 @@ static size_t used_by(struct work *work) {
 
 static const size_t lengths[] = {8, 24, 256, 1024, 1032, 2048, 2056, 4096, 8192, 40960, LONGEST};
 
+static size_t used_by_wrap(OSSL_LIB_CTX *library) {
+  EVP_CIPHER *cipher = EVP_CIPHER_fetch(library, wraps[0], NULL);
+  struct work work = {cipher, NULL, 1, 256};
+  const size_t used = used_by(&work);
+  EVP_CIPHER_free(cipher);
+  return used;
+}
+
 static size_t most_of_ciphers(OSSL_LIB_CTX *library, size_t longest) {
   size_t most = 0;
   for (size_t number = 0; number < CIPHERS; number++) {
@@ -86,14 +94,15 @@ int main(int count, char **words) {
   OSSL_LIB_CTX *library = ours_by(words[1], words[2]), *own = theirs();
   const size_t limit = strtoull(words[3], NULL, 10), none = used_by(&work);
   const size_t by_ciphers = most_of_ciphers(library, LONGEST) - none, by_short = most_of_ciphers(library, 1024) - none;
-  const size_t by_own = most_of_ciphers(own, LONGEST) - none;
+  const size_t by_own = most_of_ciphers(own, LONGEST) - none, by_wrap = used_by_wrap(library) - none;
   work.mac = EVP_MAC_fetch(library, "RETAIL-MAC", NULL);
   CHECK(work.mac != NULL);
   work.length = LONGEST;
   const size_t by_mac = used_by(&work) - none;
   printf("stack: at most %zu bytes by ciphers, %zu up to 1 KiB, %zu by the MAC; OpenSSL's own ciphers %zu\n", by_ciphers, by_short,
          by_mac, by_own);
-  CHECK(by_short > 500 && by_mac > 500 && by_short <= 16384 && by_ciphers <= limit && by_mac <= 16384);
+  CHECK(by_short > 500 && by_mac > 500 && by_wrap > 500);
+  CHECK(by_short <= 16384 && by_ciphers <= limit && by_mac <= 16384 && by_wrap <= 16384);
   EVP_MAC_free(work.mac);
   drop_libraries(library, own);
   free(aligned);
