@@ -94,6 +94,23 @@ static void compare_ciphers(const char *name) {
   drop(pair);
 }
 
+/* Of OpenSSL's ciphers, those whose name begins with DES are here. */
+static void compare_name(EVP_CIPHER *own, void *count) {
+  const char *name = EVP_CIPHER_get0_name(own);
+  if (strncmp(name, "DES", 3) != 0) return;
+  EVP_CIPHER *ours = EVP_CIPHER_fetch(libraries[OURS], name, NULL);
+  at_work = name;
+  CHECK(ours != NULL);
+  EVP_CIPHER_free(ours);
+  ++*(size_t *)count;
+}
+
+static void has_all_names(void) {
+  size_t count = 0;
+  EVP_CIPHER_do_all_provided(libraries[THEIRS], compare_name, &count);
+  CHECK(count == CIPHERS + 1);
+}
+
 /* ---- Random calls ---- */
 
 static size_t some_length(void) {
@@ -480,6 +497,7 @@ int main(int count, char **words) {
   start_from(strtoull(words[3], NULL, 10));
   const size_t wanted = strtoull(words[4], NULL, 10);
   learn_of_numbers();
+  has_all_names();
   for (size_t i = 0; i < NAMES; i++) compare_ciphers(names[i]);
   while (calls < wanted) random_calls();
   const size_t random = calls, refused = refusals;
