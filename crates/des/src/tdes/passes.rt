@@ -16,7 +16,7 @@ pub struct Pass<'a, D> {
 
 impl<'a, D: BlockCipher> Pass<'a, D> {
     /// Takes a block of 8 bytes through the pass.
-    pub fn process_block(&self, block: &mut [u8; 8])
+    pub fn apply(&self, block: &mut [u8; 8])
         ensures { block.new ≡ passed_by D.encrypted D.decrypted self.now block.old }
     {
         if self.deciphers {
@@ -37,23 +37,23 @@ pub struct ThreePasses<'a, D> {
 
 impl<'a, D: BlockCipher> ThreePasses<'a, D> {
     /// Takes a block of 8 bytes through the passes.
-    pub fn process_block(&self, block: &mut [u8; 8])
+    pub fn apply(&self, block: &mut [u8; 8])
         ensures { block.new ≡ thrice_passed D.encrypted D.decrypted self.now block.old }
     {
-        self.first.process_block(block);
-        self.second.process_block(block);
-        self.third.process_block(block);
+        self.first.apply(block);
+        self.second.apply(block);
+        self.third.apply(block);
     }
 
     /// Takes each block of a list through the passes, in order.
-    pub fn process_blocks(&self, blocks: &mut [[u8; 8]])
+    pub fn apply_each(&self, blocks: &mut [[u8; 8]])
         ensures blocks { All IsBlock blocks.old }
         ensures processed { blocks.new
             ≡ map (thrice_passed D.encrypted D.decrypted self.now) blocks.old }
     {
         are_blocks(blocks);
         for block in blocks.iter_mut() {
-            self.process_block(block);
+            self.apply(block);
         }
     }
 }

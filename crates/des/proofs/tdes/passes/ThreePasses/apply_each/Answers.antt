@@ -1,7 +1,7 @@
 use Rattle.std.proofs.Common.{rules}
 use Rattle.std.proofs.lemmas.List.Edits.{map_over_more}
 use Rattle.des.specs.TripleCiphers.{thrice_passed}
-use Rattle.des.proofs.tdes.passes.ThreePasses.process_blocks.Goals as goal
+use Rattle.des.proofs.tdes.passes.ThreePasses.apply_each.Goals as goal
 
 pub loop-block-preserved : goal.loop-block-preserved
 loop-block-preserved g c =

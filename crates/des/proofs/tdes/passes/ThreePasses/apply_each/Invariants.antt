@@ -1,6 +1,6 @@
 use Rattle.std.proofs.Common.{◌≡◌, ◌++◌, map, take, drop}
 use Rattle.des.specs.TripleCiphers.{thrice_passed}
-use Rattle.des.proofs.tdes.passes.ThreePasses.process_blocks.Given as goal
+use Rattle.des.proofs.tdes.passes.ThreePasses.apply_each.Given as goal
 
 -- the blocks before the index are answered, and those from it on are as they were
 abbrev pub invariant-loop-block : goal.invariant-loop-block
