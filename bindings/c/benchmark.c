@@ -1,6 +1,6 @@
 /*
  * Nanoseconds for a block of 8 bytes of one call on a message, beside OpenSSL's EVP and libgcrypt: DES and triple DES (EDE, three parts),
- * each block by itself (ECB) and chained (CBC). With the word `ways`, nanoseconds for a block of lists about as long as a batch, by each
+ * each block by itself (ECB), chained (CBC), and triple DES by the modes without padding. With the word `ways`, nanoseconds for a block of lists about as long as a batch, by each
  * of the ways that the library chooses from. Keys are set before the clock runs, which is that of the process; the least of many short
  * runs counts. An empty cell is a way that there is not.
  *
@@ -22,6 +22,7 @@ static bool is_v3;
 /* Which call is timed, and by which way. */
 struct mode {
   int is_triple, is_chained, encrypts;
+  int stream; /* the number of a mode without padding, or 0 */
 };
 
 enum way { PUBLIC, ONE_BY_ONE, NARROW, WIDE };
@@ -58,12 +59,18 @@ enum { FEW = 8 * 18 };
     if (by->way == WIDE) return cukvashe_wide_decrypt_cbc(WORDS_OF(*c), iv, DATA);                             \
     return cukvashe_##name##_decrypt_cbc(c, iv, data, length);                                                 \
   }                                                                                                            \
+  static int name##_stream(const struct ours *by, uint8_t *data, size_t length) {                              \
+    return (by->mode.encrypts ? cukvashe_##name##_encrypt_mode : cukvashe_##name##_decrypt_mode)(              \
+        &name##_context, by->mode.stream, iv, data, length);                                                   \
+  }                                                                                                            \
   static void name##_call(void *state, size_t bytes) {                                                         \
     const struct ours *by = (const struct ours *)state;                                                        \
+    int (*const call)(const struct ours *, uint8_t *, size_t) =                                                \
+        by->mode.stream ? name##_stream : by->mode.is_chained ? name##_cbc : name##_ecb;                       \
     const size_t most = by->way == ONE_BY_ONE ? FEW : bytes;                                                   \
     for (size_t from = 0; from < bytes; from += most) {                                                        \
       size_t length = bytes - from < most ? bytes - from : most;                                               \
-      if ((by->mode.is_chained ? name##_cbc : name##_ecb)(by, message + from, length)) fail(#name);            \
+      if (call(by, message + from, length)) fail(#name);                                                       \
     }                                                                                                          \
   }
 
@@ -75,9 +82,20 @@ static void openssl_call(void *state, size_t bytes) {
   if (!EVP_CipherUpdate((EVP_CIPHER_CTX *)state, message, &count, message, (int)bytes)) fail("EVP_CipherUpdate");
 }
 
-static EVP_CIPHER_CTX *openssl_of(const struct mode *mode) {
+/* OpenSSL's name of a mode; it has no CTR of DES. */
+static const char *openssl_name(const struct mode *mode) {
   static const char *names[2][2] = {{"DES-ECB", "DES-CBC"}, {"DES-EDE3", "DES-EDE3-CBC"}};
-  EVP_CIPHER *cipher = EVP_CIPHER_fetch(NULL, names[mode->is_triple][mode->is_chained], NULL);
+  switch (mode->stream) {
+  case 0: return names[mode->is_triple][mode->is_chained];
+  case CUKVASHE_OFB: return "DES-EDE3-OFB";
+  case CUKVASHE_CFB64: return "DES-EDE3-CFB";
+  case CUKVASHE_CFB8: return "DES-EDE3-CFB8";
+  default: return NULL;
+  }
+}
+
+static EVP_CIPHER_CTX *openssl_of(const struct mode *mode) {
+  EVP_CIPHER *cipher = EVP_CIPHER_fetch(NULL, openssl_name(mode), NULL);
   EVP_CIPHER_CTX *state = EVP_CIPHER_CTX_new();
   if (!cipher || !state || !EVP_CipherInit_ex(state, cipher, NULL, key, iv, mode->encrypts)) fail("EVP_CipherInit_ex");
   EVP_CIPHER_CTX_set_padding(state, 0);
@@ -98,12 +116,22 @@ static void gcrypt_call(void *state, size_t bytes) {
     fail("gcry_cipher");
 }
 
+static int gcrypt_mode(const struct mode *mode) {
+  switch (mode->stream) {
+  case CUKVASHE_CTR: return GCRY_CIPHER_MODE_CTR;
+  case CUKVASHE_OFB: return GCRY_CIPHER_MODE_OFB;
+  case CUKVASHE_CFB64: return GCRY_CIPHER_MODE_CFB;
+  case CUKVASHE_CFB8: return GCRY_CIPHER_MODE_CFB8;
+  default: return mode->is_chained ? GCRY_CIPHER_MODE_CBC : GCRY_CIPHER_MODE_ECB;
+  }
+}
+
 static struct gcrypt gcrypt_of(const struct mode *mode) {
   struct gcrypt made = {NULL, mode->encrypts};
-  if (gcry_cipher_open(&made.handle, mode->is_triple ? GCRY_CIPHER_3DES : GCRY_CIPHER_DES,
-                       mode->is_chained ? GCRY_CIPHER_MODE_CBC : GCRY_CIPHER_MODE_ECB, 0) ||
+  if (gcry_cipher_open(&made.handle, mode->is_triple ? GCRY_CIPHER_3DES : GCRY_CIPHER_DES, gcrypt_mode(mode), 0) ||
       gcry_cipher_setkey(made.handle, key, mode->is_triple ? 24 : 8) ||
-      (mode->is_chained && gcry_cipher_setiv(made.handle, iv, 8)))
+      (mode->stream == CUKVASHE_CTR && gcry_cipher_setctr(made.handle, iv, 8)) ||
+      ((mode->is_chained || mode->stream) && mode->stream != CUKVASHE_CTR && gcry_cipher_setiv(made.handle, iv, 8)))
     fail("gcry_cipher_open");
   return made;
 }
@@ -113,9 +141,9 @@ static struct gcrypt gcrypt_of(const struct mode *mode) {
 static void messages(const char *what, struct mode mode) {
   static const size_t sizes[] = {1, 17, 32, 128, 1024};
   struct ours ours = {mode, PUBLIC};
-  EVP_CIPHER_CTX *openssl = openssl_of(&mode);
+  EVP_CIPHER_CTX *openssl = openssl_name(&mode) ? openssl_of(&mode) : NULL;
   struct timed timed[3] = {{"Cukvashe", mode.is_triple ? tdes_ede3_call : des_call, &ours, 0},
-                           {"OpenSSL", openssl_call, openssl, 0},
+                           {"OpenSSL", openssl ? openssl_call : NULL, openssl, 0},
                            {"libgcrypt", NULL, NULL, 0}};
 #ifdef HAS_GCRYPT
   struct gcrypt gcrypt = gcrypt_of(&mode);
@@ -152,10 +180,10 @@ int main(int count, char **words) {
   if (cukvashe_des_init(&des_context, key, 8) || cukvashe_tdes_ede3_init(&tdes_ede3_context, key, 24)) fail("init");
   if (rest[0] && strcmp(rest[0], "ways") == 0) {
     begin_table("ways", "ns per block | | 31 blocks | 32 | 33 | 64 | 127 | 128 | 129 | 159 | 160 | 256 | 257 | 287 | 288 | 300");
-    ways("DES, ECB", (struct mode){0, 0, 1});
-    ways("DES, CBC decryption", (struct mode){0, 1, 0});
-    ways("triple DES, ECB", (struct mode){1, 0, 1});
-    ways("triple DES, CBC decryption", (struct mode){1, 1, 0});
+    ways("DES, ECB", (struct mode){0, 0, 1, 0});
+    ways("DES, CBC decryption", (struct mode){0, 1, 0, 0});
+    ways("triple DES, ECB", (struct mode){1, 0, 1, 0});
+    ways("triple DES, CBC decryption", (struct mode){1, 1, 0, 0});
     return 0;
   }
   printf("OpenSSL: %s\n", OpenSSL_version(OPENSSL_VERSION_STRING));
@@ -164,9 +192,16 @@ int main(int count, char **words) {
   gcry_control(GCRYCTL_INITIALIZATION_FINISHED, 0);
 #endif
   begin_table("lengths", "ns per block | | 8 bytes | 136 | 256 | 1024 | 8192");
-  messages("DES, ECB", (struct mode){0, 0, 1});
-  messages("triple DES, ECB", (struct mode){1, 0, 1});
-  messages("triple DES, CBC encryption", (struct mode){1, 1, 1});
-  messages("triple DES, CBC decryption", (struct mode){1, 1, 0});
+  messages("DES, ECB", (struct mode){0, 0, 1, 0});
+  messages("triple DES, ECB", (struct mode){1, 0, 1, 0});
+  messages("triple DES, CBC encryption", (struct mode){1, 1, 1, 0});
+  messages("triple DES, CBC decryption", (struct mode){1, 1, 0, 0});
+  begin_table("modes", "ns per block, triple DES | | 8 bytes | 136 | 256 | 1024 | 8192");
+  messages("CTR", (struct mode){1, 0, 1, CUKVASHE_CTR});
+  messages("OFB", (struct mode){1, 0, 1, CUKVASHE_OFB});
+  messages("CFB of 64 bits, encryption", (struct mode){1, 0, 1, CUKVASHE_CFB64});
+  messages("CFB of 64 bits, decryption", (struct mode){1, 0, 0, CUKVASHE_CFB64});
+  messages("CFB of 8 bits, encryption", (struct mode){1, 0, 1, CUKVASHE_CFB8});
+  messages("CFB of 8 bits, decryption", (struct mode){1, 0, 0, CUKVASHE_CFB8});
   return 0;
 }
