@@ -1,13 +1,4 @@
 pub mod Prefixes
-pub mod Faults
-pub mod Verdicts
-pub mod Components
-pub mod CheckDigits
-pub mod KeyVerdicts
 pub mod DerivationTexts
-pub mod OptionalLines
-pub mod ProtectionSizes
-pub mod WrapFaults
-pub mod UnwrapFaults
 pub mod ObjectIdentifiers
 pub mod TagsOfDigits

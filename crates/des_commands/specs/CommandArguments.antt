@@ -5,8 +5,8 @@ use Rattle.des_commands.specs.declared.command.Account.TheVariants.{In}
 use Rattle.des_commands.specs.declared.command.CalculationRequest.{CalculationRequest}
 use Rattle.des_commands.specs.declared.command.Command.{Command}
 use Rattle.des_commands.specs.declared.command.Command.TheVariants.{Stream}
-use Rattle.des_commands.specs.declared.text_source.Source.{Source}
-use Rattle.des_commands.specs.declared.text_source.Source.TheVariants.{StandardInput}
+use Rattle.des_commands.specs.declared.inputs.sources.Source.{Source}
+use Rattle.des_commands.specs.declared.inputs.sources.Source.TheVariants.{StandardInput}
 
 -- a stream is encrypted or decrypted as the command's name says
 abbrev pub HasDirectionOf : Option (List ℕ) → Command → Type 0

@@ -8,9 +8,9 @@ use Rattle.des_io.specs.declared.error.StreamError.{StreamError}
 use Rattle.des_io.specs.declared.error.StreamError.TheVariants.{Read, Write, Length as CutBlock, Start, Padding}
 use Rattle.des_io.specs.declared.mode.Mode.TheVariants.{Cbc}
 use Rattle.des_io.specs.declared.padding.Padding.TheVariants.{Pkcs7}
-use Rattle.des_commands.specs.declared.fault.FileFault.TheVariants.{KeyPadding, Password}
-use Rattle.des_commands.specs.declared.fault.FaultKind.{FaultKind}
-use Rattle.des_commands.specs.declared.fault.FaultKind.TheVariants.{File, Length, Memory}
+use Rattle.des_lines.specs.declared.fault.FileFault.TheVariants.{KeyPadding, Password}
+use Rattle.des_lines.specs.declared.fault.FaultKind.{FaultKind}
+use Rattle.des_lines.specs.declared.fault.FaultKind.TheVariants.{File, Length, Memory}
 use Rattle.des_commands.specs.PrivateKeys.{is_sequence}
 
 -- all of the bytes, decrypted by triple DES in CBC from the vector, without the padding of PKCS #7, by a function that

@@ -1,7 +1,7 @@
 -- The modes and owners of files and folders. The numbers are those of Linux for S_IFMT, S_IFREG, S_IFIFO, S_ISVTX and the
 -- rights of group and others.
 use Rattle.std.specs.Prelude.{◌≡◌, ◌≢◌, ◌⊎◌, ℕ, bit_and}
-use Rattle.des_commands.specs.declared.inodes.Inode.{Inode}
+use Rattle.des_commands.specs.declared.outputs.inodes.Inode.{Inode}
 
 abbrev pub IsRegular : ℕ → Type 0
 IsRegular mode = bit_and mode 0o170000 ≡ 0o100000

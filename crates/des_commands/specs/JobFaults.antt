@@ -6,13 +6,13 @@ use Rattle.des_io.specs.StreamFaults.{FailsToEncrypt, FailsToDecrypt, FailsToSki
 use Rattle.des_io.specs.declared.error.StreamError.{StreamError}
 use Rattle.des_io.specs.declared.mode.Mode.{Mode}
 use Rattle.des_io.specs.declared.padding.Padding.{Padding}
-use Rattle.des_commands.specs.declared.fault.FaultKind.{FaultKind}
-use Rattle.des_commands.specs.declared.fault.FaultKind.TheVariants.{KeyLength, Memory}
-use Rattle.des_commands.specs.declared.stream_request.BlockRange.{BlockRange}
-use Rattle.des_commands.specs.declared.stream_request.Job.{Job}
-use Rattle.des_commands.specs.declared.stream_request.Work.{Work}
-use Rattle.des_commands.specs.declared.stream_request.Work.TheVariants.{Encrypt, Decrypt}
-use Rattle.des_commands.specs.Faults.{IsOfStream}
+use Rattle.des_lines.specs.declared.fault.FaultKind.{FaultKind}
+use Rattle.des_lines.specs.declared.fault.FaultKind.TheVariants.{KeyLength, Memory}
+use Rattle.des_commands.specs.declared.command.streams.BlockRange.{BlockRange}
+use Rattle.des_commands.specs.declared.command.streams.Job.{Job}
+use Rattle.des_commands.specs.declared.command.streams.Work.{Work}
+use Rattle.des_commands.specs.declared.command.streams.Work.TheVariants.{Encrypt, Decrypt}
+use Rattle.des_lines.specs.Faults.{IsOfStream}
 use Rattle.des_commands.specs.Written.{AppendsPrefix}
 use Rattle.des_commands.specs.Jobs.{key_size_of, AreOfKey}
 

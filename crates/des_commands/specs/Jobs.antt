@@ -9,12 +9,12 @@ use Rattle.des_io.specs.Streams.{Passage, passage_of, Encrypts, Decrypts, Skips,
 use Rattle.des_io.specs.declared.mode.Mode.{Mode}
 use Rattle.des_io.specs.declared.mode.Mode.TheVariants.{Ecb, Cbc}
 use Rattle.des_io.specs.declared.padding.Padding.{Padding}
-use Rattle.des_commands.specs.declared.stream_request.Cipher.{Cipher}
-use Rattle.des_commands.specs.declared.stream_request.Cipher.TheVariants.{Des, TdesEde2, TdesEde3}
-use Rattle.des_commands.specs.declared.stream_request.BlockRange.{BlockRange}
-use Rattle.des_commands.specs.declared.stream_request.Job.{Job}
-use Rattle.des_commands.specs.declared.stream_request.Work.{Work}
-use Rattle.des_commands.specs.declared.stream_request.Work.TheVariants.{Encrypt, Decrypt}
+use Rattle.des_commands.specs.declared.command.streams.Cipher.{Cipher}
+use Rattle.des_commands.specs.declared.command.streams.Cipher.TheVariants.{Des, TdesEde2, TdesEde3}
+use Rattle.des_commands.specs.declared.command.streams.BlockRange.{BlockRange}
+use Rattle.des_commands.specs.declared.command.streams.Job.{Job}
+use Rattle.des_commands.specs.declared.command.streams.Work.{Work}
+use Rattle.des_commands.specs.declared.command.streams.Work.TheVariants.{Encrypt, Decrypt}
 
 -- ---- ciphers
 

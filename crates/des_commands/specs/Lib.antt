@@ -1,17 +1,9 @@
-pub mod Texts
-pub mod Faults
 pub mod Written
-pub mod PinLines
-pub mod EmvLines
-pub mod Lines
 pub mod Macs
 pub mod Sources
 pub mod Descriptors
 pub mod Inodes
-pub mod Keys
 pub mod Notices
-pub mod CheckDigits
-pub mod Tags
 pub mod Jobs
 pub mod JobFaults
 pub mod StreamRequests
@@ -19,7 +11,6 @@ pub mod StreamArguments
 pub mod CommandArguments
 pub mod Runs
 pub mod Names
-pub mod KeyBlockLines
 pub mod PasswordArguments
 pub mod PasswordStreams
 pub mod PrivateKeys

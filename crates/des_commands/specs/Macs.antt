@@ -8,9 +8,9 @@ use Rattle.des_mac.specs.RetailMac.{retail_mac_of}
 use Rattle.des_mac.specs.Cmac.{cmac}
 use Rattle.des_payment.specs.KeyLengths.{encryption_by}
 use Rattle.des_passwords.specs.HexStreams.{bytes_of}
-use Rattle.des_commands.specs.declared.fault.Reason.{Reason}
-use Rattle.des_commands.specs.declared.fault.FaultKind.{FaultKind}
-use Rattle.des_commands.specs.declared.fault.FaultKind.TheVariants.{KeyLength, Read}
+use Rattle.des_lines.specs.declared.fault.Reason.{Reason}
+use Rattle.des_lines.specs.declared.fault.FaultKind.{FaultKind}
+use Rattle.des_lines.specs.declared.fault.FaultKind.TheVariants.{KeyLength, Read}
 use Rattle.des_commands.specs.declared.mac.PaddingMethod.{PaddingMethod}
 use Rattle.des_commands.specs.declared.mac.PaddingMethod.TheVariants.{One, Two}
 use Rattle.des_commands.specs.declared.mac.Method.{Method}

@@ -3,16 +3,16 @@ use Rattle.std.specs.Prelude.{◌≡◌, ◌⊎◌, ℕ, ◌+◌, ◌/◌, ◌^�
 use Rattle.std.specs.Int.{div_ceil}
 use Rattle.des_io.specs.declared.padding.Padding.{Padding}
 use Rattle.des_io.specs.declared.padding.Padding.TheVariants.{Unpadded, Zeros}
-use Rattle.des_commands.specs.declared.fault.FaultKind.{FaultKind}
-use Rattle.des_commands.specs.declared.fault.FaultKind.TheVariants.{WeakKey as RefusedKey}
-use Rattle.des_commands.specs.declared.keys.Verdict.{Verdict}
-use Rattle.des_commands.specs.declared.keys.Verdict.TheVariants.{DoubleLength as TwoParts, Weak}
-use Rattle.des_commands.specs.declared.notices.Notice.{Notice}
-use Rattle.des_commands.specs.declared.notices.Notice.TheVariants.{Hexadecimal, WeakKey, DoubleLength, Limit, Permissions}
-use Rattle.des_commands.specs.declared.stream_request.WeakKeys.{WeakKeys}
-use Rattle.des_commands.specs.declared.stream_request.WeakKeys.TheVariants.{Refuse, Warn}
-use Rattle.des_commands.specs.Faults.{line_with}
-use Rattle.des_commands.specs.Keys.{IsVerdict}
+use Rattle.des_lines.specs.declared.fault.FaultKind.{FaultKind}
+use Rattle.des_lines.specs.declared.fault.FaultKind.TheVariants.{WeakKey as RefusedKey}
+use Rattle.des_lines.specs.declared.keys.Verdict.{Verdict}
+use Rattle.des_lines.specs.declared.keys.Verdict.TheVariants.{DoubleLength as TwoParts, Weak}
+use Rattle.des_commands.specs.declared.outputs.notices.Notice.{Notice}
+use Rattle.des_commands.specs.declared.outputs.notices.Notice.TheVariants.{Hexadecimal, WeakKey, DoubleLength, Limit, Permissions}
+use Rattle.des_commands.specs.declared.command.streams.WeakKeys.{WeakKeys}
+use Rattle.des_commands.specs.declared.command.streams.WeakKeys.TheVariants.{Refuse, Warn}
+use Rattle.des_lines.specs.Faults.{line_with}
+use Rattle.des_lines.specs.Keys.{IsVerdict}
 use Rattle.des_commands.specs.Written.{AppendsPrefix}
 
 -- ---- lines

@@ -3,9 +3,9 @@ use Rattle.std.specs.Prelude.{◌≡◌, ◌^◌, ◌<◌, ◌&&◌, ◌==◌, �
 use Rattle.std.specs.Str.Parse.{IsNumeral, without_leading_plus, digits_value}
 use Rattle.des_passwords.specs.declared.derivation.Derivation.{Derivation}
 use Rattle.des_passwords.specs.declared.derivation.Derivation.TheVariants.{Md5, Sha1, Sha256, Pbkdf2Sha1, Pbkdf2Sha256}
-use Rattle.des_commands.specs.declared.fault.Misuse.TheVariants.{Derivation as OtherDerivation, DerivationToEncrypt, Count}
-use Rattle.des_commands.specs.declared.fault.FaultKind.{FaultKind}
-use Rattle.des_commands.specs.declared.fault.FaultKind.TheVariants.{Usage}
+use Rattle.des_lines.specs.declared.fault.Misuse.TheVariants.{Derivation as OtherDerivation, DerivationToEncrypt, Count}
+use Rattle.des_lines.specs.declared.fault.FaultKind.{FaultKind}
+use Rattle.des_lines.specs.declared.fault.FaultKind.TheVariants.{Usage}
 
 -- a text writes a number of 32 bits in decimal digits, where a plus may stand first
 abbrev pub IsCount : List ℕ → ℕ → Type 0

@@ -3,16 +3,16 @@ use Rattle.std.specs.Prelude.{◌≡◌, ◌≢◌, ◌⊎◌, ℕ, ◌+◌, ◌
 use Rattle.std.specs.Io.KnownBytes.{Consumes, IsAtEnd}
 use Rattle.des_io.specs.Streams.{Passage, passage_of}
 use Rattle.des_passwords.specs.Derivations.{derived, IsDerivable}
-use Rattle.des_commands.specs.declared.fault.Misuse.TheVariants.{Derivation as OtherDerivation}
-use Rattle.des_commands.specs.declared.fault.FileFault.TheVariants.{NotSalted, SaltCut}
-use Rattle.des_commands.specs.declared.fault.Reason.{Reason}
-use Rattle.des_commands.specs.declared.fault.FaultKind.{FaultKind}
-use Rattle.des_commands.specs.declared.fault.FaultKind.TheVariants.{Usage, Read, File, EmptyPassword}
-use Rattle.des_commands.specs.declared.stream_request.Job.{Job}
-use Rattle.des_commands.specs.declared.password_streams.PasswordJob.{PasswordJob}
-use Rattle.des_commands.specs.declared.keys.Verdict.{Verdict}
-use Rattle.des_commands.specs.declared.notices.Notice.{Notice}
-use Rattle.des_commands.specs.Keys.{IsVerdict}
+use Rattle.des_lines.specs.declared.fault.Misuse.TheVariants.{Derivation as OtherDerivation}
+use Rattle.des_lines.specs.declared.fault.FileFault.TheVariants.{NotSalted, SaltCut}
+use Rattle.des_lines.specs.declared.fault.Reason.{Reason}
+use Rattle.des_lines.specs.declared.fault.FaultKind.{FaultKind}
+use Rattle.des_lines.specs.declared.fault.FaultKind.TheVariants.{Usage, Read, File, EmptyPassword}
+use Rattle.des_commands.specs.declared.command.streams.Job.{Job}
+use Rattle.des_commands.specs.declared.streams.passwords.PasswordJob.{PasswordJob}
+use Rattle.des_lines.specs.declared.keys.Verdict.{Verdict}
+use Rattle.des_commands.specs.declared.outputs.notices.Notice.{Notice}
+use Rattle.des_lines.specs.Keys.{IsVerdict}
 use Rattle.des_commands.specs.Notices.{ruling_of, notice_line}
 use Rattle.des_commands.specs.Written.{AppendsPrefix}
 use Rattle.des_commands.specs.Jobs.{key_size_of, IsDone}

@@ -2,18 +2,18 @@
 use Rattle.std.specs.Prelude.{◌≡◌, ◌↔◌, ◌&&◌, ℕ, Bool, false, not, List, codes, IsTrue, IfOk, Option, Result, Ok, Err}
 use Rattle.std.specs.declared.vec.Vec.{Vec}
 use Rattle.std.specs.declared.alloc.Global.{Global}
-use Rattle.des_commands.specs.declared.fault.Fault.{Fault}
-use Rattle.des_commands.specs.declared.fault.FaultKind.{FaultKind}
-use Rattle.des_commands.specs.declared.fault.FaultKind.TheVariants.{CheckDigit}
-use Rattle.des_commands.specs.declared.command.Calculation.{Calculation}
-use Rattle.des_commands.specs.declared.command.Calculation.TheVariants.{Pin, Weak}
+use Rattle.des_lines.specs.declared.fault.Fault.{Fault}
+use Rattle.des_lines.specs.declared.fault.FaultKind.{FaultKind}
+use Rattle.des_lines.specs.declared.fault.FaultKind.TheVariants.{CheckDigit}
+use Rattle.des_lines.specs.declared.calculation.Calculation.{Calculation}
+use Rattle.des_lines.specs.declared.calculation.Calculation.TheVariants.{Pin, Weak}
 use Rattle.des_commands.specs.declared.command.CalculationRequest.{CalculationRequest}
-use Rattle.des_commands.specs.declared.command.Inputs.{Inputs}
-use Rattle.des_commands.specs.Tags.{status_after}
-use Rattle.des_commands.specs.CheckDigits.{lacks_check_digit}
-use Rattle.des_commands.specs.Lines.{IsLine, FailsAs}
+use Rattle.des_lines.specs.declared.calculation.Inputs.{Inputs}
+use Rattle.des_lines.specs.Tags.{status_after}
+use Rattle.des_lines.specs.CheckDigits.{lacks_check_digit}
+use Rattle.des_lines.specs.Lines.{IsLine, FailsAs}
 use Rattle.des_commands.specs.Names.{IsSubject}
-use Rattle.des_commands.specs.PinLines.{is_question}
+use Rattle.des_lines.specs.PinLines.{is_question}
 use Rattle.des_commands.specs.Written.{Saying, AppendsLinePrefix, IsShown}
 
 -- the fault of a kind, with what it is about

@@ -3,11 +3,11 @@ use Rattle.std.specs.Prelude.{◌≡◌, ◌⊎◌, ℕ, ◌≤◌, ◌<◌, ◌
 use Rattle.std.specs.List.{list_any}
 use Rattle.std.specs.Char.{is_ascii_digit, is_ascii_hexdigit}
 use Rattle.std.specs.Io.KnownBytes.{Consumes, IsAtEnd}
-use Rattle.des_commands.specs.declared.fault.Reason.{Reason}
-use Rattle.des_commands.specs.declared.fault.FaultKind.{FaultKind}
-use Rattle.des_commands.specs.declared.fault.FaultKind.TheVariants.{InputLength, Memory, Read, Source}
-use Rattle.des_commands.specs.declared.text_source.Source.{Source as Place}
-use Rattle.des_commands.specs.declared.text_source.Source.TheVariants.{StandardInput, File, Descriptor, Variable}
+use Rattle.des_lines.specs.declared.fault.Reason.{Reason}
+use Rattle.des_lines.specs.declared.fault.FaultKind.{FaultKind}
+use Rattle.des_lines.specs.declared.fault.FaultKind.TheVariants.{InputLength, Memory, Read, Source}
+use Rattle.des_commands.specs.declared.inputs.sources.Source.{Source as Place}
+use Rattle.des_commands.specs.declared.inputs.sources.Source.TheVariants.{StandardInput, File, Descriptor, Variable}
 use Rattle.des_passwords.specs.HexStreams.{is_space}
 
 -- what somebody writes between the digits of a secret or around them, as in 0x13:34 and "13-34": white space, marks and

@@ -3,28 +3,28 @@ use Rattle.std.specs.Prelude.{◌≡◌, ◌≢◌, ◌⊎◌, ℕ, Bool, true, 
 use Rattle.std.specs.Borrow.{Bor}
 use Rattle.des_io.specs.declared.padding.Padding.{Padding}
 use Rattle.des_io.specs.declared.padding.Padding.TheVariants.{Pkcs7, Iso7816, Zeros, Unpadded}
-use Rattle.des_commands.specs.declared.fault.Misuse.TheVariants.{Arguments, StandardInputTwice, VectorNeeded, VectorOfEcb, VectorOfPassword, RandomToDecrypt, FirstBlockToEncrypt, PartToEncrypt}
-use Rattle.des_commands.specs.declared.fault.FaultKind.{FaultKind}
-use Rattle.des_commands.specs.declared.fault.FaultKind.TheVariants.{Usage, Vector as WrongVector}
-use Rattle.des_commands.specs.declared.text_source.Source.{Source}
-use Rattle.des_commands.specs.declared.text_source.Source.TheVariants.{StandardInput, File}
-use Rattle.des_commands.specs.declared.stream_request.Cipher.{Cipher}
-use Rattle.des_commands.specs.declared.stream_request.Cipher.TheVariants.{Des, TdesEde2, TdesEde3}
-use Rattle.des_commands.specs.declared.stream_request.Vector.{Vector}
-use Rattle.des_commands.specs.declared.stream_request.Vector.TheVariants.{Bytes, Random, FirstBlock, OfPassword}
-use Rattle.des_commands.specs.declared.stream_request.StreamMode.{StreamMode}
-use Rattle.des_commands.specs.declared.stream_request.StreamMode.TheVariants.{Ecb, Cbc}
-use Rattle.des_commands.specs.declared.stream_request.Secret.{Secret}
-use Rattle.des_commands.specs.declared.stream_request.Secret.TheVariants.{Key, Password}
-use Rattle.des_commands.specs.declared.stream_request.BlockRange.{BlockRange}
-use Rattle.des_commands.specs.declared.stream_request.WeakKeys.{WeakKeys}
-use Rattle.des_commands.specs.declared.stream_request.WeakKeys.TheVariants.{Refuse, Warn, Accept}
-use Rattle.des_commands.specs.declared.stream_request.Output.{Output}
-use Rattle.des_commands.specs.declared.stream_request.Output.TheVariants.{Unnamed, StandardOutput, File as OutputFile}
-use Rattle.des_commands.specs.declared.stream_request.StreamRequest.{StreamRequest}
+use Rattle.des_lines.specs.declared.fault.Misuse.TheVariants.{Arguments, StandardInputTwice, VectorNeeded, VectorOfEcb, VectorOfPassword, RandomToDecrypt, FirstBlockToEncrypt, PartToEncrypt}
+use Rattle.des_lines.specs.declared.fault.FaultKind.{FaultKind}
+use Rattle.des_lines.specs.declared.fault.FaultKind.TheVariants.{Usage, Vector as WrongVector}
+use Rattle.des_commands.specs.declared.inputs.sources.Source.{Source}
+use Rattle.des_commands.specs.declared.inputs.sources.Source.TheVariants.{StandardInput, File}
+use Rattle.des_commands.specs.declared.command.streams.Cipher.{Cipher}
+use Rattle.des_commands.specs.declared.command.streams.Cipher.TheVariants.{Des, TdesEde2, TdesEde3}
+use Rattle.des_commands.specs.declared.command.streams.Vector.{Vector}
+use Rattle.des_commands.specs.declared.command.streams.Vector.TheVariants.{Bytes, Random, FirstBlock, OfPassword}
+use Rattle.des_commands.specs.declared.command.streams.StreamMode.{StreamMode}
+use Rattle.des_commands.specs.declared.command.streams.StreamMode.TheVariants.{Ecb, Cbc}
+use Rattle.des_commands.specs.declared.command.streams.Secret.{Secret}
+use Rattle.des_commands.specs.declared.command.streams.Secret.TheVariants.{Key, Password}
+use Rattle.des_commands.specs.declared.command.streams.BlockRange.{BlockRange}
+use Rattle.des_commands.specs.declared.command.streams.WeakKeys.{WeakKeys}
+use Rattle.des_commands.specs.declared.command.streams.WeakKeys.TheVariants.{Refuse, Warn, Accept}
+use Rattle.des_commands.specs.declared.command.streams.Output.{Output}
+use Rattle.des_commands.specs.declared.command.streams.Output.TheVariants.{Unnamed, StandardOutput, File as OutputFile}
+use Rattle.des_commands.specs.declared.command.streams.StreamRequest.{StreamRequest}
 use Rattle.des_commands.specs.declared.arguments.streams.StreamWords.{StreamWords}
 use Rattle.des_commands.specs.StreamRequests.{source_of}
-use Rattle.des_commands.specs.Texts.{bytes_of, digits_fault}
+use Rattle.des_lines.specs.Texts.{bytes_of, digits_fault}
 
 -- ---- words
 

@@ -3,17 +3,17 @@
 use Rattle.std.specs.Prelude.{◌≡◌, ℕ, ◌+◌, ◌-◌, ◌^◌, min, Bool, true, false, List, [], replicate, Option, Some, None}
 use Rattle.des_io.specs.declared.mode.Mode.{Mode}
 use Rattle.des_io.specs.declared.mode.Mode.TheVariants.{Ecb, Cbc}
-use Rattle.des_commands.specs.declared.text_source.Source.{Source}
-use Rattle.des_commands.specs.declared.stream_request.StreamMode.{StreamMode}
-use Rattle.des_commands.specs.declared.stream_request.StreamMode.TheVariants.{Ecb as InEcb, Cbc as InCbc}
-use Rattle.des_commands.specs.declared.stream_request.Vector.TheVariants.{Bytes, Random, FirstBlock}
-use Rattle.des_commands.specs.declared.stream_request.BlockRange.{BlockRange}
-use Rattle.des_commands.specs.declared.stream_request.Secret.{Secret}
-use Rattle.des_commands.specs.declared.stream_request.Secret.TheVariants.{Key, Password}
-use Rattle.des_commands.specs.declared.stream_request.StreamRequest.{StreamRequest}
-use Rattle.des_commands.specs.declared.stream_request.Job.{Job}
-use Rattle.des_commands.specs.declared.stream_request.Work.{Work}
-use Rattle.des_commands.specs.declared.stream_request.Work.TheVariants.{Encrypt, Decrypt}
+use Rattle.des_commands.specs.declared.inputs.sources.Source.{Source}
+use Rattle.des_commands.specs.declared.command.streams.StreamMode.{StreamMode}
+use Rattle.des_commands.specs.declared.command.streams.StreamMode.TheVariants.{Ecb as InEcb, Cbc as InCbc}
+use Rattle.des_commands.specs.declared.command.streams.Vector.TheVariants.{Bytes, Random, FirstBlock}
+use Rattle.des_commands.specs.declared.command.streams.BlockRange.{BlockRange}
+use Rattle.des_commands.specs.declared.command.streams.Secret.{Secret}
+use Rattle.des_commands.specs.declared.command.streams.Secret.TheVariants.{Key, Password}
+use Rattle.des_commands.specs.declared.command.streams.StreamRequest.{StreamRequest}
+use Rattle.des_commands.specs.declared.command.streams.Job.{Job}
+use Rattle.des_commands.specs.declared.command.streams.Work.{Work}
+use Rattle.des_commands.specs.declared.command.streams.Work.TheVariants.{Encrypt, Decrypt}
 
 -- where the key or the password is
 abbrev pub source_of : Secret → Source

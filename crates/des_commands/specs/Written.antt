@@ -4,11 +4,11 @@ use Rattle.std.specs.Prelude.{◌≡◌, ◌⊎◌, ℕ, List, codes, take, Opti
 use Rattle.std.specs.Io.KnownBytes.{Appends}
 use Rattle.std.specs.declared.vec.Vec.{Vec}
 use Rattle.std.specs.declared.alloc.Global.{Global}
-use Rattle.des_commands.specs.declared.fault.Reason.{Reason}
-use Rattle.des_commands.specs.declared.fault.FaultKind.{FaultKind}
-use Rattle.des_commands.specs.declared.fault.FaultKind.TheVariants.{Write}
-use Rattle.des_commands.specs.declared.fault.Fault.{Fault}
-use Rattle.des_commands.specs.Faults.{status_of, line_with}
+use Rattle.des_lines.specs.declared.fault.Reason.{Reason}
+use Rattle.des_lines.specs.declared.fault.FaultKind.{FaultKind}
+use Rattle.des_lines.specs.declared.fault.FaultKind.TheVariants.{Write}
+use Rattle.des_lines.specs.declared.fault.Fault.{Fault}
+use Rattle.des_lines.specs.Faults.{status_of, line_with}
 
 -- known bytes grow by a prefix of the text, none of it or the whole included, and by nothing else
 abbrev pub AppendsPrefix : Option (List ℕ) → Option (List ℕ) → List ℕ → Type 0

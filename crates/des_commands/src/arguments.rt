@@ -15,11 +15,12 @@ ghost use Rattle.std.specs.Prelude.{ℕ, List, Option, IfOk};
 ghost use Rattle.clap.specs.Matches.{subcommand_name_of};
 ghost use Rattle.des_commands.specs.CommandArguments.{HasDirectionOf};
 
-use crate::command::{Calculation, Command, MacRequest, Purpose, Question};
-use crate::fault::{Fault, Misuse};
+use crate::command::{Command, MacRequest, Question};
 use crate::mac::{Method, PaddingMethod};
 use argument_values::{count_of, is_set, place_of, text_of, texts_of};
 use clap::ArgMatches;
+use des_lines::calculation::{Calculation, Purpose};
+use des_lines::fault::{Fault, Misuse};
 use des_payment::dukpt::MessageDirection;
 pub use grammar::{known_name, names_of, parse};
 use key_blocks::key_block_request;

@@ -4,10 +4,10 @@ ghost use Rattle.std.specs.Prelude.{◌≡◌, ◌<◌, length, IfOk, IfErr};
 ghost use Rattle.des_commands.specs.Macs.{tag_over, tag_by, IsTagOfAll, FailsToAuthenticate, IsKeyOver, HasKeySize};
 
 use self::PaddingMethod::{One, Two};
-use crate::fault::{FaultKind, Reason};
 use des::cipher::KeyedCipher;
 use des_fast::{Des, TdesEde2, TdesEde3};
 use des_io::pieces::fill;
+use des_lines::fault::{FaultKind, Reason};
 use des_mac::{CbcMac, Cmac, Mac, Method1, Method2, RetailMac};
 use std::io::Read;
 

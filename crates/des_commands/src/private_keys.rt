@@ -5,11 +5,11 @@ ghost use Rattle.des_commands.specs.PrivateKeys.{extent_of as extent_by, is_sequ
 ghost use Rattle.des_passwords.specs.TextLines.{are_blanks as are_blanks_of};
 ghost use Rattle.des_commands.specs.DecryptedKeys.{IsPlain, IsDecryptedKey, FailsAsPrivateKey, private_key_fault};
 
-use crate::fault::{FaultKind, FileFault};
 use crate::streams::cipher_of;
 use base64::engine::general_purpose::STANDARD;
 use des_fast::TdesEde3;
 use des_io::{Mode, Padding, StreamError, Transformation, decrypt_stream};
+use des_lines::fault::{FaultKind, FileFault};
 use des_passwords::{KeyAndVector, Label};
 use std::alloc::{AllocError, Global};
 

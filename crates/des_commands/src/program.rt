@@ -1,19 +1,24 @@
 //! The program: what a command line asks for is done.
 
+mod calculations;
+mod mac;
+mod private_keys;
+mod streams;
+
 use crate::arguments::{command_of, parse};
-use crate::calculations_program::{calculation_status, parts_status};
 use crate::command::Command;
 use crate::descriptors::{NULL_DEVICE, hold_closed};
-use crate::fault::{Fault, FaultKind, Misuse};
-use crate::mac_program::mac_status;
-use crate::output::write_fault;
-use crate::private_key_program::private_key_status;
-use crate::report::tell;
-use crate::sentences::English;
-use crate::streams_program::stream_status;
+use crate::outputs::report::tell;
+use crate::outputs::sentences::English;
+use crate::outputs::targets::write_fault;
 use crate::usage::show_usage;
+use calculations::{calculation_status, parts_status};
+use des_lines::fault::{Fault, FaultKind, Misuse};
+use mac::mac_status;
+use private_keys::private_key_status;
 use std::process::ExitCode;
 use std::{env, io};
+use streams::stream_status;
 
 // Writes the line of a fault, and returns its status.
 fn tell_on(rt: &HostRuntime, fault: Fault) -> u8 {

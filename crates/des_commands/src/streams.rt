@@ -1,13 +1,15 @@
 //! A stream of bytes, encrypted or decrypted by a key, from a reader to a writer.
 
+pub mod passwords;
+pub mod progress_reader;
+
 ghost use Rattle.std.specs.Prelude.{◌<◌, length, IfOk, IfErr};
 ghost use Rattle.des.specs.Relations.{AnswerAlike};
 ghost use Rattle.des_io.specs.Streams.{passage_of};
 ghost use Rattle.des_commands.specs.Jobs.{GoesOnFromBlock, IsNamed, Does, IsDone};
 ghost use Rattle.des_commands.specs.JobFaults.{Stops, HasStopped};
 
-use crate::fault::FaultKind;
-use crate::stream_request::{Cipher, Job, Work};
+use crate::command::streams::{Cipher, Job, Work};
 use des::cipher::{KeyBytes, KeyedCipher, are_bytes};
 use des_fast::many::ManyBlocks;
 use des_fast::{Des, TdesEde2, TdesEde3};
@@ -15,6 +17,7 @@ use des_io::pieces::write_whole;
 use des_io::{
     Mode, StreamError, Transformation, decrypt_part, decrypt_stream, encrypt_stream, skip_blocks,
 };
+use des_lines::fault::FaultKind;
 use std::alloc::Global;
 use std::io::{Read, Write};
 

@@ -5,7 +5,8 @@ import re
 from .rattle import Crate, base, split_impl
 from .text import Refused, first_sentence, listed, table
 
-CRATES = ["des", "des_fast", "des_mac", "des_modes", "des_payment", "des_io", "des_passwords", "des_context", "des_c", "des_commands", "des_tool"]
+LIBRARIES = ["des", "des_fast", "des_mac", "des_modes", "des_payment", "des_io", "des_passwords"]
+CRATES = [*LIBRARIES, "des_context", "des_c", "des_lines", "des_commands", "des_tool"]
 
 # Crates whose modules no other crate names, and what they have instead.
 CLOSED = {

@@ -1,9 +1,9 @@
 //! The faults of options that don't go together.
 
 ghost use Rattle.std.specs.Prelude.{◌≡◌, true, false, IfOk, IfErr};
-ghost use Rattle.des_commands.specs.declared.fault.FaultKind.TheVariants.{Usage};
+ghost use Rattle.des_lines.specs.declared.fault.FaultKind.TheVariants.{Usage};
 
-use crate::fault::{Fault, FaultKind, Misuse};
+use des_lines::fault::{Fault, FaultKind, Misuse};
 
 /// Options that don't go together.
 pub fn misuse<'a>(misuse: Misuse, about: &'a str) -> Fault<'a>

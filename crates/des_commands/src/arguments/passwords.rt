@@ -3,16 +3,16 @@
 ghost use Rattle.std.specs.Prelude.{◌≡◌, ℕ, IfSome, IfNone};
 ghost use Rattle.des_passwords.specs.declared.derivation.Derivation.{Derivation as DerivationOf};
 ghost use Rattle.des_commands.specs.PasswordArguments.{IsCount, IsCountedText, IsDerivationText, count_of as count_by, is_to_encrypt as is_to_encrypt_of, derivation_fault};
-ghost use Rattle.des_commands.specs.Faults.{FailsOnlyBy};
+ghost use Rattle.des_lines.specs.Faults.{FailsOnlyBy};
 
 use super::argument_values::{is_given, is_set, text_of};
 use super::misuse::{misuse, refuse};
 use super::sources::{KEY, input_at, names_one, one_of, output_of, read_once};
+use crate::command::streams::{Password, Secret};
 use crate::command::{KeyForm, PrivateKeyRequest};
-use crate::fault::{Fault, FaultKind, Misuse};
-use crate::stream_request::{Password, Secret};
-use crate::text_source::Source;
+use crate::inputs::sources::Source;
 use clap::ArgMatches;
+use des_lines::fault::{Fault, FaultKind, Misuse};
 use des_passwords::Derivation;
 use des_passwords::encrypted_keys::MOST_ITERATIONS;
 

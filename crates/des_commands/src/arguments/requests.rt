@@ -1,17 +1,18 @@
 //! The requests of calculations: their input, and the key and the account number beside it.
 
 ghost use Rattle.std.specs.Prelude.{◌≡◌, ◌<◌, ◌≤◌, length, filter, IfOk, IfErr};
-ghost use Rattle.des_commands.specs.declared.fault.FaultKind.TheVariants.{Usage};
-ghost use Rattle.des_commands.specs.declared.fault.Misuse.TheVariants.{StandardInputTwice};
+ghost use Rattle.des_lines.specs.declared.fault.FaultKind.TheVariants.{Usage};
+ghost use Rattle.des_lines.specs.declared.fault.Misuse.TheVariants.{StandardInputTwice};
 ghost use Rattle.des_commands.specs.CommandArguments.{is_standard_input as is_standard_input_of, source_of as source_of_account, standard_inputs};
 
 use super::argument_values::text_of;
 use super::misuse::misuse;
 use super::sources::{file_of, is_standard_input, key_of};
-use crate::command::{Account, Calculation, CalculationRequest};
-use crate::fault::{Fault, Misuse};
-use crate::text_source::Source;
+use crate::command::{Account, CalculationRequest};
+use crate::inputs::sources::Source;
 use clap::ArgMatches;
+use des_lines::calculation::Calculation;
+use des_lines::fault::{Fault, Misuse};
 
 /// The request of a calculation, or the fault of its words.
 pub type Requested<'a> = Result<CalculationRequest<'a>, Fault<'a>>;

@@ -1,17 +1,17 @@
 //! Where keys and inputs are, and where the output goes, by the options that name them.
 
 ghost use Rattle.std.specs.Prelude.{◌≡◌, Some, IfOk, IfErr};
-ghost use Rattle.des_commands.specs.declared.fault.FaultKind.TheVariants.{Usage};
-ghost use Rattle.des_commands.specs.declared.fault.Misuse.TheVariants.{StandardInputTwice};
+ghost use Rattle.des_lines.specs.declared.fault.FaultKind.TheVariants.{Usage};
+ghost use Rattle.des_lines.specs.declared.fault.Misuse.TheVariants.{StandardInputTwice};
 ghost use Rattle.des_commands.specs.StreamArguments.{IsInput, IsOutput, IsReadTwice};
 ghost use Rattle.des_commands.specs.CommandArguments.{is_standard_input as is_standard_input_of};
 
 use super::argument_values::{is_given, number_of, text_of};
 use super::misuse::misuse;
-use crate::fault::{Fault, Misuse};
-use crate::stream_request::Output;
-use crate::text_source::Source;
+use crate::command::streams::Output;
+use crate::inputs::sources::Source;
 use clap::ArgMatches;
+use des_lines::fault::{Fault, Misuse};
 
 /// The options that name where a key is: a file, a descriptor and a variable, as `one_of` takes them.
 pub const KEY: [&str; 3] = ["key-file", "key-fd", "key-env"];

@@ -2,10 +2,10 @@
 
 ghost use Rattle.std.specs.Prelude.{◌≡◌, ◌≢◌, Bool, codes, IfSome, IfNone, IfOk, IfErr};
 ghost use Rattle.des_io.specs.declared.padding.Padding.{Padding as PaddingOf};
-ghost use Rattle.des_commands.specs.declared.stream_request.Cipher.{Cipher as CipherOf};
-ghost use Rattle.des_commands.specs.declared.stream_request.WeakKeys.{WeakKeys as WeakKeysOf};
-ghost use Rattle.des_commands.specs.declared.fault.FaultKind.TheVariants.{Usage};
-ghost use Rattle.des_commands.specs.declared.fault.Misuse.TheVariants.{Arguments};
+ghost use Rattle.des_commands.specs.declared.command.streams.Cipher.{Cipher as CipherOf};
+ghost use Rattle.des_commands.specs.declared.command.streams.WeakKeys.{WeakKeys as WeakKeysOf};
+ghost use Rattle.des_lines.specs.declared.fault.FaultKind.TheVariants.{Usage};
+ghost use Rattle.des_lines.specs.declared.fault.Misuse.TheVariants.{Arguments};
 ghost use Rattle.des_commands.specs.StreamArguments.{cipher_name, padding_word, weak_keys_word, default_weak_keys, text_or, part_for};
 ghost use Rattle.des_commands.specs.StreamArguments.{IsVector, FailsAsVector, IsMode, FailsAsMode};
 ghost use Rattle.des_commands.specs.StreamArguments.{IsRequest, FailsAsRequest};
@@ -14,13 +14,13 @@ use super::argument_values::{is_set, number_of, place_of, text_of};
 use super::misuse::misuse;
 use super::passwords::secret_of;
 use super::sources::{input_of, output_of, read_once};
-use crate::digits::bytes_of;
-use crate::fault::{Fault, FaultKind, Misuse};
-use crate::stream_request::{
+use crate::command::streams::{
     BlockRange, Cipher, Coding, Secret, StreamMode, StreamRequest, Vector, WeakKeys,
 };
 use clap::ArgMatches;
 use des_io::Padding;
+use des_lines::digits::bytes_of;
+use des_lines::fault::{Fault, FaultKind, Misuse};
 
 /// The words of a command line that asks for a stream, as they were typed.
 #[derive(Clone, Copy)]

@@ -1,8 +1,8 @@
 use Rattle.std.proofs.Common.{rules, ◌≡◌, ◌≢◌, codes, inr, refl}
 use Rattle.std.proofs.lemmas.Result.{err_from_is_err_and}
-use Rattle.des_commands.specs.declared.fault.FaultKind.TheVariants.{Vector as WrongVector}
-use Rattle.des_commands.specs.Texts.{digits_fault}
-use Rattle.des_commands.proofs.Faults.{some_from}
+use Rattle.des_lines.specs.declared.fault.FaultKind.TheVariants.{Vector as WrongVector}
+use Rattle.des_lines.specs.Texts.{digits_fault}
+use Rattle.des_lines.proofs.Faults.{some_from}
 use Rattle.des_commands.proofs.arguments.streams.vector_of.Goals as goal
 
 -- the text is neither word, and its digits are at fault

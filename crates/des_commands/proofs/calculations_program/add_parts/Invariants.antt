@@ -1,9 +1,0 @@
-use Rattle.std.proofs.Common.{IfSome}
-use Rattle.des_commands.specs.Keys.{IsKeySize}
-use Rattle.des_commands.proofs.calculations_program.add_parts.Given as goal
-
--- the first component says how many bytes each has
-abbrev pub invariant-loop-path : goal.invariant-loop-path
-invariant-loop-path l = record {
-  size : IfSome l.size IsKeySize;
-}

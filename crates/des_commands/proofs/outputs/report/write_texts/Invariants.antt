@@ -1,0 +1,11 @@
+use Rattle.std.proofs.Common.{take}
+use Rattle.std.specs.List.{flat_map}
+use Rattle.std.specs.Io.KnownBytes.{Appends}
+use Rattle.des_commands.proofs.outputs.report.write_texts.Given as goal
+
+-- the texts before the index are written
+abbrev pub invariant-loop-text : goal.invariant-loop-text
+invariant-loop-text g l = record {
+  written : Appends (g.W.Write.contents l.initial.out) (g.W.Write.contents l.out)
+      (flat_map (λ text. text.now) (take l.text-index l.texts));
+}

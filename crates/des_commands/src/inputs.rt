@@ -1,0 +1,5 @@
+//! What the program reads: files, and texts in their sources.
+
+pub mod files;
+pub mod secrets;
+pub mod sources;

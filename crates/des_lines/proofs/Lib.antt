@@ -1,0 +1,9 @@
+pub mod Faults
+pub mod Verdicts
+pub mod Components
+pub mod CheckDigits
+pub mod KeyVerdicts
+pub mod OptionalLines
+pub mod ProtectionSizes
+pub mod WrapFaults
+pub mod UnwrapFaults

@@ -1,0 +1,27 @@
+-- How the line of a block is made of texts, or not.
+use Rattle.std.proofs.Common.{◌≡◌, ℕ, None, Result, List, IfOk, Ok, Err}
+use Rattle.std.specs.declared.vec.Vec.{Vec}
+use Rattle.std.specs.declared.alloc.Global.{Global}
+use Rattle.des_payment.specs.declared.key_block_header.Header.{Header}
+use Rattle.des_lines.specs.declared.calculation.Inputs.{Inputs}
+use Rattle.des_lines.specs.declared.calculation.Wrapping.{Wrapping}
+use Rattle.des_lines.specs.declared.fault.FaultKind.{FaultKind}
+use Rattle.des_lines.specs.Texts.{bytes_of}
+use Rattle.des_lines.specs.KeyBlockLines.{IsHeaderOf, IsMadeLine, IsWrapped, FailsAsMade, FailsAsWrapped, texts_fault}
+
+module _ (wrapping : Wrapping) (inputs : Inputs) (header : Header) (bytes optional key : List ℕ)
+    (is_protection : bytes ≡ bytes_of inputs.key.now) (is_key : key ≡ bytes_of inputs.text.now)
+    (is_optional : optional ≡ wrapping.optional.now) (fields : IsHeaderOf wrapping header) where
+  pub wrap-fails : (result : Result (Vec ℕ Global) FaultKind) → texts_fault wrapping inputs ≡ None
+      → FailsAsMade bytes header optional key inputs.random.now result
+      → FailsAsWrapped wrapping inputs result
+  wrap-fails result none fails =
+      let made = rw (is_protection, is_key, is_optional) at fails in
+      rw none (header, (fields, made))
+
+  pub wrap-made : (result : Result (Vec ℕ Global) FaultKind)
+      → IfOk result (λ line. IsMadeLine bytes header optional key inputs.random.now line.items)
+      → IfOk result (λ line. IsWrapped wrapping inputs line.items)
+  wrap-made (Ok line) made =
+      record { header = header; fields = fields; made = rw (is_protection, is_key, is_optional) at made }
+  wrap-made (Err kind) made = tt

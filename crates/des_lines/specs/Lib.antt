@@ -1,0 +1,9 @@
+pub mod Texts
+pub mod Faults
+pub mod PinLines
+pub mod EmvLines
+pub mod Lines
+pub mod Keys
+pub mod CheckDigits
+pub mod Tags
+pub mod KeyBlockLines

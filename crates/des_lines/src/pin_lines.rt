@@ -1,0 +1,248 @@
+//! The lines of calculations with PINs and keys: PIN blocks under another key, PIN verification values,
+//! natural PINs and offsets.
+
+ghost use Rattle.std.specs.Prelude.{◌≡◌, IfOk};
+ghost use Rattle.des_payment.specs.Texts.{values, number_fault};
+ghost use Rattle.des_lines.specs.Texts.{bytes_of as bytes_of_text, hex_line as hex_line_of, text_line};
+ghost use Rattle.des_lines.specs.Faults.{FailsBy, FailsOnlyBy};
+ghost use Rattle.des_lines.specs.PinLines.{fill_for as fill_by, fill_text_fault, translated_fault, rekeyed_by, rekeyed_fault, table_text_fault};
+ghost use Rattle.des_lines.specs.PinLines.{pvv_of, pvv_fault, HasPvv, pvv_verdict_fault, natural_pin_by, natural_fault};
+ghost use Rattle.des_lines.specs.PinLines.{offset_by, offset_fault, HasOffset, offset_verdict_fault, IsVerdictLine, TellsOutcome};
+ghost use Rattle.des_lines.specs.PinLines.{pin_line_fault, IsPinLine, validation_fault};
+
+use crate::calculation::{Inputs, NaturalPins, PinCalculation};
+use crate::check_digit::are_digits;
+use crate::digits::{Lines, bytes_of, fill_of, hex_line, line_of};
+use crate::fault::FaultKind;
+use crate::keys::{pair_of, read_key};
+use crate::tags::{RIGHT, WRONG};
+use des_payment::pin_verification::{natural_pin, pin_offset, pvv, verify_offset, verify_pvv};
+use des_payment::translation::{Format, translate, translate_format_1};
+use des_payment::{DecimalTable, Pin, VerificationError};
+use std::alloc::Global;
+
+/// The line of a calculation with a PIN and a key.
+///
+/// Every fault but `Memory` is found before any memory is asked for.
+pub fn pin_line(alloc: Global, calculation: PinCalculation, inputs: Inputs) -> Lines
+    ensures fault { FailsBy (pin_line_fault calculation.entry inputs.entry) result }
+    ensures line { IfOk result (λ line. IsPinLine calculation.entry inputs.entry line.items) }
+{
+    match calculation {
+        PinCalculation::Translate { from, to, fill } => {
+            translated_line(alloc, from, to, fill, inputs)
+        }
+        PinCalculation::TranslateFormat1 => rekeyed_line(alloc, inputs),
+        PinCalculation::MakePvv { index } => pvv_line(alloc, index, inputs),
+        PinCalculation::VerifyPvv { index, value } => pvv_verdict(alloc, index, value, inputs),
+        PinCalculation::Natural { by, count } => natural_line(alloc, by, count, inputs.text),
+        PinCalculation::MakeOffset { by } => offset_line(alloc, by, inputs),
+        PinCalculation::VerifyOffset { by, offset } => offset_verdict(alloc, by, offset, inputs),
+    }
+}
+
+// ---- PIN blocks
+
+fn fill_for(to: Format, fill: &str) -> Result<[u8; 10], FaultKind>
+    ensures fault { FailsOnlyBy (fill_text_fault to fill.now) result }
+    ensures digits { IfOk result (λ digits. digits ≡ fill_by to fill.now) }
+{
+    match to {
+        Format::Format3 => fill_of(fill),
+        _ => Ok([15; 10]),
+    }
+}
+
+fn translated_line(alloc: Global, from: Format, to: Format, fill: &str, inputs: Inputs) -> Lines
+    ensures fault { FailsBy (translated_fault from to fill.now inputs.entry) result }
+    ensures line { IfOk result (λ line.
+        IsPinLine (PinCalculation.Translate from to fill.entry) inputs.entry line.items) }
+{
+    let mut key = [0u8; 24];
+    let size = read_key(
+        inputs.key,
+        &mut key,
+        FaultKind::KeyLength(None),
+        FaultKind::KeyText,
+    )?;
+    let mut outgoing = [0u8; 24];
+    let to_size = read_key(
+        inputs.to_key,
+        &mut outgoing,
+        FaultKind::ToKeyLength,
+        FaultKind::ToKeyText,
+    )?;
+    let block = bytes_of::<8>(inputs.text, FaultKind::BlockLength, FaultKind::BlockText)?;
+    let fill = fill_for(to, fill)?;
+    let answer = translate(
+        &key[..size],
+        from,
+        &outgoing[..to_size],
+        to,
+        inputs.account,
+        &fill,
+        &block,
+    )?;
+    Ok(hex_line(alloc, &answer)?)
+}
+
+fn rekeyed_line(alloc: Global, inputs: Inputs) -> Lines
+    ensures fault { FailsBy (rekeyed_fault inputs.entry) result }
+    ensures line { IfOk result (λ line. line.items ≡ hex_line_of (rekeyed_by inputs.entry)) }
+{
+    let mut key = [0u8; 24];
+    let size = read_key(
+        inputs.key,
+        &mut key,
+        FaultKind::KeyLength(None),
+        FaultKind::KeyText,
+    )?;
+    let mut outgoing = [0u8; 24];
+    let to_size = read_key(
+        inputs.to_key,
+        &mut outgoing,
+        FaultKind::ToKeyLength,
+        FaultKind::ToKeyText,
+    )?;
+    let block = bytes_of::<8>(inputs.text, FaultKind::BlockLength, FaultKind::BlockText)?;
+    let answer = translate_format_1(&key[..size], &outgoing[..to_size], &block)?;
+    Ok(hex_line(alloc, &answer)?)
+}
+
+// ---- PIN verification values
+
+// The line of a verification, or its fault.
+fn verdict(alloc: Global, outcome: Result<(), VerificationError>) -> Lines
+    ensures { TellsOutcome outcome result }
+{
+    match outcome {
+        Ok(()) => Ok(Vec::from_slice(alloc, RIGHT.as_bytes())?),
+        Err(VerificationError::WrongPin) => Ok(Vec::from_slice(alloc, WRONG.as_bytes())?),
+        Err(error) => Err(FaultKind::Verification(error)),
+    }
+}
+
+fn value_of(text: &str) -> Result<[u8; 4], FaultKind>
+    ensures fault { FailsOnlyBy (number_fault 4 4 FaultKind.Value FaultKind.Value text.now) result }
+    ensures value { IfOk result (λ value. value ≡ text.now) }
+{
+    if !are_digits(text.as_bytes()) {
+        return Err(FaultKind::Value);
+    }
+    <[u8; 4]>::try_from(text.as_bytes()).map_err(|_| FaultKind::Value)
+}
+
+fn pvv_line(alloc: Global, index: u8, inputs: Inputs) -> Lines
+    ensures fault { FailsBy (pvv_fault index inputs.entry) result }
+    ensures line { IfOk result (λ line. line.items ≡ text_line (pvv_of index inputs.entry)) }
+{
+    let key = pair_of(inputs.key)?;
+    let pin = Pin::new(inputs.text)?;
+    let value = pvv(&key, inputs.account, index, &pin)?;
+    Ok(line_of(alloc, &value)?)
+}
+
+fn pvv_verdict(alloc: Global, index: u8, value: &str, inputs: Inputs) -> Lines
+    ensures fault { FailsBy (pvv_verdict_fault index value.now inputs.entry) result }
+    ensures line { IfOk result (λ line.
+        IsVerdictLine (HasPvv index value.now inputs.entry) line.items) }
+{
+    let key = pair_of(inputs.key)?;
+    let pin = Pin::new(inputs.text)?;
+    let value = value_of(value)?;
+    let outcome = verify_pvv(&key, inputs.account, index, &pin, &value);
+    verdict(alloc, outcome)
+}
+
+// ---- natural PINs and offsets
+
+// The validation data that digits write.
+fn validation_of(by: NaturalPins) -> Result<[u8; 8], FaultKind>
+    ensures fault { FailsOnlyBy (validation_fault by.entry) result }
+    ensures bytes { IfOk result (λ bytes. bytes ≡ bytes_of_text by.entry.validation.now) }
+{
+    bytes_of::<8>(
+        by.validation.as_bytes(),
+        FaultKind::Validation,
+        FaultKind::Validation,
+    )
+}
+
+// The decimalization table of digits.
+fn table_of(by: NaturalPins) -> Result<DecimalTable, FaultKind>
+    ensures fault { FailsOnlyBy (table_text_fault by.entry) result }
+    ensures table { IfOk result (λ table. table ≡ values by.entry.table.now) }
+{
+    let text = by.table.as_bytes();
+    let table = if by.takes_any_table {
+        DecimalTable::of_any_variety(text)?
+    } else {
+        DecimalTable::new(text)?
+    };
+    Ok(table)
+}
+
+// The line of the natural PIN of `count` digits under the key that digits write.
+fn natural_line(alloc: Global, by: NaturalPins, count: u8, digits: &[u8]) -> Lines
+    ensures fault { FailsBy (natural_fault by.entry count digits.now) result }
+    ensures line { IfOk result (λ line.
+        line.items ≡ text_line (natural_pin_by by.entry count digits.now)) }
+{
+    let mut key = [0u8; 24];
+    let size = read_key(
+        digits,
+        &mut key,
+        FaultKind::KeyLength(None),
+        FaultKind::KeyText,
+    )?;
+    let validation = validation_of(by)?;
+    let table = table_of(by)?;
+    let pin = natural_pin(&key[..size], &table, &validation, count as usize)?;
+    Ok(line_of(alloc, pin.text())?)
+}
+
+fn offset_line(alloc: Global, by: NaturalPins, inputs: Inputs) -> Lines
+    ensures fault { FailsBy (offset_fault by.entry inputs.entry) result }
+    ensures line { IfOk result (λ line. line.items ≡ text_line (offset_by by.entry inputs.entry)) }
+{
+    let mut key = [0u8; 24];
+    let size = read_key(
+        inputs.key,
+        &mut key,
+        FaultKind::KeyLength(None),
+        FaultKind::KeyText,
+    )?;
+    let pin = Pin::new(inputs.text)?;
+    let validation = validation_of(by)?;
+    let table = table_of(by)?;
+    let offset = pin_offset(&key[..size], &table, &validation, &pin)?;
+    Ok(line_of(alloc, offset.text())?)
+}
+
+// The offset that a text writes, which has a PIN's form.
+fn given_offset(text: &str) -> Result<Pin, FaultKind>
+    ensures fault { FailsOnlyBy (number_fault 4 12 FaultKind.Offset FaultKind.Offset text.now) result }
+    ensures offset { IfOk result (λ offset. offset ≡ text.now) }
+{
+    Pin::new(text.as_bytes()).map_err(|_| FaultKind::Offset)
+}
+
+fn offset_verdict(alloc: Global, by: NaturalPins, offset: &str, inputs: Inputs) -> Lines
+    ensures fault { FailsBy (offset_verdict_fault by.entry offset.now inputs.entry) result }
+    ensures line { IfOk result (λ line.
+        IsVerdictLine (HasOffset by.entry offset.now inputs.entry) line.items) }
+{
+    let mut key = [0u8; 24];
+    let size = read_key(
+        inputs.key,
+        &mut key,
+        FaultKind::KeyLength(None),
+        FaultKind::KeyText,
+    )?;
+    let pin = Pin::new(inputs.text)?;
+    let validation = validation_of(by)?;
+    let table = table_of(by)?;
+    let offset = given_offset(offset)?;
+    let outcome = verify_offset(&key[..size], &table, &validation, &pin, &offset);
+    verdict(alloc, outcome)
+}
