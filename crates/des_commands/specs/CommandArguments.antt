@@ -1,12 +1,12 @@
 -- What the words of a command line are: the direction of a stream, and which inputs are standard input.
 use Rattle.std.specs.Prelude.{◌≡◌, ◌⊎◌, ℕ, Bool, true, false, List, [], ◌∷◌, length, filter, codes, Option, Some, None, ⊤}
-use Rattle.des_commands.specs.declared.command.Account.{Account}
-use Rattle.des_commands.specs.declared.command.Account.TheVariants.{In}
-use Rattle.des_commands.specs.declared.command.CalculationRequest.{CalculationRequest}
+use Rattle.des_lines.specs.declared.requests.Account.{Account}
+use Rattle.des_lines.specs.declared.requests.Account.TheVariants.{In}
+use Rattle.des_lines.specs.declared.requests.CalculationRequest.{CalculationRequest}
 use Rattle.des_commands.specs.declared.command.Command.{Command}
 use Rattle.des_commands.specs.declared.command.Command.TheVariants.{Stream}
-use Rattle.des_commands.specs.declared.inputs.sources.Source.{Source}
-use Rattle.des_commands.specs.declared.inputs.sources.Source.TheVariants.{StandardInput}
+use Rattle.des_lines.specs.declared.source.Source.{Source}
+use Rattle.des_lines.specs.declared.source.Source.TheVariants.{StandardInput}
 
 -- a stream is encrypted or decrypted as the command's name says
 abbrev pub HasDirectionOf : Option (List ℕ) → Command → Type 0

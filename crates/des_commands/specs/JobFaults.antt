@@ -13,7 +13,7 @@ use Rattle.des_commands.specs.declared.command.streams.Job.{Job}
 use Rattle.des_commands.specs.declared.command.streams.Work.{Work}
 use Rattle.des_commands.specs.declared.command.streams.Work.TheVariants.{Encrypt, Decrypt}
 use Rattle.des_lines.specs.Faults.{IsOfStream}
-use Rattle.des_commands.specs.Written.{AppendsPrefix}
+use Rattle.des_lines.specs.Written.{AppendsPrefix}
 use Rattle.des_commands.specs.Jobs.{key_size_of, AreOfKey}
 
 -- nothing was read, and nothing was written

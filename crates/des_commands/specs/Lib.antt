@@ -1,4 +1,3 @@
-pub mod Written
 pub mod Macs
 pub mod Sources
 pub mod Descriptors
@@ -9,8 +8,6 @@ pub mod JobFaults
 pub mod StreamRequests
 pub mod StreamArguments
 pub mod CommandArguments
-pub mod Runs
-pub mod Names
 pub mod PasswordArguments
 pub mod PasswordStreams
 pub mod PrivateKeys

@@ -13,7 +13,7 @@ use Rattle.des_commands.specs.declared.command.streams.WeakKeys.{WeakKeys}
 use Rattle.des_commands.specs.declared.command.streams.WeakKeys.TheVariants.{Refuse, Warn}
 use Rattle.des_lines.specs.Faults.{line_with}
 use Rattle.des_lines.specs.Keys.{IsVerdict}
-use Rattle.des_commands.specs.Written.{AppendsPrefix}
+use Rattle.des_lines.specs.Written.{AppendsPrefix}
 
 -- ---- lines
 

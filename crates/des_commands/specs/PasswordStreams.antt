@@ -14,7 +14,7 @@ use Rattle.des_lines.specs.declared.keys.Verdict.{Verdict}
 use Rattle.des_commands.specs.declared.outputs.notices.Notice.{Notice}
 use Rattle.des_lines.specs.Keys.{IsVerdict}
 use Rattle.des_commands.specs.Notices.{ruling_of, notice_line}
-use Rattle.des_commands.specs.Written.{AppendsPrefix}
+use Rattle.des_lines.specs.Written.{AppendsPrefix}
 use Rattle.des_commands.specs.Jobs.{key_size_of, IsDone}
 use Rattle.des_commands.specs.StreamRequests.{IsJobOf}
 use Rattle.des_commands.specs.JobFaults.{IsUntouched, HasStopped}

@@ -6,8 +6,8 @@ use Rattle.des_io.specs.declared.padding.Padding.TheVariants.{Pkcs7, Iso7816, Ze
 use Rattle.des_lines.specs.declared.fault.Misuse.TheVariants.{Arguments, StandardInputTwice, VectorNeeded, VectorOfEcb, VectorOfPassword, RandomToDecrypt, FirstBlockToEncrypt, PartToEncrypt}
 use Rattle.des_lines.specs.declared.fault.FaultKind.{FaultKind}
 use Rattle.des_lines.specs.declared.fault.FaultKind.TheVariants.{Usage, Vector as WrongVector}
-use Rattle.des_commands.specs.declared.inputs.sources.Source.{Source}
-use Rattle.des_commands.specs.declared.inputs.sources.Source.TheVariants.{StandardInput, File}
+use Rattle.des_lines.specs.declared.source.Source.{Source}
+use Rattle.des_lines.specs.declared.source.Source.TheVariants.{StandardInput, File}
 use Rattle.des_commands.specs.declared.command.streams.Cipher.{Cipher}
 use Rattle.des_commands.specs.declared.command.streams.Cipher.TheVariants.{Des, TdesEde2, TdesEde3}
 use Rattle.des_commands.specs.declared.command.streams.Vector.{Vector}

@@ -3,7 +3,7 @@
 use Rattle.std.specs.Prelude.{◌≡◌, ℕ, ◌+◌, ◌-◌, ◌^◌, min, Bool, true, false, List, [], replicate, Option, Some, None}
 use Rattle.des_io.specs.declared.mode.Mode.{Mode}
 use Rattle.des_io.specs.declared.mode.Mode.TheVariants.{Ecb, Cbc}
-use Rattle.des_commands.specs.declared.inputs.sources.Source.{Source}
+use Rattle.des_lines.specs.declared.source.Source.{Source}
 use Rattle.des_commands.specs.declared.command.streams.StreamMode.{StreamMode}
 use Rattle.des_commands.specs.declared.command.streams.StreamMode.TheVariants.{Ecb as InEcb, Cbc as InCbc}
 use Rattle.des_commands.specs.declared.command.streams.Vector.TheVariants.{Bytes, Random, FirstBlock}

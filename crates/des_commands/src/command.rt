@@ -2,9 +2,9 @@
 
 pub mod streams;
 
-use crate::inputs::sources::Source;
 use crate::mac::Method;
-use des_lines::calculation::Calculation;
+use des_lines::requests::CalculationRequest;
+use des_lines::source::Source;
 use streams::{Output, StreamRequest};
 
 /// What a command line asks for.
@@ -60,30 +60,4 @@ pub enum Question<'a> {
     Print(u8),
     /// Whether these are the digits of its first bytes.
     Verify(&'a str),
-}
-
-/// Where an account number is.
-#[derive(Clone, Copy)]
-pub enum Account<'a> {
-    /// The command takes none.
-    Absent,
-    /// In an argument.
-    Digits(&'a str),
-    /// In a file.
-    In(Source<'a>),
-}
-
-/// A calculation, and where its inputs are.
-#[derive(Clone, Copy)]
-pub struct CalculationRequest<'a> {
-    pub calculation: Calculation<'a>,
-    /// Where the key, the components, the PIN, the block or the data are.
-    pub input: Source<'a>,
-    /// Where the key is, if the input is something else.
-    pub key: Option<Source<'a>>,
-    /// Where the key of an outgoing block is.
-    pub to_key: Option<Source<'a>>,
-    pub account: Account<'a>,
-    /// An account number whose last digit is not its check digit is refused.
-    pub refuses_wrong_check_digit: bool,
 }

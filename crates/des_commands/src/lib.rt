@@ -3,7 +3,6 @@
 #![tactic(auto)]
 
 mod arguments;
-mod calculations;
 mod command;
 mod descriptors;
 mod inputs;

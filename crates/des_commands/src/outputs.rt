@@ -1,8 +1,6 @@
-//! What the program writes: files, results, faults, notices and progress.
+//! What the program writes: files, notices and progress.
 
 mod inodes;
 pub mod notices;
 pub mod progress;
-pub mod report;
-pub mod sentences;
 pub mod targets;

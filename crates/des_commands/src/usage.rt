@@ -2,10 +2,10 @@
 //! that were typed is shown if it may be a key.
 
 use crate::arguments::{known_name, names_of, parse};
-use crate::outputs::report::{send, show, tell};
-use crate::outputs::sentences::English;
 use clap::error::ErrorKind;
 use des_lines::fault::{Fault, FaultKind, Misuse};
+use des_lines::report::{send, show, tell};
+use des_lines::sentences::English;
 use std::alloc::AllocError;
 
 const USAGE: u8 = 2;

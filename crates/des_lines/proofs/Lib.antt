@@ -7,3 +7,4 @@ pub mod OptionalLines
 pub mod ProtectionSizes
 pub mod WrapFaults
 pub mod UnwrapFaults
+pub mod Prefixes

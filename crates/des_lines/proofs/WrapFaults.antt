@@ -3,8 +3,8 @@ use Rattle.std.proofs.Common.{◌≡◌, ℕ, None, Result, List, IfOk, Ok, Err}
 use Rattle.std.specs.declared.vec.Vec.{Vec}
 use Rattle.std.specs.declared.alloc.Global.{Global}
 use Rattle.des_payment.specs.declared.key_block_header.Header.{Header}
-use Rattle.des_lines.specs.declared.calculation.Inputs.{Inputs}
-use Rattle.des_lines.specs.declared.calculation.Wrapping.{Wrapping}
+use Rattle.des_lines.specs.declared.requests.Inputs.{Inputs}
+use Rattle.des_lines.specs.declared.requests.Wrapping.{Wrapping}
 use Rattle.des_lines.specs.declared.fault.FaultKind.{FaultKind}
 use Rattle.des_lines.specs.Texts.{bytes_of}
 use Rattle.des_lines.specs.KeyBlockLines.{IsHeaderOf, IsMadeLine, IsWrapped, FailsAsMade, FailsAsWrapped, texts_fault}

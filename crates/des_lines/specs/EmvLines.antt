@@ -4,11 +4,11 @@ use Rattle.std.specs.Option.{option_map, option_or}
 use Rattle.std.specs.declared.vec.Vec.{Vec}
 use Rattle.std.specs.declared.alloc.Global.{Global}
 use Rattle.des_payment.specs.CardCryptograms.{card_key, card_key_b, card_fault, application_key, session_key, cryptogram, response_1, response_2}
-use Rattle.des_lines.specs.declared.calculation.Inputs.{Inputs}
-use Rattle.des_lines.specs.declared.calculation.CardKeyOption.{CardKeyOption}
-use Rattle.des_lines.specs.declared.calculation.CardKeyOption.TheVariants.{A, B}
-use Rattle.des_lines.specs.declared.calculation.EmvCalculation.{EmvCalculation}
-use Rattle.des_lines.specs.declared.calculation.EmvCalculation.TheVariants.{CardKey, ApplicationKey, SessionKey, Cryptogram as MakeCryptogram, Response1, Response2}
+use Rattle.des_lines.specs.declared.requests.Inputs.{Inputs}
+use Rattle.des_lines.specs.declared.requests.CardKeyOption.{CardKeyOption}
+use Rattle.des_lines.specs.declared.requests.CardKeyOption.TheVariants.{A, B}
+use Rattle.des_lines.specs.declared.requests.EmvCalculation.{EmvCalculation}
+use Rattle.des_lines.specs.declared.requests.EmvCalculation.TheVariants.{CardKey, ApplicationKey, SessionKey, Cryptogram as MakeCryptogram, Response1, Response2}
 use Rattle.des_lines.specs.declared.fault.FaultKind.{FaultKind}
 use Rattle.des_lines.specs.declared.fault.FaultKind.TheVariants.{Counter, Cryptogram, ResponseCode, CardStatus, IssuerData, CryptogramData, Emv}
 use Rattle.des_lines.specs.Faults.{FailsBy}

@@ -16,10 +16,10 @@ use Rattle.des_payment.specs.declared.key_block_header.Algorithm.{Algorithm}
 use Rattle.des_payment.specs.declared.key_block_header.Algorithm.TheVariants.{OtherAlgorithm}
 use Rattle.des_payment.specs.declared.key_block_error.KeyBlockError.{KeyBlockError}
 use Rattle.des_payment.specs.declared.key_block_error.KeyBlockError.TheVariants.{ProtectionKeyLength, OptionalBlock}
-use Rattle.des_lines.specs.declared.calculation.Inputs.{Inputs}
-use Rattle.des_lines.specs.declared.calculation.Wrapping.{Wrapping}
-use Rattle.des_lines.specs.declared.calculation.KeyBlockCalculation.{KeyBlockCalculation}
-use Rattle.des_lines.specs.declared.calculation.KeyBlockCalculation.TheVariants.{Header as TellHeader, Unwrap, Wrap}
+use Rattle.des_lines.specs.declared.requests.Inputs.{Inputs}
+use Rattle.des_lines.specs.declared.requests.Wrapping.{Wrapping}
+use Rattle.des_lines.specs.declared.requests.KeyBlockCalculation.{KeyBlockCalculation}
+use Rattle.des_lines.specs.declared.requests.KeyBlockCalculation.TheVariants.{Header as TellHeader, Unwrap, Wrap}
 use Rattle.des_lines.specs.declared.fault.Field.{Field}
 use Rattle.des_lines.specs.declared.fault.Field.TheVariants.{Usage, Algorithm as AlgorithmField, Mode, KeyVersion, Exportability}
 use Rattle.des_lines.specs.declared.fault.FaultKind.{FaultKind}

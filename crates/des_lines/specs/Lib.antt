@@ -7,3 +7,7 @@ pub mod Keys
 pub mod CheckDigits
 pub mod Tags
 pub mod KeyBlockLines
+pub mod Written
+pub mod Runs
+pub mod Names
+pub mod SourceNames

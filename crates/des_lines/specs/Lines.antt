@@ -15,11 +15,11 @@ use Rattle.des_payment.specs.Dukpt.{counter_of, initial_key, transaction_key, pi
 use Rattle.des_payment.specs.PinBlocks.{IsFormat0, IsFormat1, IsFormat2, IsFormat3, account_field, pin_fault, account_fault, fill_fault, field_fault}
 use Rattle.des_payment.specs.declared.translation.Format.{Format}
 use Rattle.des_payment.specs.declared.translation.Format.TheVariants.{Format0, Format1, Format2, Format3}
-use Rattle.des_lines.specs.declared.calculation.Calculation.{Calculation}
-use Rattle.des_lines.specs.declared.calculation.Calculation.TheVariants.{CheckValue, Parity, Weak, Combine, CombineBytes, Encode, Decode, Transaction, Cvv, Pin as PinByKey, Emv as EmvByKey, KeyBlock}
-use Rattle.des_lines.specs.declared.calculation.Inputs.{Inputs}
-use Rattle.des_lines.specs.declared.calculation.Purpose.{Purpose}
-use Rattle.des_lines.specs.declared.calculation.Purpose.TheVariants.{Pin, Mac, Data, DataVariant}
+use Rattle.des_lines.specs.declared.requests.Calculation.{Calculation}
+use Rattle.des_lines.specs.declared.requests.Calculation.TheVariants.{CheckValue, Parity, Weak, Combine, CombineBytes, Encode, Decode, Transaction, Cvv, Pin as PinByKey, Emv as EmvByKey, KeyBlock}
+use Rattle.des_lines.specs.declared.requests.Inputs.{Inputs}
+use Rattle.des_lines.specs.declared.requests.Purpose.{Purpose}
+use Rattle.des_lines.specs.declared.requests.Purpose.TheVariants.{Pin, Mac, Data, DataVariant}
 use Rattle.des_lines.specs.declared.fault.FaultKind.{FaultKind}
 use Rattle.des_lines.specs.declared.fault.FaultKind.TheVariants.{KeyLength, KeyText, Components, BlockLength, BlockText, SerialLength, SerialText, SerialCounter, FillLength, FillText, Pin as PinFault, Cvv as CvvFault}
 use Rattle.des_lines.specs.Faults.{FailsBy, FailsOrRefuses}

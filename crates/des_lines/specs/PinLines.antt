@@ -11,10 +11,10 @@ use Rattle.des_payment.specs.declared.translation.Format.{Format}
 use Rattle.des_payment.specs.declared.translation.Format.TheVariants.{Format0, Format1, Format2, Format3}
 use Rattle.des_payment.specs.declared.verification_error.VerificationError.{VerificationError}
 use Rattle.des_payment.specs.declared.verification_error.VerificationError.TheVariants.{WrongPin}
-use Rattle.des_lines.specs.declared.calculation.Inputs.{Inputs}
-use Rattle.des_lines.specs.declared.calculation.NaturalPins.{NaturalPins}
-use Rattle.des_lines.specs.declared.calculation.PinCalculation.{PinCalculation}
-use Rattle.des_lines.specs.declared.calculation.PinCalculation.TheVariants.{Translate, TranslateFormat1, MakePvv, VerifyPvv, Natural, MakeOffset, VerifyOffset}
+use Rattle.des_lines.specs.declared.requests.Inputs.{Inputs}
+use Rattle.des_lines.specs.declared.requests.NaturalPins.{NaturalPins}
+use Rattle.des_lines.specs.declared.requests.PinCalculation.{PinCalculation}
+use Rattle.des_lines.specs.declared.requests.PinCalculation.TheVariants.{Translate, TranslateFormat1, MakePvv, VerifyPvv, Natural, MakeOffset, VerifyOffset}
 use Rattle.des_lines.specs.declared.fault.FaultKind.{FaultKind}
 use Rattle.des_lines.specs.declared.fault.FaultKind.TheVariants.{KeyLength, KeyText, ToKeyLength, ToKeyText, Value, Offset, Validation, BlockLength, BlockText, FillLength, FillText, Pin as PinFault, Translation as TranslationFault, Verification as VerificationFault}
 use Rattle.des_lines.specs.Faults.{FailsBy}

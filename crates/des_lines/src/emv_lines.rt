@@ -7,10 +7,10 @@ ghost use Rattle.des_lines.specs.Texts.{bytes_of as bytes_of_text, hex_line as h
 ghost use Rattle.des_lines.specs.Faults.{FailsBy, FailsOnlyBy};
 ghost use Rattle.des_lines.specs.EmvLines.{card_key_by, cryptogram_of, cryptogram_fault, issuer_data_fault, IsEmvLine, FailsAsEmv};
 
-use crate::calculation::{CardKeyOption, EmvCalculation, Inputs, LONGEST_INPUT};
 use crate::digits::{Lines, bytes_of, decode, hex_line};
 use crate::fault::FaultKind;
 use crate::keys::pair_of;
+use crate::requests::{CardKeyOption, EmvCalculation, Inputs, LONGEST_INPUT};
 use des_payment::emv;
 use des_payment::emv_error::EmvError;
 use std::alloc::Global;

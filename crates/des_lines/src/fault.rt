@@ -88,7 +88,7 @@ pub enum Field {
     Exportability,
 }
 
-/// What is wrong with a file under a password. `des_commands` has a sentence for each.
+/// What is wrong with a file under a password. `sentences` says it of each.
 #[derive(Clone, Copy, PartialEq, Eq)]
 pub enum FileFault {
     Salted,
@@ -121,7 +121,7 @@ pub enum FileFault {
 }
 
 /// What is at fault. Each has a name, under which the documents list it, and a sentence in
-/// `des_commands`. None has a place for a secret.
+/// `sentences`. None has a place for a secret.
 #[derive(Clone, Copy)]
 pub enum FaultKind {
     /// The program takes no such command line.

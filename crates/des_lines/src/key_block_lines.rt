@@ -11,10 +11,10 @@ ghost use Rattle.des_lines.specs.KeyBlockLines.{IsReadable, TellsHeader, FailsAs
 ghost use Rattle.des_lines.specs.KeyBlockLines.{field_fault, header_text_fault, IsHeaderOf, IsMadeLine, IsWrapped, FailsAsMade, FailsAsWrapped};
 ghost use Rattle.des_lines.specs.KeyBlockLines.{FailsAsKeyBlock, AnswersKeyBlock};
 
-use crate::calculation::{Inputs, KeyBlockCalculation, RANDOM, Wrapping};
 use crate::digits::{Lines, hex_line, line_of};
 use crate::fault::{FaultKind, Field};
 use crate::keys::read_key;
+use crate::requests::{Inputs, KeyBlockCalculation, RANDOM, Wrapping};
 use des_payment::key_block_error::KeyBlockError;
 use des_payment::key_block_header::{
     Algorithm, Exportability, Header, KeyContext, MOST_CHARACTERS, Mode, Usage, are_alphanumeric,

@@ -9,13 +9,13 @@ ghost use Rattle.des_lines.specs.Keys.{key_fault, IsKeySize};
 ghost use Rattle.des_lines.specs.Lines.{check_value_of, IsWeakLine, key_of_components, key_size_of, key_of_count, few_fault, components_fault, encoding_fault, IsEncoded, decoding_fault, IsDecoded};
 ghost use Rattle.des_lines.specs.Lines.{FailsAs, IsLine, key_for, initial_key_of as initial_key_by, transaction_key_of, transaction_fault};
 
-use crate::calculation::{Calculation, Inputs, LONGEST_INPUT, Purpose};
 use crate::digits::{Lines, bytes_of, decode, fill_of, hex_line, line_of};
 use crate::emv_lines::emv_line;
 use crate::fault::FaultKind;
 use crate::key_block_lines::key_block_lines;
 use crate::keys::{is_weak, key_of_digits, pair_of, read_key};
 use crate::pin_lines::pin_line;
+use crate::requests::{Calculation, Inputs, LONGEST_INPUT, Purpose};
 use des_payment::translation::Format;
 use des_payment::{Pin, combine, cvv, dukpt, key_check_value, pin_blocks, set_odd_parity};
 use std::alloc::Global;

@@ -10,11 +10,11 @@ ghost use Rattle.des_lines.specs.PinLines.{pvv_of, pvv_fault, HasPvv, pvv_verdic
 ghost use Rattle.des_lines.specs.PinLines.{offset_by, offset_fault, HasOffset, offset_verdict_fault, IsVerdictLine, TellsOutcome};
 ghost use Rattle.des_lines.specs.PinLines.{pin_line_fault, IsPinLine, validation_fault};
 
-use crate::calculation::{Inputs, NaturalPins, PinCalculation};
 use crate::check_digit::are_digits;
 use crate::digits::{Lines, bytes_of, fill_of, hex_line, line_of};
 use crate::fault::FaultKind;
 use crate::keys::{pair_of, read_key};
+use crate::requests::{Inputs, NaturalPins, PinCalculation};
 use crate::tags::{RIGHT, WRONG};
 use des_payment::pin_verification::{natural_pin, pin_offset, pvv, verify_offset, verify_pvv};
 use des_payment::translation::{Format, translate, translate_format_1};

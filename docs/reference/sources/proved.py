@@ -8,9 +8,10 @@ from .text import Refused, first_sentence, listed, table
 LIBRARIES = ["des", "des_fast", "des_mac", "des_modes", "des_payment", "des_io", "des_passwords"]
 CRATES = [*LIBRARIES, "des_context", "des_c", "des_lines", "des_commands", "des_tool"]
 
-# Crates whose modules no other crate names, and what they have instead.
+# Crates whose modules no caller names, and what they have instead.
 CLOSED = {
     "des_c": "The exports, which C calls.",
+    "des_lines": "The lines of `cukvashe`. `des_commands` alone calls these.",
     "des_commands": "What `cukvashe` does. Other crates call `run` alone.",
     "des_tool": "What the program `des_tool` does.",
 }

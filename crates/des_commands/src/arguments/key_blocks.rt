@@ -4,10 +4,9 @@ use super::argument_values::{place_of, text_of};
 use super::misuse::misuse;
 use super::requests::{Requested, by_input, by_key, with_key};
 use super::sources::{input_at, one_of};
-use crate::command::CalculationRequest;
 use clap::ArgMatches;
-use des_lines::calculation::{Calculation, KeyBlockCalculation, Wrapping};
 use des_lines::fault::Misuse;
+use des_lines::requests::{Calculation, CalculationRequest, KeyBlockCalculation, Wrapping};
 use des_payment::key_block_header::Version;
 
 // The request with the key that protects blocks.

@@ -10,9 +10,9 @@ use super::misuse::{misuse, refuse};
 use super::sources::{KEY, input_at, names_one, one_of, output_of, read_once};
 use crate::command::streams::{Password, Secret};
 use crate::command::{KeyForm, PrivateKeyRequest};
-use crate::inputs::sources::Source;
 use clap::ArgMatches;
 use des_lines::fault::{Fault, FaultKind, Misuse};
+use des_lines::source::Source;
 use des_passwords::Derivation;
 use des_passwords::encrypted_keys::MOST_ITERATIONS;
 

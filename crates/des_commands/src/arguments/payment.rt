@@ -4,12 +4,11 @@ use super::argument_values::{count_of, is_given, is_set, place_of, text_of};
 use super::misuse::misuse;
 use super::requests::{Requested, by_input, by_key, with_account, with_key};
 use super::sources::{input_at, key_of, one_of};
-use crate::command::CalculationRequest;
 use clap::ArgMatches;
-use des_lines::calculation::{
-    Calculation, CardKeyOption, EmvCalculation, NaturalPins, PinCalculation,
-};
 use des_lines::fault::{Fault, Misuse};
+use des_lines::requests::{
+    Calculation, CalculationRequest, CardKeyOption, EmvCalculation, NaturalPins, PinCalculation,
+};
 use des_payment::translation::Format;
 
 // The format of a place, whose words the grammar takes.

@@ -8,11 +8,10 @@ ghost use Rattle.des_commands.specs.CommandArguments.{is_standard_input as is_st
 use super::argument_values::text_of;
 use super::misuse::misuse;
 use super::sources::{file_of, is_standard_input, key_of};
-use crate::command::{Account, CalculationRequest};
-use crate::inputs::sources::Source;
 use clap::ArgMatches;
-use des_lines::calculation::Calculation;
 use des_lines::fault::{Fault, Misuse};
+use des_lines::requests::{Account, Calculation, CalculationRequest};
+use des_lines::source::Source;
 
 /// The request of a calculation, or the fault of its words.
 pub type Requested<'a> = Result<CalculationRequest<'a>, Fault<'a>>;

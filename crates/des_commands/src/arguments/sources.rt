@@ -9,9 +9,9 @@ ghost use Rattle.des_commands.specs.CommandArguments.{is_standard_input as is_st
 use super::argument_values::{is_given, number_of, text_of};
 use super::misuse::misuse;
 use crate::command::streams::Output;
-use crate::inputs::sources::Source;
 use clap::ArgMatches;
 use des_lines::fault::{Fault, Misuse};
+use des_lines::source::Source;
 
 /// The options that name where a key is: a file, a descriptor and a variable, as `one_of` takes them.
 pub const KEY: [&str; 3] = ["key-file", "key-fd", "key-env"];

@@ -5,8 +5,8 @@ ghost use Rattle.des_lines.specs.Keys.{IsKeySize};
 ghost use Rattle.des_commands.specs.StreamRequests.{blocks_before as blocks_before_of, source_of, mode_of as mode_by, heading_of as heading_by, IsJobOf};
 ghost use Rattle.des_commands.specs.Jobs.{key_size_of};
 
-use crate::inputs::sources::Source;
 use des_io::{Mode, Padding};
+use des_lines::source::Source;
 use des_passwords::Derivation;
 
 /// The ciphers.

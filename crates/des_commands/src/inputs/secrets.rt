@@ -3,9 +3,10 @@
 ghost use Rattle.std.specs.Prelude.{◌≤◌, length, IfOk, IfSome};
 ghost use Rattle.des_lines.specs.Keys.{IsKeySize};
 
-use super::sources::{LONGEST_TEXT, Source, bytes_of, text_of};
+use super::sources::{LONGEST_TEXT, bytes_of, text_of};
 use des_lines::fault::Fault;
 use des_lines::keys::key_of_digits;
+use des_lines::source::Source;
 use des_passwords::text_lines::cut;
 
 /// The text of a source, without its white space.

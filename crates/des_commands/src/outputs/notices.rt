@@ -3,14 +3,14 @@
 ghost use Rattle.std.specs.Prelude.{◌≡◌, ◌<◌, OnOk, IsTrue, ◌↔◌, ◌^◌, length};
 ghost use Rattle.des_lines.specs.Keys.{IsKeySize};
 ghost use Rattle.des_commands.specs.Notices.{notice_line, ruling_of as ruling_by, blocks_of as blocks_by, IsAccepted};
-ghost use Rattle.des_commands.specs.Written.{AppendsPrefix};
+ghost use Rattle.des_lines.specs.Written.{AppendsPrefix};
 ghost use Rattle.std.specs.Io.KnownBytes.{Appends};
 
-use super::report::write_line;
 use crate::command::streams::{StreamRequest, WeakKeys};
 use des_io::{Padding, StreamError};
 use des_lines::fault::FaultKind;
 use des_lines::keys::{Verdict, verdict_of};
+use des_lines::report::write_line;
 use std::io::Write;
 
 /// A notice; the stream goes on.

@@ -1,6 +1,6 @@
 //! How far a stream is, as lines on standard error show it.
 
-use super::report::send;
+use des_lines::report::send;
 use std::alloc::{AllocError, Global};
 use std::io::IsTerminal;
 use std::time::{Duration, Instant};

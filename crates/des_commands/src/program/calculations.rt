@@ -3,17 +3,18 @@
 ghost use Rattle.std.specs.Prelude.{◌≤◌, length, IfOk};
 
 use crate::arguments::{by_input, file_of};
-use crate::calculations;
-use crate::calculations::names::{input_name, key_name, to_key_name};
-use crate::command::{Account, CalculationRequest};
 use crate::inputs::files::{RANDOM_SOURCE, system_random};
 use crate::inputs::secrets::{key_in, text_in};
-use crate::inputs::sources::{LONGEST_TEXT, Source, bytes_of, text_of};
-use crate::outputs::sentences::English;
-use des_lines::calculation::{
-    Calculation, Inputs, KeyBlockCalculation, LONGEST_INPUT, RANDOM, Wrapping,
-};
+use crate::inputs::sources::{LONGEST_TEXT, bytes_of, text_of};
+use des_lines::calculations;
 use des_lines::fault::{Fault, FaultKind};
+use des_lines::names::{input_name, key_name, to_key_name};
+use des_lines::requests::{
+    Account, Calculation, CalculationRequest, Inputs, KeyBlockCalculation, LONGEST_INPUT, RANDOM,
+    Wrapping,
+};
+use des_lines::sentences::English;
+use des_lines::source::Source;
 
 // The most components that are in files: as many as `--count` takes of one source. Their digits are no
 // longer than the text of one.

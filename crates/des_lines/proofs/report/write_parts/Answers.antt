@@ -1,6 +1,6 @@
 use Rattle.des_lines.specs.Faults.{line_start, shown_text}
-use Rattle.des_commands.proofs.Prefixes.{AppendsPrefix-first, AppendsPrefix-second}
-use Rattle.des_commands.proofs.outputs.report.write_parts.Goals as goal
+use Rattle.des_lines.proofs.Prefixes.{AppendsPrefix-first, AppendsPrefix-second}
+use Rattle.des_lines.proofs.report.write_parts.Goals as goal
 
 -- a part of the name
 pub returns-in_err-write_texts-clause-part : goal.returns-in_err-write_texts-clause-part

@@ -5,16 +5,16 @@ use Rattle.std.specs.declared.alloc.Global.{Global}
 use Rattle.des_lines.specs.declared.fault.Fault.{Fault}
 use Rattle.des_lines.specs.declared.fault.FaultKind.{FaultKind}
 use Rattle.des_lines.specs.declared.fault.FaultKind.TheVariants.{CheckDigit}
-use Rattle.des_lines.specs.declared.calculation.Calculation.{Calculation}
-use Rattle.des_lines.specs.declared.calculation.Calculation.TheVariants.{Pin, Weak}
-use Rattle.des_commands.specs.declared.command.CalculationRequest.{CalculationRequest}
-use Rattle.des_lines.specs.declared.calculation.Inputs.{Inputs}
+use Rattle.des_lines.specs.declared.requests.Calculation.{Calculation}
+use Rattle.des_lines.specs.declared.requests.Calculation.TheVariants.{Pin, Weak}
+use Rattle.des_lines.specs.declared.requests.CalculationRequest.{CalculationRequest}
+use Rattle.des_lines.specs.declared.requests.Inputs.{Inputs}
 use Rattle.des_lines.specs.Tags.{status_after}
 use Rattle.des_lines.specs.CheckDigits.{lacks_check_digit}
 use Rattle.des_lines.specs.Lines.{IsLine, FailsAs}
-use Rattle.des_commands.specs.Names.{IsSubject}
+use Rattle.des_lines.specs.Names.{IsSubject}
 use Rattle.des_lines.specs.PinLines.{is_question}
-use Rattle.des_commands.specs.Written.{Saying, AppendsLinePrefix, IsShown}
+use Rattle.des_lines.specs.Written.{Saying, AppendsLinePrefix, IsShown}
 
 -- the fault of a kind, with what it is about
 abbrev pub IsFaultOf : CalculationRequest → FaultKind → Fault → Type 0

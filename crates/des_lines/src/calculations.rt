@@ -1,23 +1,20 @@
 //! The run of a calculation: its line or its fault, what is written of it, and the status that the
 //! program ends with.
 
-pub mod names;
-
 ghost use Rattle.std.specs.Prelude.{◌≡◌, ◌↔◌, ◌≤◌, length, IsTrue, IfOk};
 ghost use Rattle.des_lines.specs.CheckDigits.{lacks_check_digit as lacks_check_digit_of};
 ghost use Rattle.des_lines.specs.Lines.{IsLine};
-ghost use Rattle.des_commands.specs.Runs.{FailsAsAsked, IsOutcome, IsNoticed, IsNo, IsRun};
+ghost use Rattle.des_lines.specs.Runs.{FailsAsAsked, IsOutcome, IsNoticed, IsNo, IsRun};
 
-use crate::command::CalculationRequest;
-use crate::outputs::report::{show, tell};
-use crate::outputs::sentences::Sentences;
-use des_lines::calculation::{Calculation, Inputs, LONGEST_INPUT, PinCalculation};
-use des_lines::check_digit::{has_check_digit, is_account};
-use des_lines::digits::Lines;
-use des_lines::fault::{Fault, FaultKind};
-use des_lines::lines::{WEAK, lines_of};
-use des_lines::tags::{WRONG, status_of};
-use names::{about_of, account_name};
+use crate::check_digit::{has_check_digit, is_account};
+use crate::digits::Lines;
+use crate::fault::{Fault, FaultKind};
+use crate::lines::{WEAK, lines_of};
+use crate::names::{about_of, account_name};
+use crate::report::{show, tell};
+use crate::requests::{Calculation, CalculationRequest, Inputs, LONGEST_INPUT, PinCalculation};
+use crate::sentences::Sentences;
+use crate::tags::{WRONG, status_of};
 use std::alloc::Global;
 use std::io::Write;
 

@@ -4,7 +4,7 @@ use Rattle.std.specs.Io.KnownBytes.{Appends}
 use Rattle.std.specs.List.{flat_map}
 use Rattle.std.specs.Str.{chars}
 use Rattle.des_lines.specs.Faults.{shown_character}
-use Rattle.des_commands.proofs.outputs.report.write_shown.Given as goal
+use Rattle.des_lines.proofs.report.write_shown.Given as goal
 
 -- the characters before this one are written
 abbrev pub invariant-loop-character : goal.invariant-loop-character

@@ -2,10 +2,10 @@
 use Rattle.std.specs.Prelude.{◌≡◌, ◌⊎◌, ℕ, ◌==◌, ◌||◌, Bool, List, IsTrue, Some}
 use Rattle.std.specs.Char.{is_ascii_alphabetic}
 use Rattle.std.specs.List.{list_all}
-use Rattle.des_commands.specs.declared.command.Account.TheVariants.{In}
-use Rattle.des_commands.specs.declared.command.CalculationRequest.{CalculationRequest}
-use Rattle.des_commands.specs.declared.inputs.sources.Source.{Source}
-use Rattle.des_commands.specs.Sources.{name_of_source}
+use Rattle.des_lines.specs.declared.requests.Account.TheVariants.{In}
+use Rattle.des_lines.specs.declared.requests.CalculationRequest.{CalculationRequest}
+use Rattle.des_lines.specs.declared.source.Source.{Source}
+use Rattle.des_lines.specs.SourceNames.{name_of_source}
 
 -- letters and hyphens, as `--account` and `SERIAL`, or nothing. A text that somebody gave may have a digit
 abbrev pub is_place : List ℕ → Bool

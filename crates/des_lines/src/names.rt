@@ -2,12 +2,11 @@
 //! what is read. None of these is a secret.
 
 ghost use Rattle.std.specs.Prelude.{IsTrue};
-ghost use Rattle.des_commands.specs.Names.{is_place, IsSubject};
+ghost use Rattle.des_lines.specs.Names.{is_place, IsSubject};
 
-use crate::command::{Account, CalculationRequest};
-use crate::inputs::sources::Source;
-use des_lines::calculation::{Calculation, KeyBlockCalculation};
-use des_lines::fault::{FaultKind, Field};
+use crate::fault::{FaultKind, Field};
+use crate::requests::{Account, Calculation, CalculationRequest, KeyBlockCalculation};
+use crate::source::Source;
 use des_payment::emv_error::EmvError;
 use des_payment::key_block_error::KeyBlockError;
 use des_payment::{CvvError, PinError, TranslationError, VerificationError};

@@ -3,7 +3,7 @@ use Rattle.std.proofs.Common.{◌≡◌, codes, inr, ap, ◌∙◌}
 use Rattle.des_lines.specs.declared.fault.FaultKind.{FaultKind}
 use Rattle.des_lines.specs.declared.fault.FaultKind.TheVariants.{Write}
 use Rattle.des_lines.specs.Faults.{about_of}
-use Rattle.des_commands.proofs.outputs.report.show.Goals as goal
+use Rattle.des_lines.proofs.report.show.Goals as goal
 
 pub returns-in-Err-send : goal.returns-in-Err-send
 returns-in-Err-send g c =

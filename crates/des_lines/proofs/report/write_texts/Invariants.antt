@@ -1,7 +1,7 @@
 use Rattle.std.proofs.Common.{take}
 use Rattle.std.specs.List.{flat_map}
 use Rattle.std.specs.Io.KnownBytes.{Appends}
-use Rattle.des_commands.proofs.outputs.report.write_texts.Given as goal
+use Rattle.des_lines.proofs.report.write_texts.Given as goal
 
 -- the texts before the index are written
 abbrev pub invariant-loop-text : goal.invariant-loop-text

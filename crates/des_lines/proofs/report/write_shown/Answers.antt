@@ -8,9 +8,9 @@ use Rattle.std.specs.Io.KnownBytes.{Appends}
 use Rattle.std.specs.List.{flat_map}
 use Rattle.std.specs.Str.{chars}
 use Rattle.des_lines.specs.Faults.{shown_character}
-use Rattle.des_commands.specs.Written.{AppendsPrefix}
-use Rattle.des_commands.proofs.Prefixes.{AppendsPrefix-first, AppendsPrefix-second, AppendsPrefix-all, AppendsPrefix-written, OnOk-written, flat_map-at}
-use Rattle.des_commands.proofs.outputs.report.write_shown.Goals as goal
+use Rattle.des_lines.specs.Written.{AppendsPrefix}
+use Rattle.des_lines.proofs.Prefixes.{AppendsPrefix-first, AppendsPrefix-second, AppendsPrefix-all, AppendsPrefix-written, OnOk-written, flat_map-at}
+use Rattle.des_lines.proofs.report.write_shown.Goals as goal
 
 abbrev as_shown : ℕ → List ℕ
 as_shown character = encode_utf8 (shown_character character)

@@ -4,7 +4,7 @@
 ghost use Rattle.std.specs.Prelude.{ℕ, List, ⊤};
 ghost use Rattle.des_lines.specs.declared.fault.FaultKind.{FaultKind};
 
-use des_lines::fault::{FaultKind, Field, FileFault, Misuse, Reason};
+use crate::fault::{FaultKind, Field, FileFault, Misuse, Reason};
 use des_payment::emv_error::EmvError;
 use des_payment::key_block_error::KeyBlockError;
 use des_payment::{CvvError, PinError, TranslationError, VerificationError};

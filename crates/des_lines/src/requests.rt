@@ -1,5 +1,6 @@
-//! What is computed from short inputs, and what is read for it.
+//! What is asked of a calculation, and what is read for it.
 
+use crate::source::Source;
 use des_payment::dukpt::MessageDirection;
 use des_payment::key_block_header::Version;
 use des_payment::translation::Format;
@@ -9,6 +10,32 @@ pub const LONGEST_INPUT: usize = 16384;
 
 /// The random bytes that a key block takes at most: its padding with the key has 30 bytes.
 pub const RANDOM: usize = 22;
+
+/// Where an account number is.
+#[derive(Clone, Copy)]
+pub enum Account<'a> {
+    /// The command takes none.
+    Absent,
+    /// In an argument.
+    Digits(&'a str),
+    /// In a file.
+    In(Source<'a>),
+}
+
+/// A calculation, and where its inputs are.
+#[derive(Clone, Copy)]
+pub struct CalculationRequest<'a> {
+    pub calculation: Calculation<'a>,
+    /// Where the key, the components, the PIN, the block or the data are.
+    pub input: Source<'a>,
+    /// Where the key is, if the input is something else.
+    pub key: Option<Source<'a>>,
+    /// Where the key of an outgoing block is.
+    pub to_key: Option<Source<'a>>,
+    pub account: Account<'a>,
+    /// An account number whose last digit is not its check digit is refused.
+    pub refuses_wrong_check_digit: bool,
+}
 
 /// What was read for a calculation. What it does not take is empty.
 #[derive(Clone, Copy)]

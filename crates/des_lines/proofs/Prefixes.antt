@@ -7,7 +7,7 @@ use Rattle.std.proofs.lemmas.Grind.{flat_map-append}
 use Rattle.std.specs.List.{flat_map}
 use Rattle.std.specs.Io.KnownBytes.{Appends, Keeps}
 use Rattle.std.proofs.KnownBytes.{Appends-trans, Appends-kept}
-use Rattle.des_commands.specs.Written.{AppendsPrefix}
+use Rattle.des_lines.specs.Written.{AppendsPrefix}
 
 -- a prefix of the first text
 pub AppendsPrefix-first : (a b : Option (List ℕ)) (first second : List ℕ) → AppendsPrefix a b first

@@ -4,12 +4,12 @@ ghost use Rattle.std.specs.Prelude.{◌≡◌, take, Some, OnOk, IfErr};
 ghost use Rattle.std.specs.List.{flat_map};
 ghost use Rattle.std.specs.Io.KnownBytes.{Appends};
 ghost use Rattle.des_lines.specs.Faults.{is_unseen as is_unseen_of, line_with, separator_of, shown_character, shown_text};
-ghost use Rattle.des_commands.specs.Written.{AppendsPrefix, AppendsLine, AppendsLinePrefix, IsTold, IsShown};
+ghost use Rattle.des_lines.specs.Written.{AppendsPrefix, AppendsLine, AppendsLinePrefix, IsTold, IsShown};
 
-use super::sentences::Sentences;
+use crate::fault::{Fault, FaultKind, Reason};
+use crate::sentences::Sentences;
 use des_io::StreamError;
 use des_io::pieces::write_whole;
-use des_lines::fault::{Fault, FaultKind, Reason};
 use std::io::{self, Write};
 
 // As much as a pipe takes at once, so that lines of programs that write beside each other stay whole.

@@ -1,9 +1,9 @@
 use Rattle.std.proofs.Common.{rules, ◌≡◌, ℕ, ◌<◌, length, List, take, Bor, [], sym, subst, arith}
 use Rattle.std.specs.List.{flat_map}
 use Rattle.std.proofs.lemmas.List.{take_all}
-use Rattle.des_commands.specs.Written.{AppendsPrefix}
-use Rattle.des_commands.proofs.Prefixes.{AppendsPrefix-first, AppendsPrefix-second, AppendsPrefix-all, AppendsPrefix-written, flat_map-at}
-use Rattle.des_commands.proofs.outputs.report.write_texts.Goals as goal
+use Rattle.des_lines.specs.Written.{AppendsPrefix}
+use Rattle.des_lines.proofs.Prefixes.{AppendsPrefix-first, AppendsPrefix-second, AppendsPrefix-all, AppendsPrefix-written, flat_map-at}
+use Rattle.des_lines.proofs.report.write_texts.Goals as goal
 
 -- what stands in the place of a text that is not there
 abbrev no_text : Bor (List ℕ)
