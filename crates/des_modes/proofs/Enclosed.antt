@@ -1,54 +1,164 @@
--- What encloses bytes encloses no others.
-use Rattle.std.proofs.Common.{◌≡◌, ℕ, ◌+◌, ◌-◌, ◌≤◌, List, [], ◌++◌, length, get_or, take, drop, reverse, ap, subst, sym, ◌∙◌, arith, take_at, drop_at}
-use Rattle.std.proofs.lemmas.List.{ext_get_or, reverse-reverse}
+-- Blocks that are enclosed: what opens them, and that what encloses blocks encloses no others.
+use Rattle.std.proofs.Common.{◌≡◌, ℕ, suc, ◌+◌, ◌-◌, ◌<◌, ◌≤◌, List, [], ◌∷◌, ◌++◌, map, length, get_or, take, drop, reverse, refl, ap, ap₂, subst, sym, ◌∙◌, arith, length-append}
+use Rattle.std.specs.List.{All}
+use Rattle.std.proofs.lemmas.Grind.{common_steps}
+use borrow.Rule.Slice.PartMut.{put_mid}
+use Rattle.std.proofs.lemmas.List.{reverse-reverse, reverse-append, map-append, length-reverse, take_all, take_more}
+use Rattle.std.proofs.lemmas.List.Elements.{All-nil, All-cons, All-head, All-tail, All-append, All-map}
 use Rattle.des.specs.Blocks.{IsBlock}
-use Rattle.des.specs.Cbc.{Unchains}
+use Rattle.des.specs.Cbc.{Cbc, Unchains, next_vector, xor_blocks}
 use Rattle.des.specs.Laws.BlockBits.{IsBlock-to_be_bytes}
-use Rattle.des.proofs.ChainedBlocks.{Unchains-from_Cbc}
-use Rattle.des_modes.specs.CmsKeyWrap.{joined, CbcBytes, second_iv, Encloses}
-use Rattle.des_modes.proofs.JoinedBlocks.{joined-injective}
-use Rattle.des_modes.proofs.TkwSteps.{Undoes}
-
-Unchains-one : (D : List ℕ → List ℕ) (iv : List ℕ) (q p other : List (List ℕ)) → Unchains D iv q p → Unchains D iv q other
-    → p ≡ other
-Unchains-one D iv q p other first second =
-    ext_get_or [] p other (first.count ∙ sym second.count) (λ i below.
-    let place : i + 1 - 1 ≡ i = omega arith in
-    let within : i + 1 ≤ length q = omega (arith, first.count) in
-    ap (λ (k : ℕ). get_or p k []) (sym place) ∙ first.unchained (i + 1) (omega arith) within
-    ∙ sym (second.unchained (i + 1) (omega arith) within) ∙ ap (λ (k : ℕ). get_or other k []) place)
-
-CbcBytes-one : (E D : List ℕ → List ℕ) (iv p other c : List ℕ) → IsBlock iv → Undoes E D → CbcBytes E iv p c
-    → CbcBytes E iv other c → p ≡ other
-CbcBytes-one E D iv p other c is_iv laws first second =
-    let same : second.answers ≡ first.answers =
-    joined-injective second.answers first.answers second.are_blocks.1 first.are_blocks.1
-    (second.ciphertext ∙ sym first.ciphertext) in
-    let P : List (List ℕ) → Type 0 = λ q. Unchains D iv q second.blocks in
-    sym first.plaintext
-    ∙ ap joined (Unchains-one D iv first.answers first.blocks second.blocks
-    (Unchains-from_Cbc E D iv first.blocks first.answers is_iv first.are_blocks.0 laws.is_block laws.undone first.chained)
-    (subst P same
-    (Unchains-from_Cbc E D iv second.blocks second.answers is_iv second.are_blocks.0 laws.is_block laws.undone second.chained)))
-    ∙ second.plaintext
+use Rattle.des.specs.Relations.{IsGraphOf}
+use Rattle.des.proofs.ChainedBlocks.{Chains-weaker, Unchains-from_Cbc, Cbc-from_Unchains}
+use Rattle.des.proofs.ChainedPieces.{Unchains-append}
+use Rattle.des.proofs.ReversedLists.{map-reverse}
+use Rattle.des.proofs.UnchainedLists.{Unchains-unchained, unchained-from}
+use Rattle.des_fast.proofs.RelatedChains.{Chains-related}
+use Rattle.des_modes.specs.CmsKeyWrap.{second_iv, reversed, checksum, Encloses, Wraps}
+use Rattle.des_modes.proofs.TkwSteps.{Undoes, last_same}
 
 is_second_iv : IsBlock second_iv
 is_second_iv = IsBlock-to_be_bytes 0x4adda22c79e82105
 
-pub Encloses-one : (E D : List ℕ → List ℕ) (iv other p others enclosed : List ℕ) → IsBlock iv → IsBlock other
-    → ((block : List ℕ) → IsBlock block → D (E block) ≡ block) → ((block : List ℕ) → IsBlock block → IsBlock (E block))
-    → Encloses E iv p enclosed → Encloses E other others enclosed → p ≡ others
-Encloses-one E D iv other p others enclosed is_iv is_other undone is_block first second =
-    let laws : Undoes E D = record { undone = undone; is_block = is_block } in
-    let same : iv ++ first.temp1 ≡ other ++ second.temp1 =
-    sym (reverse-reverse (iv ++ first.temp1))
-    ∙ ap reverse (CbcBytes-one E D second_iv (reverse (iv ++ first.temp1)) (reverse (other ++ second.temp1)) enclosed
-    is_second_iv laws first.second second.second)
-    ∙ reverse-reverse (other ++ second.temp1) in
-    let vectors : other ≡ iv =
-    sym (take_at other second.temp1 8 is_other.0) ∙ ap (take 8) (sym same) ∙ take_at iv first.temp1 8 is_iv.0 in
-    let rest : second.temp1 ≡ first.temp1 =
-    sym (drop_at other second.temp1 8 is_other.0) ∙ ap (drop 8) (sym same) ∙ drop_at iv first.temp1 8 is_iv.0 in
-    let P : List ℕ → Type 0 = λ vector. CbcBytes E vector others second.temp1 in
-    let Q : List ℕ → Type 0 = λ temp1. CbcBytes E iv others temp1 in
-    CbcBytes-one E D iv p others first.temp1 is_iv laws first.first (subst Q rest (subst P vectors second.first))
+-- ---- lists by their first and their last element
+
+-- a list whose elements from the second on are written
+pub put_rest : (blocks new : List (List ℕ)) → 1 ≤ length blocks → length new ≡ length blocks - 1
+    → put_mid 1 (length blocks - 1) blocks new ≡ get_or blocks 0 [] ∷ new
+put_rest [] new some same = absurd (omega arith)
+put_rest (block ∷ blocks) new some same = grind (arith, common_steps)
+
+pub framed : (blocks : List (List ℕ)) (n m : ℕ) → length blocks ≡ n + 2 → m ≡ n
+    → blocks ≡ get_or blocks 0 [] ∷ take m (drop 1 blocks) ++ get_or blocks (n + 1) [] ∷ []
+framed [] n m size same = absurd (omega arith)
+framed (block ∷ blocks) n m size same =
+    let next : n + 1 ≡ suc n = omega arith in
+    ap (λ (xs : List (List ℕ)). block ∷ xs) (sym (take_all (n + 1) blocks (omega arith)) ∙ take_more blocks n [] (omega arith))
+    ∙ ap₂ (λ (k i : ℕ). block ∷ take k blocks ++ get_or (block ∷ blocks) i [] ∷ []) (sym same) (sym next)
+
+-- ---- all bytes in reverse order
+
+reversed-append : (a b : List (List ℕ)) → reversed (a ++ b) ≡ reversed b ++ reversed a
+reversed-append a b = ap (map reverse) (reverse-append a b) ∙ map-append reverse (reverse b) (reverse a)
+
+reversed-reversed : (blocks : List (List ℕ)) → reversed (reversed blocks) ≡ blocks
+reversed-reversed [] = refl
+reversed-reversed (block ∷ blocks) =
+    ap reversed (reversed-append (block ∷ []) blocks) ∙ reversed-append (reversed blocks) (reverse block ∷ [])
+    ∙ ap₂ ◌∷◌ (reverse-reverse block) (reversed-reversed blocks)
+
+All-reverse : {X : Type 0} (P : X → Type 0) (xs : List X) → All P xs → All P (reverse xs)
+All-reverse P [] all = all
+All-reverse P (x ∷ xs) all =
+    rw (reverse-append (x ∷ []) xs)
+    (All-append P (reverse xs) (x ∷ []) (All-reverse P xs (All-tail P x xs all)) (All-cons P x [] (All-head P x xs all) (All-nil P)))
+
+All-reversed : (blocks : List (List ℕ)) → All IsBlock blocks → All IsBlock (reversed blocks)
+All-reversed blocks are =
+    let turned : All IsBlock (reverse blocks) = All-reverse IsBlock blocks are in
+    All-map IsBlock reverse (reverse blocks) (λ i d within.
+    let is : IsBlock (get_or (reverse blocks) i d) = turned i d within in
+    (length-reverse _ ∙ is.0, All-reverse (λ byte. byte < 256) _ is.1))
+
+-- ---- what was enclosed
+
+Cbc-one : (E D : List ℕ → List ℕ) (iv : List ℕ) (p other q : List (List ℕ)) → IsBlock iv → Undoes E D → All IsBlock p
+    → All IsBlock other → Cbc E iv p q → Cbc E iv other q → p ≡ other
+Cbc-one E D iv p other q is_iv laws are too first second =
+    unchained-from D iv q p (Unchains-from_Cbc E D iv p q is_iv are laws.is_block laws.undone first)
+    ∙ sym (unchained-from D iv q other (Unchains-from_Cbc E D iv other q is_iv too laws.is_block laws.undone second))
+
+Encloses-one : (E D : List ℕ → List ℕ) (iv vector : List ℕ) (p other enclosed : List (List ℕ)) → IsBlock iv
+    → IsBlock vector → Undoes E D → Encloses (λ block answer. answer ≡ E block) iv p enclosed
+    → Encloses (λ block answer. answer ≡ E block) vector other enclosed → p ≡ other
+Encloses-one E D iv vector p other enclosed is_iv is_vector laws first second =
+    let same : iv ∷ first.temp1 ≡ vector ∷ second.temp1 =
+    sym (reversed-reversed (iv ∷ first.temp1))
+    ∙ ap reversed (Cbc-one E D second_iv (reversed (iv ∷ first.temp1)) (reversed (vector ∷ second.temp1)) enclosed is_second_iv laws
+    (All-reversed (iv ∷ first.temp1) (All-cons IsBlock iv first.temp1 is_iv first.are_blocks.1))
+    (All-reversed (vector ∷ second.temp1) (All-cons IsBlock vector second.temp1 is_vector second.are_blocks.1)) first.second second.second)
+    ∙ reversed-reversed (vector ∷ second.temp1) in
+    let P : List (List ℕ) → Type 0 = λ blocks. Cbc E (get_or blocks 0 []) other (drop 1 blocks) in
+    Cbc-one E D iv p other first.temp1 is_iv laws first.are_blocks.0 second.are_blocks.0 first.first
+    (subst P (sym same) second.first)
+
+-- what wraps a key wraps no other, and has its checksum
+pub Wraps-one : (E D : List ℕ → List ℕ) (iv vector check : List ℕ) (key other wrapped : List (List ℕ)) → IsBlock iv
+    → IsBlock vector → Undoes E D → Encloses (λ block answer. answer ≡ E block) iv (key ++ check ∷ []) wrapped
+    → Wraps E vector other wrapped → (key ≡ other) × (checksum key ≡ check)
+Wraps-one E D iv vector check key other wrapped is_iv is_vector laws opened wraps =
+    let same : key ++ check ∷ [] ≡ other ++ checksum other ∷ [] =
+    Encloses-one E D iv vector (key ++ check ∷ []) (other ++ checksum other ∷ []) wrapped is_iv is_vector laws opened wraps in
+    let count : length key ≡ length other =
+    omega (arith, ap length same, length-append key (check ∷ []), length-append other (checksum other ∷ [])) in
+    let parts = last_same key other check (checksum other) count same in
+    (parts.0, ap checksum parts.0 ∙ sym parts.1)
+
+-- ---- what opens it
+
+-- a list, and a block behind it
+unchained-behind : (D : List ℕ → List ℕ) (iv : List ℕ) (q p : List (List ℕ)) (block answer : List ℕ) → Unchains D iv q p
+    → answer ≡ xor_blocks (D block) (next_vector iv q) → Unchains D iv (q ++ block ∷ []) (p ++ answer ∷ [])
+unchained-behind D iv q p block answer unchains is =
+    Unchains-append D iv q p (block ∷ []) (answer ∷ []) unchains
+    (Unchains-unchained D (next_vector iv q) (block ∷ []) (answer ∷ []) (ap (λ (x : List ℕ). x ∷ []) is))
+
+-- from the first block, those between, and the last: x, p and y are their plaintexts
+pub Encloses-opened : (E D : List ℕ → List ℕ) (first last x y iv behind check : List ℕ)
+    (middle p turned key enclosed : List (List ℕ)) → Undoes D E → All IsBlock enclosed
+    → enclosed ≡ first ∷ middle ++ last ∷ [] → x ≡ xor_blocks (D first) second_iv → Unchains D first middle p
+    → y ≡ xor_blocks (D last) (next_vector first middle) → iv ≡ reverse y → turned ≡ reversed p → behind ≡ reverse x
+    → IsBlock iv → All IsBlock (turned ++ behind ∷ []) → Unchains D iv turned key
+    → check ≡ xor_blocks (D behind) (next_vector iv turned) → All IsBlock (key ++ check ∷ [])
+    → Encloses (λ block answer. answer ≡ E block) iv (key ++ check ∷ []) enclosed
+Encloses-opened E D first last x y iv behind check middle p turned key enclosed laws are whole is_x unchains is_y is_iv is_turned
+    is_behind iv_block are_temp1 opened is_check are_key =
+    let temp1 : List (List ℕ) = turned ++ behind ∷ [] in
+    let same : x ∷ p ++ y ∷ [] ≡ reversed (iv ∷ temp1) =
+    sym (reversed-reversed (x ∷ p ++ y ∷ []))
+    ∙ ap reversed (reversed-append (x ∷ []) (p ++ y ∷ [])
+    ∙ ap (λ (xs : List (List ℕ)). xs ++ reverse x ∷ []) (reversed-append p (y ∷ []))
+    ∙ sym (ap₂ ◌∷◌ is_iv (ap₂ (λ (xs : List (List ℕ)) (x : List ℕ). xs ++ x ∷ []) is_turned is_behind))) in
+    let P : List (List ℕ) → Type 0 = λ blocks. Unchains D second_iv enclosed blocks in
+    let Q : List (List ℕ) → Type 0 = λ blocks. Unchains D second_iv blocks (x ∷ p ++ y ∷ []) in
+    record {
+      temp1 = temp1;
+      are_blocks = (are_key, are_temp1);
+      first =
+          Cbc-from_Unchains E D iv (key ++ check ∷ []) temp1 iv_block are_temp1 laws.is_block laws.undone
+          (unchained-behind D iv turned key behind check opened is_check);
+      second =
+          Cbc-from_Unchains E D second_iv (reversed (iv ∷ temp1)) enclosed is_second_iv are laws.is_block laws.undone
+          (subst P same (subst Q (sym whole)
+          (Unchains-append D second_iv (first ∷ []) (x ∷ []) (middle ++ last ∷ []) (p ++ y ∷ [])
+          (unchained-behind D second_iv [] [] first x (Unchains-unchained D second_iv [] [] refl) is_x)
+          (unchained-behind D first middle p last y unchains is_y))));
+    }
+
+-- ---- by the relation of a cipher's key
+
+module _ (Answers : List ℕ → List ℕ → Type 0) (E : List ℕ → List ℕ) (graph : IsGraphOf E Answers) (iv : List ℕ)
+    (p enclosed : List (List ℕ)) where
+  pub Encloses-related : IsBlock iv → ((block : List ℕ) → IsBlock block → IsBlock (E block))
+      → Encloses (λ block answer. answer ≡ E block) iv p enclosed → Encloses Answers iv p enclosed
+  Encloses-related is_iv makes_blocks encloses = record {
+    temp1 = encloses.temp1;
+    are_blocks = encloses.are_blocks;
+    first = Chains-related Answers E graph iv p encloses.temp1 is_iv encloses.are_blocks.0 makes_blocks encloses.first;
+    second =
+        Chains-related Answers E graph second_iv (reversed (iv ∷ encloses.temp1)) enclosed is_second_iv
+        (All-reversed (iv ∷ encloses.temp1) (All-cons IsBlock iv encloses.temp1 is_iv encloses.are_blocks.1)) makes_blocks
+        encloses.second;
+  }
+
+  pub Encloses-from_related : Encloses Answers iv p enclosed → Encloses (λ block answer. answer ≡ E block) iv p enclosed
+  Encloses-from_related encloses = record {
+    temp1 = encloses.temp1;
+    are_blocks = encloses.are_blocks;
+    first =
+        Chains-weaker Answers (λ block answer. answer ≡ E block) iv p encloses.temp1
+        (λ x y related. sym ((graph x y).0 related).1) encloses.first;
+    second =
+        Chains-weaker Answers (λ block answer. answer ≡ E block) second_iv (reversed (iv ∷ encloses.temp1)) enclosed
+        (λ x y related. sym ((graph x y).0 related).1) encloses.second;
+  }

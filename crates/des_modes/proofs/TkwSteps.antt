@@ -10,7 +10,8 @@ use Rattle.des.specs.Blocks.{IsBlock}
 use Rattle.des.specs.Cbc.{xor_blocks}
 use Rattle.des.specs.Laws.BlockBits.{AreBytes-bytes_high_first}
 use Rattle.des.proofs.XoredBlocks.{length-xor_blocks, xor_blocks-undone}
-use Rattle.des_modes.specs.Tkw.{IsSemiblock, icv3, tw_step, tw_steps, tw, tkw}
+use Rattle.des.specs.Relations.{IsGraphOf}
+use Rattle.des_modes.specs.Tkw.{IsSemiblock, TkwUnder, icv3, tw_step, tw_steps, tw, tkw}
 
 -- the last of some steps
 tw_steps-last : (E : List ℕ → List ℕ) (t m : ℕ) (words : List (List ℕ))
@@ -78,7 +79,7 @@ encrypted_again E block a w decrypted first second is_first is_second undoes joi
 -- ---- the semiblocks that the steps were made of
 
 -- two lists with one more element each
-last_same : (xs ys : List (List ℕ)) (x y : List ℕ) → length xs ≡ length ys → xs ++ x ∷ [] ≡ ys ++ y ∷ []
+pub last_same : (xs ys : List (List ℕ)) (x y : List ℕ) → length xs ≡ length ys → xs ++ x ∷ [] ≡ ys ++ y ∷ []
     → (xs ≡ ys) × (x ≡ y)
 last_same [] [] x y count same = (refl, ap (λ (zs : List (List ℕ)). get_or zs 0 []) same)
 last_same [] (z ∷ ys) x y count same = absurd (omega arith)
@@ -206,3 +207,37 @@ unwrapped-one E D first words other wrapped undone is_block is_first are too siz
     tw_steps-injective E D 0 made (first ∷ words) (icv3 ∷ other) laws (All-cons IsSemiblock first words is_first are)
     (All-cons IsSemiblock icv3 other is_icv3 too) (omega (arith, count))
     (ap (λ (n : ℕ). tw_steps E 0 n (first ∷ words)) (sym steps) ∙ same ∙ sym wraps)
+
+-- ---- by the relation of a cipher's key
+
+-- two encryptions that answer blocks alike
+module _ (E D other : List ℕ → List ℕ) (laws : Undoes E D)
+    (alike : (block : List ℕ) → IsBlock block → E block ≡ other block) where
+  tw_step-alike : (t : ℕ) (words : List (List ℕ)) → All IsSemiblock words → tw_step E t words ≡ tw_step other t words
+  tw_step-alike t [] are = refl
+  tw_step-alike t (a ∷ []) are = refl
+  tw_step-alike t (a ∷ r ∷ rest) are =
+      let is_r = All-head IsSemiblock r rest (All-tail IsSemiblock a (r ∷ rest) are) in
+      rw (alike (a ++ r) (IsBlock-joined a r (All-head IsSemiblock a (r ∷ rest) are) is_r)) refl
+
+  tw_steps-alike : (t m : ℕ) (words : List (List ℕ)) → All IsSemiblock words → tw_steps E t m words ≡ tw_steps other t m words
+  tw_steps-alike t zero words are = refl
+  tw_steps-alike t (suc m) words are =
+      tw_steps-alike (suc t) m (tw_step E (suc t) words) (AreSemiblocks-tw_step E D (suc t) words laws are)
+      ∙ ap (tw_steps other (suc t) m) (tw_step-alike (suc t) words are)
+
+pub TkwUnder-from_tkw : (Answers : List ℕ → List ℕ → Type 0) (E : List ℕ → List ℕ) (key wrapped : List (List ℕ))
+    → IsGraphOf E Answers → tkw E key ≡ wrapped → TkwUnder Answers key wrapped
+TkwUnder-from_tkw Answers E key wrapped graph made = record {
+  encryption = E;
+  answered = λ block is_block. (graph block (E block)).1 (is_block, refl);
+  answer = made;
+}
+
+pub tkw-from_TkwUnder : (Answers : List ℕ → List ℕ → Type 0) (E D : List ℕ → List ℕ) (key wrapped : List (List ℕ))
+    → IsGraphOf E Answers → Undoes E D → All IsSemiblock key → TkwUnder Answers key wrapped → tkw E key ≡ wrapped
+tkw-from_TkwUnder Answers E D key wrapped graph laws are under =
+    tw_steps-alike E D under.encryption laws
+    (λ block is_block. ((graph block (under.encryption block)).0 (under.answered block is_block)).1) 0
+    (6 * (length (icv3 ∷ key) - 1)) (icv3 ∷ key) (All-cons IsSemiblock icv3 key (IsSemiblock-number 0xa6a6a6a6) are)
+    ∙ under.answer

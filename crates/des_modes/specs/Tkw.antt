@@ -1,7 +1,7 @@
 -- The key wrap TKW of triple DES (NIST SP 800-38F, 7): a key in semiblocks of 32 bits, four bytes each.
 use Rattle.std.specs.Prelude.{◌≡◌, ℕ, zero, suc, ◌-◌, ◌*◌, List, [], ◌∷◌, ◌++◌, length, take, drop}
 use Rattle.std.specs.Int.{w32, to_be_bytes}
-use Rattle.des.specs.Blocks.{AreBytes}
+use Rattle.des.specs.Blocks.{AreBytes, IsBlock}
 use Rattle.des.specs.Cbc.{xor_blocks}
 
 abbrev pub IsSemiblock : List ℕ → Type 0
@@ -19,7 +19,7 @@ tw_step encryption t (a ∷ []) = a ∷ []
 tw_step encryption t (a ∷ r ∷ rest) =
     xor_blocks (take 4 (encryption (a ++ r))) (to_be_bytes w32 t) ∷ rest ++ drop 4 (encryption (a ++ r)) ∷ []
 
--- the steps after step t, so many of them
+-- the next `count` steps after step t
 abbrev pub tw_steps : (List ℕ → List ℕ) → ℕ → ℕ → List (List ℕ) → List (List ℕ)
 tw_steps encryption t zero words = words
 tw_steps encryption t (suc count) words = tw_steps encryption (suc t) count (tw_step encryption (suc t) words)
@@ -31,3 +31,9 @@ tw encryption words = tw_steps encryption 0 (6 * (length words - 1)) words
 -- TKW-AE(P)
 abbrev pub tkw : (List ℕ → List ℕ) → List (List ℕ) → List (List ℕ)
 tkw encryption key = tw encryption (icv3 ∷ key)
+
+-- by a relation of blocks, such as that of a key: by an encryption that answers each block as the relation does
+pub record TkwUnder (Answers : List ℕ → List ℕ → Type 0) (key wrapped : List (List ℕ)) : Type 0 where
+  pub encryption : List ℕ → List ℕ
+  pub answered : (block : List ℕ) → IsBlock block → Answers block (encryption block)
+  pub answer : tkw encryption key ≡ wrapped

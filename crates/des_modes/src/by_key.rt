@@ -1,15 +1,20 @@
-//! The modes in one call, by the relation of the cipher's key, in its calls of lists: in batches of
-//! `S::BATCH` blocks, and, if `no_tables` is true, without a table read at an index that depends on the
-//! key or on a block.
+//! The modes and key wraps in one call, by the relation of the cipher's key. The modes go by the
+//! cipher's calls of lists: in batches of `S::BATCH` blocks, and, if `no_tables` is true, without a
+//! table read at an index that depends on the key or on a block.
 
-ghost use Rattle.std.specs.Prelude.{◌≡◌, ◌≤◌, ◌*◌, ℕ, List, length};
+ghost use Rattle.std.specs.Prelude.{◌≡◌, ◌<◌, ◌≤◌, ◌+◌, ◌*◌, ◌^◌, ℕ, List, length, replicate, IsOk, OnOk, OnErr};
+ghost use Rattle.std.specs.List.{All};
 ghost use Rattle.des.specs.Bits.{bits_of_bytes};
+ghost use Rattle.des.specs.Blocks.{IsBlock};
 ghost use Rattle.des_modes.specs.CfbBits.{CfbBits, first_bits};
+ghost use Rattle.des_modes.specs.CmsKeyWrap.{WrapsUnder};
 ghost use Rattle.des_modes.specs.Related.{CtrUnder, OfbUnder};
+ghost use Rattle.des_modes.specs.Tkw.{IsSemiblock, TkwUnder};
 
 use crate::lists::ByLists;
-use crate::{cfb, cfb_bits, ctr, ofb};
-use des::cipher::are_bytes;
+use crate::unwrap_error::UnwrapError;
+use crate::{cfb, cfb_bits, cms_key_wrap, ctr, ofb, tkw};
+use des::cipher::{Relating, are_bytes};
 use des_fast::many::{ManyBlocks, Slice};
 
 /// Encrypts or decrypts bytes in place by the counter mode, as `ctr::apply` does.
@@ -105,4 +110,62 @@ pub fn decrypt_cfb_bits<C: ManyBlocks, S: Slice>(
         (first_bits bits bytes.new) (first_bits bits bytes.old) }
 {
     cfb_bits::decrypt(&ByLists::<C, S>::new(cipher, no_tables), iv, bytes, bits);
+}
+
+/// Wraps a key by the key wrap of CMS, as `cms_key_wrap::wrap` does.
+pub fn wrap_cms<C: Relating>(cipher: &C, iv: &[u8; 8], key: &[[u8; 8]], wrapped: &mut [[u8; 8]])
+    requires { length wrapped.old ≡ length key.now + 2 }
+    ensures { (protection : List ℕ) → C.is_made_from cipher.now protection
+        → WrapsUnder (C.relation protection) iv.now key.now wrapped.new }
+{
+    are_bytes(iv);
+    cms_key_wrap::wrap(cipher, iv, key, wrapped);
+}
+
+/// Unwraps a key that the key wrap of CMS wrapped, as `cms_key_wrap::unwrap` does.
+pub fn unwrap_cms<C: Relating>(
+    cipher: &C,
+    wrapped: &[[u8; 8]],
+    key: &mut [[u8; 8]],
+) -> Result<(), UnwrapError>
+    requires { length wrapped.now ≡ length key.old + 2 }
+    ensures unwrapped { (protection : List ℕ) → C.is_made_from cipher.now protection
+        → OnOk result ((iv : List ℕ) × IsBlock iv
+        × WrapsUnder (C.relation protection) iv key.new wrapped.now) }
+    ensures accepted { (protection iv : List ℕ) (other : List (List ℕ))
+        → C.is_made_from cipher.now protection → IsBlock iv
+        → WrapsUnder (C.relation protection) iv other wrapped.now → IsOk result × (key.new ≡ other) }
+    ensures none { OnErr result (key.new ≡ replicate (length key.old) (replicate 8 0)) }
+{
+    cms_key_wrap::unwrap(cipher, wrapped, key)
+}
+
+/// Wraps a key by TKW, as `tkw::wrap` does.
+pub fn wrap_tkw<C: Relating>(cipher: &C, key: &[[u8; 4]], wrapped: &mut [[u8; 4]])
+    requires some { 2 ≤ length key.now }
+    requires few { length key.now < 2 ^ 28 }
+    requires room { length wrapped.old ≡ length key.now + 1 }
+    ensures { (protection : List ℕ) → C.is_made_from cipher.now protection
+        → TkwUnder (C.relation protection) key.now wrapped.new }
+{
+    tkw::wrap(cipher, key, wrapped);
+}
+
+/// Unwraps a key that TKW wrapped, as `tkw::unwrap` does.
+pub fn unwrap_tkw<C: Relating>(
+    cipher: &C,
+    wrapped: &[[u8; 4]],
+    key: &mut [[u8; 4]],
+) -> Result<(), UnwrapError>
+    requires some { 2 ≤ length key.old }
+    requires few { length key.old < 2 ^ 28 }
+    requires room { length wrapped.now ≡ length key.old + 1 }
+    ensures unwrapped { (protection : List ℕ) → C.is_made_from cipher.now protection
+        → OnOk result (TkwUnder (C.relation protection) key.new wrapped.now) }
+    ensures accepted { (protection : List ℕ) (other : List (List ℕ))
+        → C.is_made_from cipher.now protection → All IsSemiblock other
+        → TkwUnder (C.relation protection) other wrapped.now → IsOk result × (key.new ≡ other) }
+    ensures none { OnErr result (key.new ≡ replicate (length key.old) (replicate 4 0)) }
+{
+    tkw::unwrap(cipher, wrapped, key)
 }

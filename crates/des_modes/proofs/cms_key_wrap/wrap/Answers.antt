@@ -1,10 +1,11 @@
-use Rattle.std.proofs.Common.{List, ℕ, ap, subst, ◌∙◌}
-use Rattle.std.specs.Prelude.{◌++◌}
+use Rattle.std.proofs.Common.{◌≡◌, ℕ, ◌+◌, List, drop, ap, subst, ◌∙◌, arith}
 use Rattle.des_modes.specs.CmsKeyWrap.{Encloses}
+use Rattle.des_modes.proofs.Enclosed.{put_rest}
 use Rattle.des_modes.proofs.cms_key_wrap.wrap.Goals as goal
 
 pub returns : goal.returns
 returns g c =
-    let P : List ℕ → Type 0 = λ bytes.
-    Encloses (g.C.BlockCipherEncrypt.encrypted c.args.cipher.now) c.args.iv.now bytes c.enclose.result in
-    subst P (c.write_joined.ensures ∙ ap (λ (xs : List ℕ). c.args.key.now ++ xs) c.checksum.ensures) c.enclose.ensures
+    let P : List (List ℕ) → Type 0 = λ blocks.
+    Encloses (λ block answer. answer ≡ g.C.BlockCipherEncrypt.encrypted c.args.cipher.now block) c.args.iv.now blocks c.enclose.new.blocks in
+    subst P (ap (drop 1) (put_rest c.args.wrapped.now c.write_checked.new.checked (omega arith) (omega arith)) ∙ c.write_checked.ensures)
+    c.enclose.ensures
