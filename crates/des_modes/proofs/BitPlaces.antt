@@ -3,8 +3,8 @@ use Rattle.std.proofs.Common.{◌≡◌, ◌≢◌, ℕ, zero, suc, ◌+◌, ◌
 use Rattle.std.proofs.Math.Pow.{pow-lt}
 use Rattle.std.specs.Int.{bit_at, w64, from_be_bytes, to_be_bytes}
 use Rattle.std.proofs.Math.ListN.{get_or-append}
-use Rattle.std.proofs.lemmas.Bool.{cases_eq, cases_lt}
-use Rattle.std.proofs.lemmas.List.{get_or-append_right, get_or-set_same, get_or-set_other, length-set, take-append-drop, get_or_past}
+use Rattle.std.proofs.lemmas.Bool.{cases_eq}
+use Rattle.std.proofs.lemmas.List.{ext_get_or, get_or-append_right, get_or-set_same, get_or-set_other, length-set, set-append_left, set-append_right, take-append-drop}
 use Rattle.std.proofs.lemmas.Nat.Bits.{bit_at-pow_same, bit_at-pow_other, bit_at-zero}
 use Rattle.std.proofs.lemmas.Bool.Decides.{nat_tests}
 use mir.Val.{bool_byte}
@@ -67,80 +67,75 @@ block_bit-of_byte bytes i within =
 
 -- ---- a bit that is changed
 
-small_pow : (a : ℕ) → a < 8 → 1 * 2 ^ a % 256 ≡ 2 ^ a
-small_pow a below = ap (λ (m : ℕ). m % 256) (one-mul (2 ^ a)) ∙ mod-eq_of_lt (pow-lt below)
-
-mask_at : (bit : Bool) (a : ℕ) → a < 8 → (bit_at (bool_byte bit * 2 ^ a % 256) a == 1) ≡ bit
-mask_at true a below = ap (λ (m : ℕ). bit_at m a == 1) (small_pow a below) ∙ ap (λ (m : ℕ). m == 1) (bit_at-pow_same a)
-mask_at false a below =
+mask_at : (bit : Bool) (a k : ℕ) → a < 8 → k ≡ a → (bit_at (bool_byte bit * 2 ^ a % 256) k == 1) ≡ bit
+mask_at true a k below here =
+    ap₂ (λ (m i : ℕ). bit_at (m % 256) i == 1) (one-mul (2 ^ a)) here
+    ∙ ap (λ (m : ℕ). bit_at m a == 1) (mod-eq_of_lt (pow-lt below)) ∙ ap (λ (m : ℕ). m == 1) (bit_at-pow_same a)
+mask_at false a k below here =
     let none : 0 * 2 ^ a % 256 ≡ 0 = omega arith in
-    ap (λ (m : ℕ). bit_at m a == 1) none ∙ ap (λ (m : ℕ). m == 1) (bit_at-zero a)
+    ap (λ (m : ℕ). bit_at m k == 1) none ∙ ap (λ (m : ℕ). m == 1) (bit_at-zero k)
 
 mask_other : (bit : Bool) (a k : ℕ) → a < 8 → k ≢ a → (bit_at (bool_byte bit * 2 ^ a % 256) k == 1) ≡ false
 mask_other true a k below other =
-    ap (λ (m : ℕ). bit_at m k == 1) (small_pow a below) ∙ ap (λ (m : ℕ). m == 1) (bit_at-pow_other a k other)
+    ap (λ (m : ℕ). bit_at (m % 256) k == 1) (one-mul (2 ^ a))
+    ∙ ap (λ (m : ℕ). bit_at m k == 1) (mod-eq_of_lt (pow-lt below)) ∙ ap (λ (m : ℕ). m == 1) (bit_at-pow_other a k other)
 mask_other false a k below other =
     let none : 0 * 2 ^ a % 256 ≡ 0 = omega arith in
     ap (λ (m : ℕ). bit_at m k == 1) none ∙ ap (λ (m : ℕ). m == 1) (bit_at-zero k)
 
-pub xor-none : (bit : Bool) → xor bit false ≡ bit
+xor-none : (bit : Bool) → xor bit false ≡ bit
 xor-none true = refl
 xor-none false = refl
 
-pub xor-undone : (bit other : Bool) → xor (xor bit other) other ≡ bit
-xor-undone true true = refl
-xor-undone true false = refl
-xor-undone false true = refl
-xor-undone false false = refl
+-- of a byte
+byte-xored : (byte r : ℕ) (bit : Bool) → r < 8 → bits_of 8 (bit_xor byte (bool_byte bit * 2 ^ (7 - r) % 256))
+    ≡ set (bits_of 8 byte) r (xor (get_or (bits_of 8 byte) r false) bit)
+byte-xored byte r bit below =
+    let mask : ℕ = bool_byte bit * 2 ^ (7 - r) % 256 in
+    let bits : List Bool = bits_of 8 byte in
+    let wide : length bits ≡ 8 = length-bits_of 8 byte in
+    let y : Bool = xor (get_or bits r false) bit in
+    ext_get_or false (bits_of 8 (bit_xor byte mask)) (set bits r y)
+    (length-bits_of 8 (bit_xor byte mask) ∙ sym (length-set bits r y ∙ wide)) (λ k within.
+    let inside : k < 8 = omega (arith, length-bits_of 8 (bit_xor byte mask)) in
+    let both : get_or (bits_of 8 (bit_xor byte mask)) k false ≡ xor (get_or bits k false) (bit_at mask (7 - k) == 1) =
+    get_or-bits_of 8 (bit_xor byte mask) k inside ∙ bit_at-xor byte mask (7 - k)
+    ∙ ap (λ (x : Bool). xor x (bit_at mask (7 - k) == 1)) (sym (get_or-bits_of 8 byte k inside)) in
+    elim (cases_eq k r) [
+      | inl here ↦
+          both ∙ ap₂ (λ (i : ℕ) (x : Bool). xor (get_or bits i false) x) here (mask_at bit (7 - r) (7 - k) (omega arith) (omega arith))
+          ∙ sym (ap (λ (i : ℕ). get_or (set bits r y) i false) here ∙ get_or-set_same bits r y false (omega arith))
+      | inr other ↦
+          both ∙ ap (xor (get_or bits k false)) (mask_other bit (7 - r) (7 - k) (omega arith) (omega arith))
+          ∙ xor-none (get_or bits k false) ∙ sym (get_or-set_other bits r k y false other)
+    ])
 
--- the bytes with the bit at a place xored with another
-abbrev pub with_bit_xored : List ℕ → ℕ → Bool → List ℕ
-with_bit_xored bytes place bit =
-    set bytes (place / 8) (bit_xor (get_or bytes (place / 8) 0) (bool_byte bit * 2 ^ (7 - place % 8) % 256))
+-- of bytes, of which one is changed
+set-bits : (bytes : List ℕ) (j r place new : ℕ) (bit : Bool) → place ≡ 8 * j + r → r < 8 → j < length bytes
+    → bits_of 8 new ≡ set (bits_of 8 (get_or bytes j 0)) r bit → bits_of_bytes (set bytes j new) ≡ set (bits_of_bytes bytes) place bit
+unfolding bits_of_bytes
+set-bits [] j r place new bit is below within same = absurd (omega arith)
+set-bits (byte ∷ bytes) zero r place new bit is below within same =
+    let here : r ≡ place = omega arith in
+    ap (λ (bits : List Bool). bits ++ bits_of_bytes bytes) same
+    ∙ sym (set-append_left (bits_of 8 byte) (bits_of_bytes bytes) r bit (omega (arith, length-bits_of 8 byte)))
+    ∙ ap (λ (i : ℕ). set (bits_of 8 byte ++ bits_of_bytes bytes) i bit) here
+set-bits (byte ∷ bytes) (suc j) r place new bit is below within same =
+    ap (λ (bits : List Bool). bits_of 8 byte ++ bits)
+    (set-bits bytes j r (place - 8) new bit (omega arith) below (omega arith) same)
+    ∙ sym (set-append_right (bits_of 8 byte) (bits_of_bytes bytes) 8 place bit (length-bits_of 8 byte) (omega arith))
 
-pub xored-at : (bytes : List ℕ) (place : ℕ) (bit : Bool) → place < 8 * length bytes
-    → block_bit (with_bit_xored bytes place bit) place ≡ xor (block_bit bytes place) bit
-xored-at bytes place bit within =
-    let j : ℕ = place / 8 in
-    let a : ℕ = 7 - place % 8 in
-    let byte : ℕ = get_or bytes j 0 in
-    let mask : ℕ = bool_byte bit * 2 ^ a % 256 in
-    let same : length (with_bit_xored bytes place bit) ≡ length bytes = length-set bytes j (bit_xor byte mask) in
-    block_bit-of_byte (with_bit_xored bytes place bit) place (omega arith)
-    ∙ ap (λ (x : ℕ). bit_at x a == 1) (get_or-set_same bytes j (bit_xor byte mask) 0 (omega arith))
-    ∙ bit_at-xor byte mask a
-    ∙ ap₂ xor (sym (block_bit-of_byte bytes place within)) (mask_at bit a (omega arith))
-
-pub xored-other : (bytes : List ℕ) (place i : ℕ) (bit : Bool) → place < 8 * length bytes → i ≢ place
-    → block_bit (with_bit_xored bytes place bit) i ≡ block_bit bytes i
-xored-other bytes place i bit within other =
-    let j : ℕ = place / 8 in
-    let a : ℕ = 7 - place % 8 in
-    let byte : ℕ = get_or bytes j 0 in
-    let mask : ℕ = bool_byte bit * 2 ^ a % 256 in
-    let new : List ℕ = with_bit_xored bytes place bit in
-    let same : length new ≡ length bytes = length-set bytes j (bit_xor byte mask) in
-    elim (cases_lt i (8 * length bytes)) [
-      | inl inside ↦
-          elim (cases_eq (i / 8) j) [
-            | inl here ↦
-                block_bit-of_byte new i (omega arith)
-                ∙ ap (λ (k : ℕ). bit_at (get_or new k 0) (7 - i % 8) == 1) here
-                ∙ ap (λ (x : ℕ). bit_at x (7 - i % 8) == 1) (get_or-set_same bytes j (bit_xor byte mask) 0 (omega arith))
-                ∙ bit_at-xor byte mask (7 - i % 8)
-                ∙ ap (xor (bit_at byte (7 - i % 8) == 1)) (mask_other bit a (7 - i % 8) (omega arith) (omega arith))
-                ∙ xor-none (bit_at byte (7 - i % 8) == 1)
-                ∙ ap (λ (k : ℕ). bit_at (get_or bytes k 0) (7 - i % 8) == 1) (sym here)
-                ∙ sym (block_bit-of_byte bytes i inside)
-            | inr elsewhere ↦
-                block_bit-of_byte new i (omega arith)
-                ∙ ap (λ (x : ℕ). bit_at x (7 - i % 8) == 1) (get_or-set_other bytes j (i / 8) (bit_xor byte mask) 0 elsewhere)
-                ∙ sym (block_bit-of_byte bytes i inside)
-          ]
-      | inr past ↦
-          get_or_past (bits_of_bytes new) i false (omega (arith, length-bits_of_bytes new))
-          ∙ sym (get_or_past (bits_of_bytes bytes) i false (omega (arith, length-bits_of_bytes bytes)))
-    ]
+pub bits-xored : (bytes : List ℕ) (place : ℕ) (bit : Bool) → place < 8 * length bytes
+    → bits_of_bytes (set bytes (place / 8) (bit_xor (get_or bytes (place / 8) 0) (bool_byte bit * 2 ^ (7 - place % 8) % 256)))
+    ≡ set (bits_of_bytes bytes) place (xor (block_bit bytes place) bit)
+bits-xored bytes place bit within =
+    let r : ℕ = place % 8 in
+    let byte : ℕ = get_or bytes (place / 8) 0 in
+    let below : r < 8 = omega arith in
+    let is : place ≡ 8 * (place / 8) + r = omega arith in
+    set-bits bytes (place / 8) r place _ _ is below (omega arith)
+    (byte-xored byte r bit below
+    ∙ ap (λ (x : Bool). set (bits_of 8 byte) r (xor x bit)) (sym (get_or-bits_of_bytes bytes (place / 8) r place is (omega arith) below)))
 
 -- ---- a register that is shifted
 

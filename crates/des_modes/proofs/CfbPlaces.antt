@@ -1,15 +1,12 @@
 -- The shift register along a ciphertext.
-use Rattle.std.proofs.Common.{◌≡◌, inl, inr, ℕ, ◌+◌, ◌*◌, ◌/◌, ◌%◌, ◌<◌, ◌≤◌, List, [], ◌++◌, length, get_or, take, drop, bit_xor, ap, ap₂, sym, ◌∙◌, subst, arith, append_assoc, length-append, length-drop, length-take-le, take-add}
+use Rattle.std.proofs.Common.{◌≡◌, inl, inr, ℕ, ◌+◌, ◌*◌, ◌/◌, ◌%◌, ◌<◌, ◌≤◌, List, [], ◌++◌, length, get_or, take, drop, bit_xor, ap, ap₂, sym, ◌∙◌, arith, append_assoc, length-append, length-drop}
 use Rattle.std.proofs.lemmas.Bool.{cases_lt}
-use Rattle.std.proofs.lemmas.List.{drop-drop, drop-append-le, take-append-le, take-append-drop, take_all, append-nil}
+use Rattle.std.proofs.lemmas.List.{drop-drop, drop-append-le, take-append-le, take_all, append-nil}
 use Rattle.std.proofs.Math.Nat.{mul-div-le, mod-add-mod, mod_self, mod-eq_of_lt, div-add-mod}
 use Rattle.des_modes.specs.Streams.{XorsFrom}
-use Rattle.des_modes.specs.Cfb.{Cfb, input_block, cfb_stream}
+use Rattle.des_modes.specs.Cfb.{input_block, cfb_stream}
 use Rattle.des_modes.specs.CfbStates.{IsCfbAt}
 use Rattle.des_modes.specs.declared.cfb.Register.{Register}
-use Rattle.std.proofs.lemmas.Slice.{take-put_mid}
-use borrow.Rule.Slice.PartMut.{put_mid, mid_of}
-use Rattle.des_modes.proofs.XoredPieces.{XorsFrom-onto, XorsFrom-other, IsDone, IsDone-more, IsDone-other}
 use Rattle.des_modes.proofs.Segments.{same_segment, same_segment-mod, between-div, between-mod, between-times, segment-lt}
 
 -- what stands behind n + m bytes of IV | C, where C goes on: what stands behind m of the register and
@@ -48,18 +45,6 @@ length-iv s encryption iv c state wide is =
 pub beginning : (s : ℕ) (iv : List ℕ) → 1 ≤ s → (0 % s ≡ 0) × (iv ≡ iv ++ [])
 beginning s iv some =
     let positive : 0 < s = omega arith in (mod-eq_of_lt positive, sym (append-nil iv))
-
--- what goes on from what came before makes the whole
-pub Cfb-append : (s : ℕ) (encryption : List ℕ → List ℕ) (iv p c more answers : List ℕ) → length iv ≡ 8
-    → Cfb s encryption iv p c → XorsFrom (length c) (cfb_stream s encryption iv (c ++ answers)) more answers
-    → Cfb s encryption iv (p ++ more) (c ++ answers)
-Cfb-append s encryption iv p c more answers wide begun made =
-    let stream : List ℕ → ℕ → ℕ = cfb_stream s encryption iv in
-    let P : ℕ → Type 0 = λ n. XorsFrom n (stream (c ++ answers)) more answers in
-    XorsFrom-onto (stream (c ++ answers)) p c more answers
-    (XorsFrom-other 0 (stream c) (stream (c ++ answers)) p c
-    (λ i below. sym (cfb_stream-front s encryption iv c answers (0 + i) wide (omega (arith, begun.count)))) begun)
-    (subst P begun.count made)
 
 -- between segments the register is the one before the next
 pub input_block-next : (s : ℕ) (iv c : List ℕ) → length iv ≡ 8 → length c % s ≡ 0
@@ -180,72 +165,3 @@ XorsFrom-beyond s encryption iv c bytes register new blocks some wide begins is 
       ∙ ap (bit_xor (get_or bytes i 0))
       (ap₂ (λ (xs : List ℕ) (m : ℕ). get_or xs m 0) block (sym (between-mod s n i begins)));
 }
-
--- ---- a ciphertext that is written in place
-
--- the ciphertext so far, and a part more
-pub so_far-more : (c now part : List ℕ) (from count size : ℕ) → length part ≡ count → from ≤ length now
-    → (c ++ take from now) ++ part ≡ c ++ take (from + count) (put_mid from size now part)
-so_far-more c now part from count size many within =
-    append_assoc c (take from now) part
-    ∙ ap (λ (xs : List ℕ). c ++ xs) (sym (take-put_mid from size now part (from + count) (omega arith) within))
-
-pub IsDone-encrypted : (s : ℕ) (encryption : List ℕ → List ℕ) (iv c old now part : List ℕ) (from count size : ℕ)
-    → length iv ≡ 8 → size ≡ count → from + count ≤ length old → length now ≡ length old → length part ≡ count
-    → IsDone (length c) (cfb_stream s encryption iv (c ++ take from now)) from old now
-    → XorsFrom (length (c ++ take from now)) (cfb_stream s encryption iv ((c ++ take from now) ++ part))
-    (mid_of from size now) part
-    → IsDone (length c) (cfb_stream s encryption iv (c ++ take (from + count) (put_mid from size now part)))
-    (from + count) old (put_mid from size now part)
-IsDone-encrypted s encryption iv c old now part from count size wide is within same many so_far made =
-    let done : List ℕ = c ++ take from now in
-    let stream : List ℕ → ℕ → ℕ = cfb_stream s encryption iv in
-    let long : length done ≡ length c + from =
-    length-append c (take from now) ∙ ap (λ (m : ℕ). length c + m) (length-take-le from now (omega arith)) in
-    let whole = so_far-more c now part from count size many (omega arith) in
-    let here : XorsFrom (length c + from) (stream (done ++ part)) (mid_of from size now) part =
-    let P : ℕ → Type 0 = λ m. XorsFrom m (stream (done ++ part)) (mid_of from size now) part in subst P long made in
-    let before : IsDone (length c) (stream (done ++ part)) from old now =
-    IsDone-other (length c) (stream done) (stream (done ++ part)) from old now (omega arith)
-    (λ i below. sym (cfb_stream-front s encryption iv done part (length c + i) wide (omega arith))) so_far in
-    let P : List ℕ → Type 0 = λ all. IsDone (length c) (stream all) (from + count) old (put_mid from size now part) in
-    subst P whole (IsDone-more (length c) (stream (done ++ part)) from count size old now part is within same before here)
-
--- ---- a ciphertext that is decrypted in place
-
--- its front, and a part more
-pub front-more : (c old now : List ℕ) (from count size : ℕ) → size ≡ count → drop from now ≡ drop from old
-    → (c ++ take from old) ++ mid_of from size now ≡ c ++ take (from + count) old
-front-more c old now from count size is rest =
-    append_assoc c (take from old) (take size (drop from now))
-    ∙ ap (λ (xs : List ℕ). c ++ (take from old ++ xs)) (ap₂ (λ (m : ℕ) (xs : List ℕ). take m xs) is rest)
-    ∙ ap (λ (xs : List ℕ). c ++ xs) (sym (take-add from count old))
-
-pub IsDone-decrypted : (s : ℕ) (encryption : List ℕ → List ℕ) (iv c old now part : List ℕ) (from count size : ℕ)
-    → length iv ≡ 8 → size ≡ count → from + count ≤ length old → length now ≡ length old
-    → IsDone (length c) (cfb_stream s encryption iv (c ++ old)) from old now
-    → XorsFrom (length (c ++ take from old)) (cfb_stream s encryption iv ((c ++ take from old) ++ mid_of from size now))
-    (mid_of from size now) part
-    → IsDone (length c) (cfb_stream s encryption iv (c ++ old)) (from + count) old (put_mid from size now part)
-IsDone-decrypted s encryption iv c old now part from count size wide is within same so_far made =
-    let front : List ℕ = c ++ take (from + count) old in
-    let stream : List ℕ → ℕ → ℕ = cfb_stream s encryption iv in
-    let long : length (c ++ take from old) ≡ length c + from =
-    length-append c (take from old) ∙ ap (λ (m : ℕ). length c + m) (length-take-le from old (omega arith)) in
-    let whole : front ++ drop (from + count) old ≡ c ++ old =
-    append_assoc c (take (from + count) old) (drop (from + count) old)
-    ∙ ap (λ (xs : List ℕ). c ++ xs) (take-append-drop (from + count) old) in
-    let size_of_front : length front ≡ length c + (from + count) =
-    length-append c (take (from + count) old)
-    ∙ ap (λ (m : ℕ). length c + m) (length-take-le (from + count) old within) in
-    let many : length (mid_of from size now) ≡ count =
-    length-take-le size (drop from now) (omega (arith, length-drop from now)) ∙ is in
-    let here : XorsFrom (length c + from) (stream front) (mid_of from size now) part =
-    let P : ℕ → List ℕ → Type 0 = λ m all. XorsFrom m (stream all) (mid_of from size now) part in
-    subst (λ (all : List ℕ). P (length c + from) all) (front-more c old now from count size is so_far.rest)
-    (subst (λ (m : ℕ). P m ((c ++ take from old) ++ mid_of from size now)) long made) in
-    IsDone-more (length c) (stream (c ++ old)) from count size old now part is within same so_far
-    (XorsFrom-other (length c + from) (stream front) (stream (c ++ old)) (mid_of from size now) part
-    (λ i below.
-    sym (cfb_stream-front s encryption iv front (drop (from + count) old) (length c + from + i) wide (omega arith))
-    ∙ ap (λ (all : List ℕ). stream all (length c + from + i)) whole) here)

@@ -11,7 +11,6 @@ use Rattle.des.specs.Laws.BlockBits.{IsBlock-to_be_bytes}
 use Rattle.des.specs.Relations.{IsGraphOf}
 use Rattle.des.proofs.ChainedBlocks.{Chains-weaker, Unchains-from_Cbc, Cbc-from_Unchains}
 use Rattle.des.proofs.ChainedPieces.{Unchains-append}
-use Rattle.des.proofs.ReversedLists.{map-reverse}
 use Rattle.des.proofs.UnchainedLists.{Unchains-unchained, unchained-from}
 use Rattle.des_fast.proofs.RelatedChains.{Chains-related}
 use Rattle.des_modes.specs.CmsKeyWrap.{second_iv, reversed, checksum, Encloses, Wraps}

@@ -1,17 +1,17 @@
 -- The definitions, computed at values from outside: the example of FIPS 81 (appendices C and D) in CFB-64, CFB-8, CFB-1
 -- and OFB, under the key 01 23 .. ef from the vector 12 34 56 78 90 ab cd ef, of the text "Now is the time for all "; and
 -- a counter that wraps.
-use Rattle.std.proofs.Common.{Bool, false, ◌≡◌, ℕ, zero, suc, ◌+◌, ◌<◌, List, [], ◌∷◌, length, get_or, take, bit_xor, refl, ap, sym, ◌∙◌, arith}
+use Rattle.std.proofs.Common.{false, ◌≡◌, ℕ, zero, suc, ◌+◌, ◌<◌, List, [], ◌∷◌, length, get_or, take, bit_xor, refl, ap, sym, ◌∙◌, arith}
 use Rattle.des.specs.Bits.{xor, bits_of, bits_of_bytes, number_of, select, xor_bits}
 use Rattle.des.specs.Blocks.{block_of_bits}
 use Rattle.des.specs.CipherFunction.{box_entry, substitute_by, cipher_function}
 use Rattle.des.specs.KeySchedule.{c_half, d_half, rotate, shifts_through, round_key, key_schedule}
 use Rattle.des.specs.Rounds.{after_rounds, through_rounds}
 use Rattle.des_modes.specs.Cfb.{Cfb}
-use Rattle.des_modes.specs.CfbBits.{Cfb1, XorsBitsFrom, cfb_bits}
+use Rattle.des_modes.specs.CfbBits.{Cfb1, cfb_bits}
 use Rattle.des_modes.specs.Ctr.{counter_block}
 use Rattle.des_modes.specs.Ofb.{Ofb}
-use Rattle.des_modes.specs.Streams.{XorsFrom}
+use Rattle.des_modes.specs.Streams.{Xors}
 
 -- elements under the xor with a key stream from element n on
 abbrev xored : {A : Type 0} → (A → A → A) → (ℕ → A) → ℕ → List A → List A
@@ -30,16 +30,10 @@ get_or-xored {A} op k none n (x ∷ xs) (suc i) below =
     let place : suc n + i ≡ n + suc i = omega arith in
     get_or-xored op k none (suc n) xs i (omega arith) ∙ ap (λ (m : ℕ). op (get_or xs i none) (k m)) place
 
-XorsFrom-xored : (k : ℕ → ℕ) (p c : List ℕ) → xored bit_xor k 0 p ≡ c → XorsFrom 0 k p c
-XorsFrom-xored k p c same = record {
-  count = ap length (sym same) ∙ length-xored bit_xor k 0 p;
-  xored = λ i below. ap (λ (xs : List ℕ). get_or xs i 0) (sym same) ∙ get_or-xored bit_xor k 0 0 p i below;
-}
-
-XorsBitsFrom-xored : (k : ℕ → Bool) (p c : List Bool) → xored xor k 0 p ≡ c → XorsBitsFrom 0 k p c
-XorsBitsFrom-xored k p c same = record {
-  count = ap length (sym same) ∙ length-xored xor k 0 p;
-  xored = λ i below. ap (λ (xs : List Bool). get_or xs i false) (sym same) ∙ get_or-xored xor k false 0 p i below;
+Xors-xored : {A : Type 0} (op : A → A → A) (none : A) (k : ℕ → A) (p c : List A) → xored op k 0 p ≡ c → Xors op none 0 k p c
+Xors-xored {A} op none k p c same = record {
+  count = ap length (sym same) ∙ length-xored op k 0 p;
+  xored = λ i below. ap (λ (xs : List A). get_or xs i none) (sym same) ∙ get_or-xored op k none 0 p i below;
 }
 
 -- the key, the vector and the text
@@ -76,25 +70,25 @@ in_cfb_8 = 0xf3 ∷ 0x1f ∷ 0xda ∷ 0x07 ∷ 0x01 ∷ 0x14 ∷ 0x62 ∷ 0xee �
 known_ofb : Ofb encryption vector text in_ofb
 unfolding encryption vector text in_ofb bits_of bits_of_bytes block_of_bits select substitute_by box_entry number_of
     cipher_function xor_bits round_key c_half d_half rotate shifts_through key_schedule after_rounds through_rounds key
-known_ofb = XorsFrom-xored _ text in_ofb refl
+known_ofb = Xors-xored bit_xor 0 _ text in_ofb refl
 
 known_cfb_64 : Cfb 8 encryption vector text in_cfb_64
 unfolding encryption vector text in_cfb_64 bits_of bits_of_bytes block_of_bits select substitute_by box_entry number_of
     cipher_function xor_bits round_key c_half d_half rotate shifts_through key_schedule after_rounds through_rounds key
-known_cfb_64 = XorsFrom-xored _ text in_cfb_64 refl
+known_cfb_64 = Xors-xored bit_xor 0 _ text in_cfb_64 refl
 
 -- the first eight bytes
 known_cfb_8 : Cfb 1 encryption vector (take 8 text) in_cfb_8
 unfolding encryption vector text in_cfb_8 bits_of bits_of_bytes block_of_bits select substitute_by box_entry number_of
     cipher_function xor_bits round_key c_half d_half rotate shifts_through key_schedule after_rounds through_rounds key
-known_cfb_8 = XorsFrom-xored _ (take 8 text) in_cfb_8 refl
+known_cfb_8 = Xors-xored bit_xor 0 _ (take 8 text) in_cfb_8 refl
 
 -- the bits of the first byte
 known_cfb_1 : Cfb1 encryption vector (bits_of_bytes (0x4e ∷ [])) (bits_of_bytes (0xcd ∷ []))
 unfolding encryption vector bits_of bits_of_bytes block_of_bits select substitute_by box_entry number_of cipher_function
     xor_bits round_key c_half d_half rotate shifts_through key_schedule after_rounds through_rounds key
 known_cfb_1 =
-    XorsBitsFrom-xored (cfb_bits 1 encryption vector (bits_of_bytes (0xcd ∷ []))) (bits_of_bytes (0x4e ∷ []))
+    Xors-xored xor false (cfb_bits 1 encryption vector (bits_of_bytes (0xcd ∷ []))) (bits_of_bytes (0x4e ∷ []))
     (bits_of_bytes (0xcd ∷ [])) refl
 
 known_counter : counter_block (0xff ∷ 0xff ∷ 0xff ∷ 0xff ∷ 0xff ∷ 0xff ∷ 0xff ∷ 0xfe ∷ []) 3

@@ -5,6 +5,7 @@ pub mod Enclosed
 pub mod BitPlaces
 pub mod CfbBitPlaces
 pub mod XoredPieces
+pub mod Pieces
 pub mod CtrPlaces
 pub mod Segments
 pub mod CfbPlaces

@@ -1,9 +1,10 @@
 -- Cipher feedback of k bits, CFB, as its standards print it (FIPS 81, cipher feedback mode; NIST SP 800-38A, 6.3): lists
 -- of bits in segments of k, from 1 to 64, of which the last may be cut short. Segments and bits are numbered from 0. With
 -- k = 1 it is CFB-1, and with k = 8 s, of the bits of bytes, CFB with segments of s bytes.
-use Rattle.std.specs.Prelude.{◌≡◌, ℕ, ◌+◌, ◌*◌, ◌/◌, ◌%◌, ◌<◌, Bool, false, List, ◌++◌, length, take, drop, slice_index_or}
+use Rattle.std.specs.Prelude.{ℕ, ◌*◌, ◌/◌, ◌%◌, ◌<◌, Bool, false, List, ◌++◌, length, take, drop, slice_index_or}
 use Rattle.des.specs.Bits.{bits_of_bytes, xor}
 use Rattle.des.specs.Blocks.{block_of_bits}
+use Rattle.des_modes.specs.Streams.{Xors}
 
 -- bit i of a list
 abbrev pub bit_at : List Bool → ℕ → Bool
@@ -17,11 +18,9 @@ first_bits n bytes = take n (bits_of_bytes bytes)
 abbrev pub block_bit : List ℕ → ℕ → Bool
 block_bit block i = bit_at (bits_of_bytes block) i
 
--- p and c are as long, and each bit of one is the xor of the other's with the key stream, whose bit for the first of
--- them is bit n
-pub record XorsBitsFrom (n : ℕ) (key_stream : ℕ → Bool) (p c : List Bool) : Type 0 where
-  pub count : length c ≡ length p
-  pub xored : (i : ℕ) → i < length p → bit_at c i ≡ xor (bit_at p i) (key_stream (n + i))
+-- bits under the xor with a key stream, whose bit for the first of them is bit n
+abbrev pub XorsBitsFrom : ℕ → (ℕ → Bool) → List Bool → List Bool → Type 0
+XorsBitsFrom n key_stream p c = Xors xor false n key_stream p c
 
 -- the shift register before segment j: I(0) = IV, and I(j) is I(j-1) without its first k bits and with segment j-1 of
 -- the ciphertext behind. These are 64 bits of IV | C, from bit k j on

@@ -1,7 +1,7 @@
 //! Cipher feedback of one bit over any block cipher (FIPS 81, cipher feedback mode; NIST SP 800-38A,
 //! 6.3): CFB-1. Lengths are in bits, of which the first is the most significant of the first byte.
 
-ghost use Rattle.std.specs.Prelude.{◌≡◌, ◌≢◌, ◌<◌, ◌≤◌, ◌*◌, ◌++◌, ℕ, Bool, List, [], ◌∷◌, length, drop};
+ghost use Rattle.std.specs.Prelude.{◌≡◌, ◌<◌, ◌≤◌, ◌*◌, ◌++◌, ℕ, Bool, List, [], ◌∷◌, length, drop, slice_set};
 ghost use Rattle.des.specs.Bits.{bits_of_bytes, xor};
 ghost use Rattle.des.specs.Blocks.{block_of_bits};
 ghost use Rattle.des_modes.specs.CfbBits.{Cfb1, XorsBitsFrom, block_bit, cfb_bits, first_bits};
@@ -19,8 +19,8 @@ fn bit_at(bytes: &[u8], place: usize) -> bool
 // The bit at a place becomes its xor with another.
 fn xor_bit(bytes: &mut [u8], place: usize, bit: bool)
     requires { place < 8 * length bytes.old }
-    ensures xored { block_bit bytes.new place ≡ xor (block_bit bytes.old place) bit }
-    ensures others { (i : ℕ) → i ≢ place → block_bit bytes.new i ≡ block_bit bytes.old i }
+    ensures { bits_of_bytes bytes.new
+        ≡ slice_set (bits_of_bytes bytes.old) place (xor (block_bit bytes.old place) bit) }
 {
     bytes[place / 8] ^= u8::from(bit) << (7 - place % 8);
 }

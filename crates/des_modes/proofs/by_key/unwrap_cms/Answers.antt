@@ -1,4 +1,4 @@
-use Rattle.std.proofs.Common.{List, [], ◌∷◌, ◌++◌}
+use Rattle.std.proofs.Common.{[], ◌∷◌, ◌++◌}
 use Rattle.std.proofs.lemmas.Result.{on_ok_weaker}
 use Rattle.des_modes.specs.CmsKeyWrap.{checksum}
 use Rattle.des_modes.proofs.Enclosed.{Encloses-related, Encloses-from_related}

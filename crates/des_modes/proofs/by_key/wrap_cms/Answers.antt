@@ -1,4 +1,4 @@
-use Rattle.std.proofs.Common.{List, [], ◌∷◌, ◌++◌, arith}
+use Rattle.std.proofs.Common.{[], ◌∷◌, ◌++◌, arith}
 use Rattle.des_modes.specs.CmsKeyWrap.{checksum}
 use Rattle.des_modes.proofs.Enclosed.{Encloses-related}
 use Rattle.des_modes.proofs.by_key.wrap_cms.Goals as goal

@@ -2,7 +2,7 @@ use Rattle.std.proofs.Common.{[], sym}
 use Rattle.std.proofs.lemmas.List.{append-nil}
 use Rattle.des.specs.Bits.{bits_of_bytes}
 use Rattle.des_modes.specs.CfbBits.{first_bits}
-use Rattle.des_modes.proofs.CfbBitPlaces.{XorsBitsFrom-one}
+use Rattle.des_modes.proofs.XoredPieces.{Xors-one, bits_undone}
 use Rattle.des_modes.proofs.cfb_bits.decrypt.Goals as goal
 
 pub returns-clause-decrypted : goal.returns-clause-decrypted
@@ -12,5 +12,5 @@ returns-clause-decrypted g c =
 
 pub returns-clause-undone : goal.returns-clause-undone
 returns-clause-undone g c = λ text made.
-    XorsBitsFrom-one 0 _ (first_bits c.args.bits c.decrypt.new.bytes) text (first_bits c.args.bits c.args.bytes.now)
+    Xors-one 0 _ (first_bits c.args.bits c.decrypt.new.bytes) text (first_bits c.args.bits c.args.bytes.now) bits_undone
     (returns-clause-decrypted g c) made

@@ -1,4 +1,4 @@
-use Rattle.std.proofs.Common.{◌≡◌, ℕ, ◌+◌, List, drop, ap, subst, ◌∙◌, arith}
+use Rattle.std.proofs.Common.{◌≡◌, ℕ, List, drop, ap, subst, ◌∙◌, arith}
 use Rattle.des_modes.specs.CmsKeyWrap.{Encloses}
 use Rattle.des_modes.proofs.Enclosed.{put_rest}
 use Rattle.des_modes.proofs.cms_key_wrap.wrap.Goals as goal

@@ -1,4 +1,4 @@
-use Rattle.des_modes.proofs.XoredPieces.{XorsFrom-again}
+use Rattle.des_modes.proofs.XoredPieces.{Xors-back, Xors-one, bytes_undone}
 use Rattle.des_modes.proofs.ofb.apply.Goals as goal
 
 pub returns : goal.returns
@@ -6,5 +6,5 @@ returns g c =
     let applied =
     c.apply.ensures.applied c.args.iv.now 0 (c.new.ensures (g.C.BlockCipherEncrypt.encrypted c.args.cipher.now)) in record {
       applied = applied;
-      undone = λ text made. XorsFrom-again 0 _ c.args.bytes.now c.apply.new.bytes text applied made;
+      undone = λ text made. Xors-one 0 _ c.apply.new.bytes text c.args.bytes.now bytes_undone (Xors-back 0 _ _ _ bytes_undone applied) made;
     }

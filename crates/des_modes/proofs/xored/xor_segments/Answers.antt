@@ -1,46 +1,44 @@
 -- A segment more.
-use Rattle.std.proofs.Common.{◌≡◌, ℕ, ◌+◌, ◌-◌, ◌*◌, ◌/◌, ◌%◌, ◌<◌, ◌≤◌, List, [], length, take, drop, get_or, bit_xor, ap, ap₂, sym, ◌∙◌, arith, length-take-le, length-drop}
-use Rattle.std.proofs.Math.Nat.{mul-add, mul-one}
-use Rattle.des_modes.specs.Streams.{XorsFrom}
+use Rattle.std.proofs.Common.{◌≡◌, ℕ, ◌+◌, ◌-◌, ◌*◌, ◌/◌, ◌%◌, ◌≤◌, [], length, get_or, bit_xor, ap, ap₂, sym, ◌∙◌, arith, length-take-le}
+use Rattle.std.proofs.Math.Nat.{mul-add, mul-one, mul-zero}
+use borrow.Rule.Slice.PartMut.{mid_of}
 use Rattle.des_modes.proofs.Segments.{place-div, place-mod}
-use Rattle.des_modes.proofs.XoredPieces.{IsDone-more}
+use Rattle.des_modes.proofs.XoredPieces.{Xors-none, Xors-append}
+use Rattle.des_modes.proofs.Pieces.{InPlace-begins, InPlace-more, InPlace-all}
 use Rattle.des_modes.proofs.xored.xor_segments.Goals as goal
 
--- bytes of segment j
-XorsFrom-segment : (s j from : ℕ) (blocks : List (List ℕ)) (old new : List ℕ) → from ≡ s * j → length old ≤ s
-    → length new ≡ length old
-    → ((i : ℕ) → i < length old
-    → get_or new i 0 ≡ bit_xor (get_or old i 0) (get_or (get_or blocks j []) (0 + i) 0))
-    → XorsFrom from (λ i. get_or (get_or blocks (i / s) []) (i % s) 0) old new
-XorsFrom-segment s j from blocks old new place short count xored = record {
-  count = count;
-  xored = λ i below.
-      let none : 0 + i ≡ i = omega arith in
-      let same : from + i ≡ s * j + i = omega arith in
-      let block : j ≡ (from + i) / s = sym (ap (λ (m : ℕ). m / s) same ∙ place-div s j i (omega arith)) in
-      let byte : 0 + i ≡ (from + i) % s = none ∙ sym (ap (λ (m : ℕ). m % s) same ∙ place-mod s j i (omega arith)) in
-      xored i below ∙ ap (bit_xor (get_or old i 0)) (ap₂ (λ (a b : ℕ). get_or (get_or blocks a []) b 0) block byte);
+pub segments-init : goal.segments-init
+segments-init c = record {
+  within = omega arith;
+  counted = omega arith;
+  place = λ more. omega (arith, mul-zero c.args.segment);
+  so_far = InPlace-begins _ _ (Xors-none 0 _);
 }
 
 pub segments-preserved : goal.segments-preserved
 segments-preserved c =
     let s : ℕ = c.args.segment in
     let j : ℕ = c.segments.j in
-    let count : ℕ = c.min-count.result in
     let from : ℕ = c.segments.from in
-    let now : List ℕ = c.segments.bytes in
-    let size : from + count - from ≡ count = omega arith in
-    let within : from + count ≤ length now = omega (arith, c.min-count.ensures) in
-    let short : count ≤ s = omega (arith, c.min-count.ensures) in
+    let size : ℕ = from + c.min-count.result - from in
     let place : from ≡ s * j = c.segments.invariant.place (omega arith) in
-    let many : length (take (from + count - from) (drop from now)) ≡ count =
-    length-take-le (from + count - from) (drop from now) (omega (arith, length-drop from now)) ∙ size in record {
+    let short : length (mid_of from size c.segments.bytes) ≤ s = omega (arith, c.min-count.ensures) in record {
       within = omega (arith, c.min-count.ensures);
       counted = omega (arith, c.min-count.ensures, c.requires.some);
       place = λ more. omega (arith, c.min-count.ensures, mul-add s j 1, mul-one s);
       so_far =
-          IsDone-more 0 _ from count (from + count - from) c.args.bytes.now now c.xor_from.new.bytes size
-          (omega arith) (omega arith) c.segments.invariant.so_far
-          (XorsFrom-segment s j (0 + from) c.args.blocks.now (take (from + count - from) (drop from now)) c.xor_from.new.bytes
-          (omega arith) (omega arith) c.xor_from.auto.bytes c.xor_from.ensures);
+          InPlace-more _ _ from c.min-count.result size c.args.bytes.now c.segments.bytes c.xor_from.new.bytes (omega arith)
+          (omega (arith, c.min-count.ensures)) c.xor_from.auto.bytes
+          (λ done. Xors-append 0 from _ _ _ _ _ (omega (arith, length-take-le from c.args.bytes.now (omega arith))) done (record {
+            count = c.xor_from.auto.bytes;
+            xored = λ i below.
+                let block : j ≡ (from + i) / s = sym (ap (λ (m : ℕ). (m + i) / s) place ∙ place-div s j i (omega arith)) in
+                let none : 0 + i ≡ i = omega arith in
+                let byte : 0 + i ≡ (from + i) % s = none ∙ sym (ap (λ (m : ℕ). (m + i) % s) place ∙ place-mod s j i (omega arith)) in
+                c.xor_from.ensures i below
+                ∙ ap₂ (λ (a b : ℕ). bit_xor (get_or (mid_of from size c.segments.bytes) i 0) (get_or (get_or c.args.blocks.now a []) b 0)) block byte;
+          })) c.segments.invariant.so_far;
     }
+
+pub returns : goal.returns
+returns c = InPlace-all _ c.segments.from c.args.bytes.now c.segments.bytes (omega arith) (omega arith) c.segments.invariant.so_far

@@ -1,16 +1,18 @@
 -- A part more.
-use Rattle.std.proofs.Common.{◌≡◌, ℕ, ◌+◌, ◌-◌, ◌≤◌, List, ◌++◌, length, take, subst, arith}
-use Rattle.std.proofs.lemmas.List.{append-nil, take_all}
+use Rattle.std.proofs.Common.{◌≡◌, ℕ, ◌+◌, ◌-◌, List, [], length, bit_xor, refl, arith}
+use Rattle.des_modes.specs.Cfb.{cfb_stream}
 use Rattle.des_modes.specs.CfbStates.{IsCfbAt}
-use Rattle.des_modes.proofs.XoredPieces.{XorsFrom-back, IsDone-none, IsDone-all}
-use Rattle.des_modes.proofs.CfbPlaces.{Cfb-append, IsDone-decrypted, front-more, length-iv}
+use Rattle.des_modes.proofs.XoredPieces.{Xors-back, bytes_undone}
+use Rattle.des_modes.proofs.Pieces.{ByText-none, ByText-joined, InPlace-begins, InPlace-more, InPlace-all, Xors-text}
+use Rattle.des_modes.proofs.CfbPlaces.{cfb_stream-front, length-iv}
 use Rattle.des_modes.proofs.cfb.Register.decrypt.Goals as goal
 
 pub parts-init : goal.parts-init
 parts-init g c = record {
   within = omega arith;
-  after = λ s iv d is. rw append-nil is;
-  so_far = λ s iv d is. IsDone-none (length d) _ c.args.bytes.now;
+  so_far = λ s iv wide.
+      InPlace-begins _ _
+      (ByText-none bit_xor 0 (IsCfbAt s (g.C.BlockCipherEncrypt.encrypted c.args.cipher.now) iv) _ c.args.self.now);
 }
 
 pub parts-preserved : goal.parts-preserved
@@ -18,37 +20,28 @@ parts-preserved g c =
     let E : List ℕ → List ℕ = g.C.BlockCipherEncrypt.encrypted c.args.cipher.now in
     let count : ℕ = c.min-count.result in
     let from : ℕ = c.parts.from in
-    let old : List ℕ = c.args.bytes.now in
-    let now : List ℕ = c.parts.bytes in
-    let size : from + count - from ≡ count = omega arith in
-    let within : from + count ≤ length now = omega (arith, c.min-count.ensures) in record {
+    let size : from + count - from ≡ count = omega arith in record {
       within = omega (arith, c.min-count.ensures);
-      after = λ s iv d is.
-          let P : List ℕ → Type 0 = λ all. IsCfbAt s E iv all c.decrypt_part.new.self in
-          subst P (front-more d old now from count (from + count - from) size (c.parts.invariant.so_far s iv d is).rest)
-          (c.decrypt_part.ensures.after s iv (d ++ take from old) (c.parts.invariant.after s iv d is));
-      so_far = λ s iv d is.
-          let wide : length c.args.self.now.register ≡ 8 = omega arith in
-          IsDone-decrypted s E iv d old now c.decrypt_part.new.bytes from count (from + count - from)
-          (length-iv s E iv d c.args.self.now wide is) size (omega arith) (omega arith)
-          (c.parts.invariant.so_far s iv d is)
-          (c.decrypt_part.ensures.decrypted s iv (d ++ take from old) (c.parts.invariant.after s iv d is));
+      so_far = λ s iv wide.
+          InPlace-more _ _ from count (from + count - from) c.args.bytes.now c.parts.bytes c.decrypt_part.new.bytes size
+          (omega (arith, c.min-count.ensures)) c.decrypt_part.auto.bytes
+          (λ done. ByText-joined bit_xor 0 (cfb_stream s E iv) (λ t more i below. cfb_stream-front s E iv t more i wide (omega arith))
+          (IsCfbAt s E iv) _ c.parts.self _ _ _ _ _ done (record {
+            goes = λ d is. (c.decrypt_part.ensures.after s iv d is, Xors-back (length d) _ _ _ bytes_undone (c.decrypt_part.ensures.decrypted s iv d is));
+          })) (c.parts.invariant.so_far s iv wide);
     }
 
-pub returns-clause-after : goal.returns-clause-after
-returns-clause-after g c = λ s iv d is.
-    let all : length c.args.bytes.now ≤ c.parts.from = omega arith in
-    rw (take_all c.parts.from c.args.bytes.now all) at (c.parts.invariant.after s iv d is)
-
-pub returns-clause-decrypted : goal.returns-clause-decrypted
-returns-clause-decrypted g c = λ s iv d is.
-    XorsFrom-back (length d) _ c.args.bytes.now c.parts.bytes
-    (IsDone-all (length d) _ c.parts.from c.args.bytes.now c.parts.bytes (omega arith) (omega arith)
-    (c.parts.invariant.so_far s iv d is))
-
-pub returns-clause-whole : goal.returns-clause-whole
-returns-clause-whole g c = λ s iv d p is made.
+pub returns : goal.returns
+returns g c =
     let E : List ℕ → List ℕ = g.C.BlockCipherEncrypt.encrypted c.args.cipher.now in
     let wide : length c.args.self.now.register ≡ 8 = omega arith in
-    Cfb-append s E iv p d c.parts.bytes c.args.bytes.now (length-iv s E iv d c.args.self.now wide is) made
-    (returns-clause-decrypted g c s iv d is)
+    let made = λ (s : ℕ) (iv d : List ℕ) (is : IsCfbAt s E iv d c.args.self.now).
+    (InPlace-all _ c.parts.from c.args.bytes.now c.parts.bytes (omega arith) (omega arith)
+    (c.parts.invariant.so_far s iv (length-iv s E iv d c.args.self.now wide is))).goes d is in record {
+      after = λ s iv d is. (made s iv d is).0;
+      decrypted = λ s iv d is. (made s iv d is).1;
+      whole = λ s iv d p is begun.
+          Xors-text bit_xor 0 (cfb_stream s E iv)
+          (λ t more i below. cfb_stream-front s E iv t more i (length-iv s E iv d c.args.self.now wide is) (omega arith))
+          0 [] p d _ _ refl begun (made s iv d is).1;
+    }

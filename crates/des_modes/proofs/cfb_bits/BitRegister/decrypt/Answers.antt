@@ -1,80 +1,57 @@
 -- A bit more.
-use Rattle.std.proofs.Common.{◌≡◌, ℕ, ◌+◌, ◌<◌, ◌≤◌, Bool, false, List, [], ◌∷◌, ◌++◌, length, take, drop, refl, ap, subst, sym, ◌∙◌, arith, append_assoc, length-append, length-take-le}
-use Rattle.std.proofs.lemmas.List.{take_more, take-append-drop}
+use Rattle.std.proofs.Common.{◌≡◌, ℕ, ◌<◌, Bool, false, List, [], length, get_or, refl, ap, sym, ◌∙◌, arith}
 use Rattle.des.specs.Bits.{bits_of_bytes, xor}
 use Rattle.des.specs.Laws.BitLists.{length-bits_of_bytes}
-use Rattle.des_modes.specs.CfbBits.{bit_at, cfb_bits, first_bits}
+use Rattle.des_modes.specs.CfbBits.{cfb_bits}
 use Rattle.des_modes.specs.CfbBitStates.{IsCfbBitsAt}
-use Rattle.des_modes.proofs.CfbBitPlaces.{Cfb1-append, IsCfbBitsAt-next, AreDone-next, XorsBitsFrom-back, XorsBitsFrom-done, cfb_bits-front, cfb_bits-next, drop-left, length-iv_bits, length-shifted}
+use Rattle.des_modes.proofs.XoredPieces.{Xors-single, bits_undone}
+use Rattle.des_modes.proofs.Pieces.{ByText-none, ByText-joined, InPlace-begins, InPlace-set, Xors-text}
+use Rattle.des_modes.proofs.CfbBitPlaces.{IsCfbBitsAt-next, cfb_bits-front, cfb_bits-next, length-iv_bits, length-shifted}
 use Rattle.des_modes.proofs.cfb_bits.BitRegister.decrypt.Goals as goal
 
--- the ciphertext so far, and what comes
-whole : (d old : List Bool) (place : ℕ) → (d ++ take place old) ++ drop place old ≡ d ++ old
-whole d old place =
-    append_assoc d (take place old) (drop place old) ∙ ap (λ (xs : List Bool). d ++ xs) (take-append-drop place old)
+pub bits-init : goal.bits-init
+bits-init g c = record {
+  wide = omega arith;
+  so_far = λ iv wide. InPlace-begins _ _ (ByText-none xor false (IsCfbBitsAt iv) _ c.args.self.now);
+}
 
 pub bits-preserved : goal.bits-preserved
 bits-preserved g c =
     let E : List ℕ → List ℕ = g.C.BlockCipherEncrypt.encrypted c.args.cipher.now in
     let place : ℕ = c.bits.place in
-    let old : List Bool = bits_of_bytes c.args.bytes.now in
     let now : List Bool = bits_of_bytes c.bits.bytes in
-    let next : List Bool = bits_of_bytes c.xor_bit.new.bytes in
-    let bit : Bool = bit_at old place in
-    let within : place < length old =
-    omega (arith, length-bits_of_bytes c.args.bytes.now) in
-    let wide : length c.bits.self.register ≡ 8 = c.bits.invariant.wide in
-    let same : c.bit_at-bit.result ≡ bit = c.bit_at-bit.ensures ∙ c.bits.invariant.left place (omega arith) in record {
-      wide = length-shifted c.bits.self.register c.advance.new.self.register _ wide c.advance.ensures;
-      left = λ i from. c.xor_bit.ensures.others i (omega arith) ∙ c.bits.invariant.left i (omega arith);
-      after = λ iv d is.
-          let P : List Bool → Type 0 = λ bits. IsCfbBitsAt iv bits c.advance.new.self in
-          subst P (append_assoc d (take place old) (bit ∷ [])
-          ∙ ap (λ (xs : List Bool). d ++ xs) (sym (take_more old place false within)))
-          (IsCfbBitsAt-next iv (d ++ take place old) bit c.bits.self c.advance.new.self wide
-          (c.bits.invariant.after iv d is) (rw (← same) c.advance.ensures));
-      done = λ iv d is.
-          let front : List Bool = d ++ take place old in
-          let stream : List Bool → ℕ → Bool = cfb_bits 1 E iv in
-          let here = c.bits.invariant.after iv d is in
-          let size : length front ≡ length d + place =
-          omega (arith, length-append d (take place old), length-take-le place old (omega arith)) in
-          AreDone-next (length d) (stream (d ++ old)) (stream (d ++ old)) place old now next (λ i below. refl)
-          (c.xor_bit.ensures.xored
-          ∙ ap (xor (bit_at now place)) (c.key_bit.ensures ∙ sym (cfb_bits-next E iv front (drop place old) c.bits.self wide here)
-          ∙ ap (stream (front ++ drop place old)) size
-          ∙ ap (λ (xs : List Bool). stream xs (length d + place)) (whole d old place)))
-          c.xor_bit.ensures.others c.bits.invariant.left (c.bits.invariant.done iv d is);
+    let within : place < length now = omega (arith, length-bits_of_bytes c.bits.bytes) in
+    let bit : c.bit_at-bit.result ≡ get_or now place false = c.bit_at-bit.ensures in
+    record {
+      wide = length-shifted c.bits.self.register c.advance.new.self.register _ c.bits.invariant.wide c.advance.ensures;
+      so_far = λ iv wide.
+          InPlace-set _ _ place _ now _ (xor (get_or now place false) c.key_bit.result) false c.xor_bit.ensures within
+          (λ done. ByText-joined xor false (cfb_bits 1 E iv)
+          (λ t more i below. cfb_bits-front E iv t more i wide (omega arith)) (IsCfbBitsAt iv) _ c.bits.self _ _ _ _ _ done (record {
+            goes = λ t is. (
+              IsCfbBitsAt-next iv t _ c.bits.self c.advance.new.self c.bits.invariant.wide is (rw (← bit) c.advance.ensures),
+              Xors-single (length t) _ _ _
+                  (sym (bits_undone (get_or now place false) c.key_bit.result) ∙ ap (xor (xor (get_or now place false) c.key_bit.result))
+                  (c.key_bit.ensures ∙ sym (cfb_bits-next E iv t _ c.bits.self c.bits.invariant.wide is))),
+            );
+          })) (c.bits.invariant.so_far iv wide);
     }
 
-pub returns-clause-decrypted : goal.returns-clause-decrypted
-returns-clause-decrypted g c = λ iv d is.
+pub returns : goal.returns
+returns g c =
     let E : List ℕ → List ℕ = g.C.BlockCipherEncrypt.encrypted c.args.cipher.now in
-    let old : List Bool = bits_of_bytes c.args.bytes.now in
-    let now : List Bool = bits_of_bytes c.bits.bytes in
-    let bits : ℕ = c.args.bits in
-    let front : List Bool = d ++ take bits old in
-    let stream : List Bool → ℕ → Bool = cfb_bits 1 E iv in
-    let within : bits ≤ length old = omega (arith, c.requires, length-bits_of_bytes c.args.bytes.now) in
-    let size : length front ≡ length d + bits =
-    omega (arith, length-append d (take bits old), length-take-le bits old within) in
     let wide : length c.args.self.now.register ≡ 8 = omega arith in
-    XorsBitsFrom-back (length d) (stream front) (take bits old) (take bits now)
-    (XorsBitsFrom-done (length d) (stream front) bits old now within
-    (omega (arith, length-bits_of_bytes c.args.bytes.now, length-bits_of_bytes c.bits.bytes))
-    (λ i below.
-    c.bits.invariant.done iv d is i (omega arith)
-    ∙ ap (xor (bit_at old i)) (ap (λ (xs : List Bool). stream xs (length d + i)) (sym (whole d old bits))
-    ∙ cfb_bits-front E iv front (drop bits old) (length d + i) (length-iv_bits iv d c.args.self.now wide is) (omega arith))))
-
-pub returns-clause-whole : goal.returns-clause-whole
-returns-clause-whole g c = λ iv p d is made.
-    let wide : length c.args.self.now.register ≡ 8 = omega arith in
-    Cfb1-append (g.C.BlockCipherEncrypt.encrypted c.args.cipher.now) iv p d (first_bits c.args.bits c.bits.bytes) (first_bits c.args.bits c.args.bytes.now)
-    (length-iv_bits iv d c.args.self.now wide is) made (returns-clause-decrypted g c iv d is)
-
-pub returns-clause-rest : goal.returns-clause-rest
-returns-clause-rest g c =
-    drop-left c.args.bits (bits_of_bytes c.args.bytes.now) (bits_of_bytes c.bits.bytes)
-    (omega (arith, length-bits_of_bytes c.args.bytes.now, length-bits_of_bytes c.bits.bytes))
-    (λ i from. c.bits.invariant.left i (omega arith))
+    let all : c.bits.place ≡ c.args.bits = omega arith in
+    let so_far = λ (iv : List ℕ) (d : List Bool) (is : IsCfbBitsAt iv d c.args.self.now).
+    rw all at (c.bits.invariant.so_far iv (length-iv_bits iv d c.args.self.now wide is)) in
+    record {
+      after = λ iv d is. ((so_far iv d is).done.goes d is).0;
+      decrypted = λ iv d is. ((so_far iv d is).done.goes d is).1;
+      whole = λ iv p d is begun.
+          Xors-text xor false (cfb_bits 1 E iv)
+          (λ t more i below. cfb_bits-front E iv t more i (length-iv_bits iv d c.args.self.now wide is) (omega arith))
+          0 [] p d _ _ refl begun ((so_far iv d is).done.goes d is).1;
+      rest =
+          rw all at
+          (c.bits.invariant.so_far c.args.self.now.register (omega (arith, length-bits_of_bytes c.args.self.now.register))).rest;
+    }
