@@ -17,7 +17,7 @@ use Rattle.des_modes.specs.CfbBits.{block_bit}
 
 -- ---- parts
 
-bits-append : (a b : List ℕ) → bits_of_bytes (a ++ b) ≡ bits_of_bytes a ++ bits_of_bytes b
+pub bits-append : (a b : List ℕ) → bits_of_bytes (a ++ b) ≡ bits_of_bytes a ++ bits_of_bytes b
 unfolding bits_of_bytes
 bits-append [] b = refl
 bits-append (byte ∷ a) b =

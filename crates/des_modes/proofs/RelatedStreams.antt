@@ -31,7 +31,7 @@ CfbBits-from_bits Answers encryption k iv p c graph xored = record {
 }
 
 -- so are the output blocks
-IsBlock-output_block : (encryption : List ℕ → List ℕ) (iv : List ℕ) (j : ℕ) → IsBlock iv
+pub IsBlock-output_block : (encryption : List ℕ → List ℕ) (iv : List ℕ) (j : ℕ) → IsBlock iv
     → ((block : List ℕ) → IsBlock block → IsBlock (encryption block)) → IsBlock (output_block encryption iv j)
 IsBlock-output_block encryption iv zero is_iv makes_blocks = is_iv
 IsBlock-output_block encryption iv (suc j) is_iv makes_blocks =

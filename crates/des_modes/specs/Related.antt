@@ -4,7 +4,7 @@ use Rattle.std.specs.Prelude.{ℕ, zero, suc, ◌*◌, ◌/◌, ◌%◌, ◌<◌
 use Rattle.des_modes.specs.Streams.{byte_at, XorsFrom}
 use Rattle.des_modes.specs.Ctr.{counter_block}
 
--- C(j) = P(j) ^ O(j), of the last as many bytes as there are, where O(j) answers I(j)
+-- C(j) = P(j) ^ O(j), of which the last may be cut short, where O(j) answers I(j)
 pub record StreamUnder (Answers : List ℕ → List ℕ → Type 0) (inputs : (ℕ → List ℕ) → ℕ → List ℕ) (p c : List ℕ)
     : Type 0 where
   pub outputs : ℕ → List ℕ

@@ -17,7 +17,7 @@ use crate::{cfb, cfb_bits, cms_key_wrap, ctr, ofb, tkw};
 use des::cipher::{Relating, are_bytes};
 use des_fast::many::{ManyBlocks, Slice};
 
-/// Encrypts or decrypts bytes in place by the counter mode, as `ctr::apply` does.
+/// Encrypts or decrypts a text in place by the counter mode, as `ctr::apply` does.
 pub fn apply_ctr<C: ManyBlocks, S: Slice>(
     cipher: &C,
     no_tables: bool,
@@ -30,7 +30,7 @@ pub fn apply_ctr<C: ManyBlocks, S: Slice>(
     ctr::apply(&ByLists::<C, S>::new(cipher, no_tables), block, bytes);
 }
 
-/// Encrypts or decrypts bytes in place by output feedback, as `ofb::apply` does.
+/// Encrypts or decrypts a text in place by output feedback, as `ofb::apply` does.
 pub fn apply_ofb<C: ManyBlocks, S: Slice>(
     cipher: &C,
     no_tables: bool,
@@ -44,7 +44,7 @@ pub fn apply_ofb<C: ManyBlocks, S: Slice>(
     ofb::apply(&ByLists::<C, S>::new(cipher, no_tables), iv, bytes);
 }
 
-/// Encrypts bytes in place by cipher feedback, as `cfb::encrypt` does.
+/// Encrypts a text in place by cipher feedback with segments of `segment` bytes, as `cfb::encrypt` does.
 pub fn encrypt_cfb<C: ManyBlocks, S: Slice>(
     cipher: &C,
     no_tables: bool,
@@ -62,7 +62,7 @@ pub fn encrypt_cfb<C: ManyBlocks, S: Slice>(
     are_bytes(bytes);
 }
 
-/// Decrypts bytes in place that cipher feedback made, as `cfb::decrypt` does.
+/// Decrypts a text in place by cipher feedback with segments of `segment` bytes, as `cfb::decrypt` does.
 pub fn decrypt_cfb<C: ManyBlocks, S: Slice>(
     cipher: &C,
     no_tables: bool,
@@ -80,7 +80,7 @@ pub fn decrypt_cfb<C: ManyBlocks, S: Slice>(
     cfb::decrypt(&ByLists::<C, S>::new(cipher, no_tables), iv, segment, bytes);
 }
 
-/// Encrypts the first so many bits of bytes in place by cipher feedback of one bit, as
+/// Encrypts the first `bits` bits of the bytes in place by cipher feedback of one bit, as
 /// `cfb_bits::encrypt` does.
 pub fn encrypt_cfb_bits<C: ManyBlocks, S: Slice>(
     cipher: &C,
@@ -96,7 +96,7 @@ pub fn encrypt_cfb_bits<C: ManyBlocks, S: Slice>(
     cfb_bits::encrypt(&ByLists::<C, S>::new(cipher, no_tables), iv, bytes, bits);
 }
 
-/// Decrypts the first so many bits of bytes in place that cipher feedback of one bit made, as
+/// Decrypts the first `bits` bits of the bytes in place by cipher feedback of one bit, as
 /// `cfb_bits::decrypt` does.
 pub fn decrypt_cfb_bits<C: ManyBlocks, S: Slice>(
     cipher: &C,

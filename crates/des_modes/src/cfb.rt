@@ -13,7 +13,7 @@ use des::cipher::BlockCipherEncrypt;
 // The segments that are decrypted together: a cipher may treat some of their blocks side by side.
 const TOGETHER: usize = 256;
 
-// How many segments so many bytes have, of which the last may be cut short.
+// The number of segments of `bytes` bytes, of which the last may be cut short.
 fn count_of(bytes: usize, segment: usize) -> usize
     requires some { 1 ≤ segment }
     requires short { segment ≤ 8 }
@@ -26,8 +26,7 @@ fn count_of(bytes: usize, segment: usize) -> usize
     bytes.div_ceil(segment)
 }
 
-// Makes the blocks eight bytes each, of which the first begin the bytes, and each others begin a
-// segment later.
+// Writes eight bytes into each block, from the beginning of its segment on.
 fn write_inputs(blocks: &mut [[u8; 8]], bytes: &[u8], segment: usize)
     requires { (j : ℕ) → j < length blocks.old → segment * j + 8 ≤ length bytes.now }
     ensures { (j : ℕ) → j < length blocks.old
@@ -39,7 +38,7 @@ fn write_inputs(blocks: &mut [[u8; 8]], bytes: &[u8], segment: usize)
     }
 }
 
-// Makes the blocks the encryptions of such ones.
+// Writes the output blocks of these input blocks.
 fn write_outputs<C: BlockCipherEncrypt>(
     cipher: &C,
     blocks: &mut [[u8; 8]],
@@ -64,7 +63,7 @@ fn block_at(blocks: &[[u8; 8]], place: usize) -> [u8; 8]
     }
 }
 
-// Makes the first bytes those of a register, and bytes behind them.
+// Writes the bytes of a register, and others behind them.
 fn write_joined(joined: &mut [u8; 8 + 8 * TOGETHER], register: &[u8; 8], bytes: &[u8])
     requires { length bytes.now ≤ 2048 }
     ensures { take (8 + length bytes.now) joined.new ≡ register.now ++ bytes.now }
@@ -73,7 +72,7 @@ fn write_joined(joined: &mut [u8; 8 + 8 * TOGETHER], register: &[u8; 8], bytes: 
     joined[8..8 + bytes.len()].copy_from_slice(bytes);
 }
 
-// The register without its first bytes, and with as many others behind.
+// Shifts bytes into the register from the right.
 fn shift(register: &mut [u8; 8], bytes: &[u8])
     requires { length bytes.now ≤ 8 }
     ensures { register.new ≡ drop (length bytes.now) (register.old ++ bytes.now) }
@@ -83,7 +82,7 @@ fn shift(register: &mut [u8; 8], bytes: &[u8])
     register[8 - count..].copy_from_slice(bytes);
 }
 
-// A place in a segment, of which the end is the beginning of the next.
+// A place in a segment, whose end is the beginning of the next.
 #[inline]
 fn within_segment(end: usize, segment: usize) -> usize
     requires some { 1 ≤ segment }
@@ -93,9 +92,9 @@ fn within_segment(end: usize, segment: usize) -> usize
     if end == segment { 0 } else { end }
 }
 
-/// How far a stream of cipher feedback has come: the shift register, which holds the last eight bytes
-/// of the initialization vector and the ciphertext; how many bytes of the segment that goes next are
-/// behind, and, where some are, its output block.
+/// A place in a stream of cipher feedback: the shift register, which holds the last eight bytes of the
+/// initialization vector and the ciphertext; the number of bytes of its segment before it; and, if
+/// there are some, the segment's output block.
 #[derive(Clone, Copy)]
 pub struct Register {
     pub(crate) register: [u8; 8],
@@ -110,8 +109,8 @@ pub struct Register {
 impl Register {
     ghost use Rattle.des_modes.specs.CfbStates.{IsCfbAt};
 
-    /// The place before a segment, of so many bytes, behind the eight bytes of ciphertext before it, or
-    /// those of the initialization vector at the beginning. To decrypt a part, no others are needed.
+    /// The place before a segment of `segment` bytes: `before` is the eight bytes of ciphertext before
+    /// it, or at the beginning the initialization vector. To decrypt a part, no others are needed.
     pub fn new(before: &[u8; 8], segment: usize) -> Register
         requires some { 1 ≤ segment }
         requires short { segment ≤ 8 }
@@ -140,7 +139,7 @@ impl Register {
         output
     }
 
-    // Goes on by bytes of the ciphertext in the segment of an output block.
+    // Goes on by bytes of ciphertext in the segment of an output block.
     #[inline]
     fn advance(&mut self, output: &[u8; 8], bytes: &[u8])
         requires { self.old.used + length bytes.now ≤ self.old.segment }
@@ -209,7 +208,7 @@ impl Register {
         self.output = block_at(part, bytes.len() / self.segment);
     }
 
-    // Decrypts what is left of a segment that has begun, or segments together.
+    // Decrypts bytes of a segment that has begun, or segments together.
     fn decrypt_part<C: BlockCipherEncrypt>(&mut self, cipher: &C, bytes: &mut [u8])
         requires { length bytes.old ≤ part_at_most self.old.segment self.old.used }
         ensures after { (s : ℕ) (iv c : List ℕ) → IsCfbAt s (C.encrypted cipher.now) iv c self.old
@@ -226,7 +225,7 @@ impl Register {
         }
     }
 
-    // How many bytes may be decrypted together.
+    // The most bytes that may be decrypted together.
     fn most(&self) -> usize
         ensures some { 1 ≤ result }
         ensures most { result ≡ part_at_most self.now.segment self.now.used }
@@ -238,8 +237,8 @@ impl Register {
         }
     }
 
-    /// Decrypts the bytes that come next in place: any number of them. In pieces, wherever they are
-    /// cut, they become what they become as one.
+    /// Decrypts the next bytes of the stream in place. However a text is cut into pieces, they become
+    /// what the whole becomes.
     pub fn decrypt<C: BlockCipherEncrypt>(&mut self, cipher: &C, bytes: &mut [u8])
         ensures after { (s : ℕ) (iv c : List ℕ) → IsCfbAt s (C.encrypted cipher.now) iv c self.old
             → IsCfbAt s (C.encrypted cipher.now) iv (c ++ bytes.old) self.new }
@@ -259,8 +258,8 @@ impl Register {
         }
     }
 
-    /// Encrypts the bytes that come next in place: any number of them. In pieces, wherever they are
-    /// cut, they become what they become as one.
+    /// Encrypts the next bytes of the stream in place. However a text is cut into pieces, they become
+    /// what the whole becomes.
     pub fn encrypt<C: BlockCipherEncrypt>(&mut self, cipher: &C, bytes: &mut [u8])
         ensures after { (s : ℕ) (iv c : List ℕ) → IsCfbAt s (C.encrypted cipher.now) iv c self.old
             → IsCfbAt s (C.encrypted cipher.now) iv (c ++ bytes.new) self.new }
@@ -281,10 +280,10 @@ impl Register {
     }
 }
 
-/// Encrypts bytes in place by cipher feedback with segments of so many bytes, from the initialization
-/// vector on: any number of them. With P the plaintext, C the ciphertext, E the cipher's encryption
-/// and I(j) the shift register, which holds the eight bytes of the initialization vector and the
-/// ciphertext before segment j, C(j) = P(j) ^ the first bytes of E(I(j)).
+/// Encrypts a text of any length in place by cipher feedback with segments of `segment` bytes. With P
+/// the plaintext, C the ciphertext, E the cipher's encryption and I(j) the shift register, which holds
+/// the last eight bytes of the initialization vector and the ciphertext before segment j,
+/// C(j) = P(j) ^ the first bytes of E(I(j)).
 pub fn encrypt<C: BlockCipherEncrypt>(cipher: &C, iv: &[u8; 8], segment: usize, bytes: &mut [u8])
     requires some { 1 ≤ segment }
     requires short { segment ≤ 8 }
@@ -293,10 +292,8 @@ pub fn encrypt<C: BlockCipherEncrypt>(cipher: &C, iv: &[u8; 8], segment: usize, 
     Register::new(iv, segment).encrypt(cipher, bytes);
 }
 
-/// Decrypts bytes in place that cipher feedback with segments of so many bytes made, from the
-/// initialization vector on: any number of them. With P the plaintext, C the ciphertext, E the
-/// cipher's encryption and I(j) the shift register, which holds the eight bytes of the initialization
-/// vector and the ciphertext before segment j, P(j) = C(j) ^ the first bytes of E(I(j)).
+/// Decrypts in place what `encrypt` makes with the same vector and segments:
+/// P(j) = C(j) ^ the first bytes of E(I(j)).
 pub fn decrypt<C: BlockCipherEncrypt>(cipher: &C, iv: &[u8; 8], segment: usize, bytes: &mut [u8])
     requires some { 1 ≤ segment }
     requires short { segment ≤ 8 }

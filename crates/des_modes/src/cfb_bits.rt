@@ -25,8 +25,8 @@ fn xor_bit(bytes: &mut [u8], place: usize, bit: bool)
     bytes[place / 8] ^= u8::from(bit) << (7 - place % 8);
 }
 
-/// How far a stream of cipher feedback of one bit has come: the shift register, which holds the last
-/// 64 bits of the initialization vector and the ciphertext.
+/// A place in a stream of cipher feedback of one bit: the shift register, which holds the last 64 bits
+/// of the initialization vector and the ciphertext.
 #[derive(Clone, Copy)]
 pub struct BitRegister {
     pub(crate) register: [u8; 8],
@@ -35,8 +35,8 @@ pub struct BitRegister {
 impl BitRegister {
     ghost use Rattle.des_modes.specs.CfbBitStates.{IsCfbBitsAt};
 
-    /// The place behind these 64 bits of ciphertext, or those of the initialization vector at the
-    /// beginning. To decrypt a part, no others are needed.
+    /// The place after these 64 bits of ciphertext, or at the beginning of the initialization vector. To
+    /// decrypt a part, no others are needed.
     pub fn new(before: &[u8; 8]) -> BitRegister
         ensures { (iv : List ℕ) (c : List Bool)
             → bits_of_bytes before.now ≡ drop (length c) (bits_of_bytes iv ++ c)
@@ -45,7 +45,7 @@ impl BitRegister {
         BitRegister { register: *before }
     }
 
-    // The first bit of the output block, which the next bit goes with.
+    // The first bit of the output block, for the next bit of the text.
     fn key_bit<C: BlockCipherEncrypt>(&self, cipher: &C) -> bool
         ensures { result ≡ block_bit (C.encrypted cipher.now
             (block_of_bits (bits_of_bytes self.now.register))) 0 }
@@ -56,7 +56,7 @@ impl BitRegister {
         bit_at(&output, 0)
     }
 
-    // The register without its first bit, and with one of the ciphertext behind.
+    // Shifts a bit of the ciphertext into the register from the right.
     fn advance(&mut self, bit: bool)
         ensures { bits_of_bytes self.new.register
             ≡ drop 1 (bits_of_bytes self.old.register) ++ bit ∷ [] }
@@ -66,8 +66,8 @@ impl BitRegister {
         self.register = ((word << 1) | u64::from(bit)).to_be_bytes();
     }
 
-    /// Encrypts the first so many bits in place, which come next: any number of them. The others stay.
-    /// In pieces, wherever they are cut, they become what they become as one.
+    /// Encrypts the next bits of the stream in place, the first `bits` bits of the bytes. The others stay
+    /// as they are. However a text is cut into pieces, they become what the whole becomes.
     pub fn encrypt<C: BlockCipherEncrypt>(&mut self, cipher: &C, bytes: &mut [u8], bits: usize)
         requires { bits ≤ 8 * length bytes.old }
         ensures after { (iv : List ℕ) (c : List Bool) → IsCfbBitsAt iv c self.old
@@ -87,8 +87,8 @@ impl BitRegister {
         }
     }
 
-    /// Decrypts the first so many bits in place, which come next: any number of them. The others stay.
-    /// In pieces, wherever they are cut, they become what they become as one.
+    /// Decrypts the next bits of the stream in place, the first `bits` bits of the bytes. The others stay
+    /// as they are. However a text is cut into pieces, they become what the whole becomes.
     pub fn decrypt<C: BlockCipherEncrypt>(&mut self, cipher: &C, bytes: &mut [u8], bits: usize)
         requires { bits ≤ 8 * length bytes.old }
         ensures after { (iv : List ℕ) (c : List Bool) → IsCfbBitsAt iv c self.old
@@ -110,10 +110,10 @@ impl BitRegister {
     }
 }
 
-/// Encrypts the first so many bits of bytes in place by cipher feedback of one bit, from the
-/// initialization vector on: any number of them. The others stay. With P the plaintext, C the
-/// ciphertext, E the cipher's encryption and I(j) the shift register, which holds the last 64 bits of
-/// the initialization vector and the ciphertext before bit j, C(j) = P(j) ^ the first bit of E(I(j)).
+/// Encrypts the first `bits` bits of the bytes in place by cipher feedback of one bit. The others stay
+/// as they are. With P the plaintext, C the ciphertext, E the cipher's encryption and I(j) the shift
+/// register, which holds the last 64 bits of the initialization vector and the ciphertext before bit j,
+/// C(j) = P(j) ^ the first bit of E(I(j)).
 pub fn encrypt<C: BlockCipherEncrypt>(cipher: &C, iv: &[u8; 8], bytes: &mut [u8], bits: usize)
     requires { bits ≤ 8 * length bytes.old }
     ensures encrypted { Cfb1 (C.encrypted cipher.now) iv.now
@@ -123,9 +123,8 @@ pub fn encrypt<C: BlockCipherEncrypt>(cipher: &C, iv: &[u8; 8], bytes: &mut [u8]
     BitRegister::new(iv).encrypt(cipher, bytes, bits);
 }
 
-/// Decrypts the first so many bits of bytes in place that cipher feedback of one bit made, from the
-/// initialization vector on: any number of them. The others stay. P(j) = C(j) ^ the first bit of
-/// E(I(j)), as at `encrypt`.
+/// Decrypts in place what `encrypt` makes with the same vector, the first `bits` bits of the bytes. The
+/// others stay as they are: P(j) = C(j) ^ the first bit of E(I(j)).
 pub fn decrypt<C: BlockCipherEncrypt>(cipher: &C, iv: &[u8; 8], bytes: &mut [u8], bits: usize)
     requires { bits ≤ 8 * length bytes.old }
     ensures decrypted { Cfb1 (C.encrypted cipher.now) iv.now

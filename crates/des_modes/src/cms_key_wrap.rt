@@ -1,8 +1,9 @@
 //! The triple DES key wrap of CMS (RFC 3217, 3), over any block cipher: a key of whole blocks of 8
-//! bytes and its checksum by SHA-1 become two blocks more.
+//! bytes, with its checksum by SHA-1, becomes a list of two blocks more.
 //!
-//! The key is wrapped as it is. RFC 3217 wants odd parity of a key of triple DES, before it is wrapped
-//! and after it is unwrapped: `des::weak_key::with_odd_parity` makes and shows it.
+//! RFC 3217 wraps keys of triple DES, of three blocks; libraries take other numbers of blocks too. The
+//! key is wrapped as it is: RFC 3217 wants odd parity before a key is wrapped and after it is
+//! unwrapped, which `des::weak_key::with_odd_parity` makes and shows.
 
 ghost use Rattle.std.specs.Prelude.{◌≡◌, ◌≤◌, ◌+◌, ◌++◌, ℕ, List, [], ◌∷◌, length, drop, replicate, IsOk, OnOk, OnErr};
 ghost use Rattle.std.specs.List.{All};
@@ -104,8 +105,8 @@ fn open<C: BlockCipher>(cipher: &C, enclosed: &[[u8; 8]], key: &mut [[u8; 8]]) -
     (last, decrypted(cipher, &first, &before))
 }
 
-/// Wraps a key into a list of two blocks more. The initialization vector is to be random: eight bytes
-/// that no one can tell before.
+/// Wraps a key into a list of two blocks more. The initialization vector must be random, eight bytes
+/// that nobody can predict.
 pub fn wrap<C: BlockCipherEncrypt>(
     cipher: &C,
     iv: &[u8; 8],
@@ -119,9 +120,8 @@ pub fn wrap<C: BlockCipherEncrypt>(
     enclose(cipher, iv, wrapped);
 }
 
-/// Unwraps a key into a list that is two blocks shorter than what wraps it. If it wraps no key under
-/// this cipher, the answer is `UnwrapError`, and the list is zeros. Every byte of the checksum is
-/// compared.
+/// Unwraps a key into a list of two blocks less. If `wrapped` wraps no key under this cipher, the
+/// answer is `UnwrapError`, and the list is zeros. Every byte of the checksum is compared.
 pub fn unwrap<C: BlockCipher>(
     cipher: &C,
     wrapped: &[[u8; 8]],

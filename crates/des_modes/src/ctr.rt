@@ -13,7 +13,7 @@ use des::cipher::BlockCipherEncrypt;
 // The blocks that are encrypted together: a cipher may treat some of them side by side.
 const TOGETHER: usize = 256;
 
-// Makes the blocks a counter and those that follow it.
+// Writes a counter and those that follow it, one into each block.
 fn write_counters(blocks: &mut [[u8; 8]], counter: u64)
     ensures { (j : ℕ) → j < length blocks.old
         → slice_index_or blocks.new j [] ≡ to_be_bytes w64 ((counter + j) % 2 ^ 64) }
@@ -25,7 +25,7 @@ fn write_counters(blocks: &mut [[u8; 8]], counter: u64)
     }
 }
 
-// Makes the blocks the output blocks of a counter and of those that follow it.
+// Writes the output blocks of a counter and of those that follow it.
 fn write_outputs<C: BlockCipherEncrypt>(cipher: &C, blocks: &mut [[u8; 8]], counter: u64)
     ensures { (j : ℕ) → j < length blocks.old → slice_index_or blocks.new j []
         ≡ C.encrypted cipher.now (to_be_bytes w64 ((counter + j) % 2 ^ 64)) }
@@ -34,8 +34,7 @@ fn write_outputs<C: BlockCipherEncrypt>(cipher: &C, blocks: &mut [[u8; 8]], coun
     cipher.encrypt_blocks(blocks);
 }
 
-// Each byte of the data becomes its xor with the byte of the blocks, one after another, at its place,
-// whose first is at `from`.
+// Each byte of the data becomes its xor with a byte of the blocks, from their byte `from` on.
 fn xor_blocks_from(bytes: &mut [u8], blocks: &[[u8; 8]], from: usize)
     requires { from + length bytes.old ≤ 8 * length blocks.now }
     ensures { (i : ℕ) → i < length bytes.old → slice_index bytes.new i
@@ -45,7 +44,8 @@ fn xor_blocks_from(bytes: &mut [u8], blocks: &[[u8; 8]], from: usize)
     xor_from(bytes, blocks.as_flattened(), from);
 }
 
-// Encrypts or decrypts bytes of which the first goes with a byte of the output block of a counter.
+// Encrypts or decrypts bytes by the output blocks of a counter and of those that follow it, from byte
+// `used` of the first on.
 fn apply_part<C: BlockCipherEncrypt>(cipher: &C, counter: u64, used: usize, bytes: &mut [u8])
     requires { used + length bytes.old ≤ 2048 }
     ensures { (i : ℕ) → i < length bytes.old → slice_index bytes.new i
@@ -59,8 +59,8 @@ fn apply_part<C: BlockCipherEncrypt>(cipher: &C, counter: u64, used: usize, byte
     xor_blocks_from(bytes, part, used);
 }
 
-/// How far a stream of the counter mode has come: the counter of the block that goes next, and how
-/// many bytes of its output block are used.
+/// A place in a stream of the counter mode: the counter of the block that it stands in, and the number
+/// of bytes of its output block that are used.
 #[derive(Clone, Copy)]
 pub struct Counter {
     pub(crate) counter: u64,
@@ -81,8 +81,8 @@ impl Counter {
         }
     }
 
-    /// The place in the stream whose first counter block is `block` that has so many blocks behind it:
-    /// to decrypt a part, no other bytes are needed.
+    /// The place after `blocks` blocks of the stream whose first counter block is `block`. To decrypt a
+    /// part, no bytes before it are needed.
     pub fn at(block: &[u8; 8], blocks: u64) -> Counter
         ensures { IsCtrAt block.now (8 * blocks) result }
     {
@@ -92,7 +92,7 @@ impl Counter {
         }
     }
 
-    // The place that is so many bytes further on.
+    // The place after the next `bytes` bytes.
     fn advanced(&self, bytes: usize) -> Counter
         requires { bytes ≤ 2048 }
         ensures { (t : List ℕ) (n : ℕ) → IsCtrAt t n self.now → IsCtrAt t (n + bytes) result }
@@ -104,8 +104,8 @@ impl Counter {
         }
     }
 
-    /// Encrypts the bytes that come next in place, or decrypts them, which is the same: any number of
-    /// them. In pieces, wherever they are cut, they become what they become as one.
+    /// Encrypts the next bytes of the stream in place, or decrypts them, which is the same. However a
+    /// text is cut into pieces, they become what the whole becomes.
     pub fn apply<C: BlockCipherEncrypt>(&mut self, cipher: &C, bytes: &mut [u8])
         ensures after { (t : List ℕ) (n : ℕ) → IsCtrAt t n self.old
             → IsCtrAt t (n + length bytes.old) self.new }
@@ -130,9 +130,9 @@ impl Counter {
     }
 }
 
-/// Encrypts bytes in place by the counter mode, from the first counter block on, or decrypts them,
-/// which is the same: any number of them. With P the plaintext, C the ciphertext and T(1) the first
-/// counter block, C(j) = P(j) ^ E(T(j)), where T(j+1) = T(j) + 1 modulo 2^64. A counter block must not be used twice
+/// Encrypts a text of any length in place by the counter mode, or decrypts it, which is the same. With
+/// P the plaintext, C the ciphertext, E the cipher's encryption and T(1) the first counter block,
+/// C(j) = P(j) ^ E(T(j)), where T(j+1) = T(j) + 1 modulo 2^64. A counter block must not be used twice
 /// under a key.
 pub fn apply<C: BlockCipherEncrypt>(cipher: &C, block: &[u8; 8], bytes: &mut [u8])
     ensures applied { Ctr (C.encrypted cipher.now) block.now bytes.old bytes.new }

@@ -2,8 +2,8 @@
 //! 81; NIST SP 800-38A), and the key wraps of triple DES (RFC 3217; NIST SP 800-38F, 7).
 //!
 //! CFB, OFB and CTR hide a text only if no initialization vector or counter block is used twice under a
-//! key, and authenticate nothing: who knows a text can change what it is encrypted to into what any
-//! other is.
+//! key. They authenticate nothing: whoever knows a text can change its ciphertext into that of any
+//! other text of the same length.
 #![tactic(auto)]
 
 pub mod by_key;

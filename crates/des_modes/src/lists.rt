@@ -1,5 +1,5 @@
-//! A cipher whose blocks go by the calls of lists, as the modes take it: the width of the batches and
-//! whether tables may be read are chosen once.
+//! A cipher by its calls of lists, in the form that the modes take: the width of the batches, and whether
+//! tables may be read, are chosen once.
 
 ghost use Rattle.std.specs.Prelude.{◌≡◌};
 

@@ -8,8 +8,8 @@ ghost use Rattle.des_modes.specs.Ofb.{Ofb, ofb_stream, output_block};
 use crate::xored::xor_from;
 use des::cipher::BlockCipherEncrypt;
 
-/// How far a stream of output feedback has come: its last output block, and how many bytes of it are
-/// used; 0 says that all are.
+/// A place in a stream of output feedback: the last output block, and the number of its bytes that are
+/// used, where 0 stands for all.
 #[derive(Clone, Copy)]
 pub struct Feedback {
     pub(crate) block: [u8; 8],
@@ -30,7 +30,7 @@ impl Feedback {
         }
     }
 
-    // The output block that the next byte goes with.
+    // The output block for the next byte.
     #[inline]
     fn current<C: BlockCipherEncrypt>(&self, cipher: &C) -> [u8; 8]
         ensures { (iv : List ℕ) (n : ℕ) → IsOfbAt (C.encrypted cipher.now) iv n self.now
@@ -43,7 +43,7 @@ impl Feedback {
         block
     }
 
-    // Encrypts or decrypts bytes that go with one output block.
+    // Encrypts or decrypts bytes by one output block.
     fn apply_part<C: BlockCipherEncrypt>(&mut self, cipher: &C, bytes: &mut [u8])
         requires some { 1 ≤ length bytes.old }
         requires within { self.old.used + length bytes.old ≤ 8 }
@@ -58,8 +58,8 @@ impl Feedback {
         self.used = (self.used + bytes.len()) % 8;
     }
 
-    /// Encrypts the bytes that come next in place, or decrypts them, which is the same: any number of
-    /// them. In pieces, wherever they are cut, they become what they become as one.
+    /// Encrypts the next bytes of the stream in place, or decrypts them, which is the same. However a
+    /// text is cut into pieces, they become what the whole becomes.
     pub fn apply<C: BlockCipherEncrypt>(&mut self, cipher: &C, bytes: &mut [u8])
         ensures after { (iv : List ℕ) (n : ℕ) → IsOfbAt (C.encrypted cipher.now) iv n self.old
             → IsOfbAt (C.encrypted cipher.now) iv (n + length bytes.old) self.new }
@@ -78,10 +78,10 @@ impl Feedback {
     }
 }
 
-/// Encrypts bytes in place by output feedback of 64 bits, from the initialization vector on, or
-/// decrypts them, which is the same: any number of them. With P the plaintext, C the ciphertext, E the
-/// cipher's encryption and O(0) the initialization vector, O(j) = E(O(j-1)) and C(j) = P(j) ^ O(j). An
-/// initialization vector must not be used twice under a key.
+/// Encrypts a text of any length in place by output feedback of 64 bits, or decrypts it, which is the
+/// same. With P the plaintext, C the ciphertext, E the cipher's encryption and O(0) the initialization
+/// vector, O(j) = E(O(j-1)) and C(j) = P(j) ^ O(j). An initialization vector must not be used twice
+/// under a key.
 pub fn apply<C: BlockCipherEncrypt>(cipher: &C, iv: &[u8; 8], bytes: &mut [u8])
     ensures applied { Ofb (C.encrypted cipher.now) iv.now bytes.old bytes.new }
     ensures undone { (text : List ℕ) → Ofb (C.encrypted cipher.now) iv.now text bytes.old

@@ -1,5 +1,5 @@
 //! The key wrap TKW of triple DES (NIST SP 800-38F, 7), over any block cipher: a key of 2 to 2^28 - 1
-//! semiblocks of 32 bits becomes one semiblock longer. It needs no initialization vector.
+//! semiblocks of 4 bytes becomes a list of one semiblock more. It needs no initialization vector.
 
 ghost use Rattle.std.specs.Prelude.{◌≡◌, ◌<◌, ◌≤◌, ◌+◌, ◌*◌, ◌-◌, ◌^◌, ◌++◌, ℕ, List, [], ◌∷◌, length, take, drop, replicate, IsOk, OnOk, OnErr};
 ghost use Rattle.std.specs.List.{All};
@@ -15,8 +15,8 @@ use des::cipher::{BlockCipher, BlockCipherEncrypt, are_bytes};
 // The check value in front of the key, ICV3.
 const CHECK_VALUE: [u8; 4] = [0xa6; 4];
 
-// The elements of a list of arrays of 4 bytes are semiblocks. It does nothing: of such a list a proof
-// knows the lengths alone.
+// A function for the proof alone: the elements of a list of arrays of 4 bytes are semiblocks. Of such a
+// list a proof knows only the lengths.
 fn are_semiblocks(words: &[[u8; 4]])
     ensures { All IsSemiblock words.now }
 {
@@ -32,7 +32,7 @@ fn joined(first: &[u8; 4], second: &[u8; 4]) -> [u8; 8]
     block
 }
 
-// Makes two semiblocks those of a block.
+// Writes the two semiblocks of a block.
 fn split(block: &[u8; 8], first: &mut [u8; 4], second: &mut [u8; 4])
     ensures first { first.new ≡ take 4 block.now }
     ensures second { second.new ≡ drop 4 block.now }
@@ -41,14 +41,14 @@ fn split(block: &[u8; 8], first: &mut [u8; 4], second: &mut [u8; 4])
     second.copy_from_slice(&block[4..]);
 }
 
-// A semiblock becomes its xor with the number of a step.
+// The semiblock becomes its xor with the number of a step.
 fn xor_number(word: &mut [u8; 4], number: u32)
     ensures { word.new ≡ xor_blocks word.old (to_be_bytes w32 number) }
 {
     xor_from(word, &number.to_be_bytes(), 0);
 }
 
-// What a step makes of the first semiblock and the next.
+// A step of TW, on the first semiblock and the next.
 fn step<C: BlockCipherEncrypt>(cipher: &C, first: &mut [u8; 4], word: &mut [u8; 4], number: u32)
     ensures first { first.new ≡ xor_blocks
         (take 4 (C.encrypted cipher.now (first.old ++ word.old))) (to_be_bytes w32 number) }
@@ -60,7 +60,7 @@ fn step<C: BlockCipherEncrypt>(cipher: &C, first: &mut [u8; 4], word: &mut [u8; 
     xor_number(first, number);
 }
 
-// What a step made these two semiblocks of.
+// Undoes a step.
 fn step_back<C: BlockCipher>(cipher: &C, first: &mut [u8; 4], word: &mut [u8; 4], number: u32)
     ensures first { xor_blocks (take 4 (C.encrypted cipher.now (first.new ++ word.new)))
         (to_be_bytes w32 number) ≡ first.old }
@@ -73,7 +73,7 @@ fn step_back<C: BlockCipher>(cipher: &C, first: &mut [u8; 4], word: &mut [u8; 4]
     split(&block, first, word);
 }
 
-// As many steps as there are semiblocks after the first.
+// A step with each semiblock after the first.
 fn pass<C: BlockCipherEncrypt>(cipher: &C, first: &mut [u8; 4], words: &mut [[u8; 4]], before: u32)
     requires { before + length words.old < 2 ^ 32 }
     ensures { tw_steps (C.encrypted cipher.now) before (length words.old) (first.old ∷ words.old)
@@ -84,7 +84,7 @@ fn pass<C: BlockCipherEncrypt>(cipher: &C, first: &mut [u8; 4], words: &mut [[u8
     }
 }
 
-// What a pass made these semiblocks of.
+// Undoes a pass.
 fn pass_back<C: BlockCipher>(cipher: &C, first: &mut [u8; 4], words: &mut [[u8; 4]], before: u32)
     requires { before + length words.old < 2 ^ 32 }
     ensures { tw_steps (C.encrypted cipher.now) before (length words.old) (first.new ∷ words.new)
@@ -97,7 +97,7 @@ fn pass_back<C: BlockCipher>(cipher: &C, first: &mut [u8; 4], words: &mut [[u8; 
     }
 }
 
-// TW, of the first semiblock and the others.
+// TW, on the first semiblock and the others.
 fn transform<C: BlockCipherEncrypt>(cipher: &C, first: &mut [u8; 4], words: &mut [[u8; 4]])
     requires { length words.old < 2 ^ 28 }
     ensures { tw (C.encrypted cipher.now) (first.old ∷ words.old) ≡ first.new ∷ words.new }
@@ -108,7 +108,7 @@ fn transform<C: BlockCipherEncrypt>(cipher: &C, first: &mut [u8; 4], words: &mut
     }
 }
 
-// What TW made these semiblocks of.
+// Undoes TW.
 fn transform_back<C: BlockCipher>(cipher: &C, first: &mut [u8; 4], words: &mut [[u8; 4]])
     requires { length words.old < 2 ^ 28 }
     ensures { tw (C.encrypted cipher.now) (first.new ∷ words.new) ≡ first.old ∷ words.old }
@@ -121,7 +121,7 @@ fn transform_back<C: BlockCipher>(cipher: &C, first: &mut [u8; 4], words: &mut [
     }
 }
 
-/// Wraps a key of at least two semiblocks into a list that is one semiblock longer.
+/// Wraps a key into a list of one semiblock more.
 pub fn wrap<C: BlockCipherEncrypt>(cipher: &C, key: &[[u8; 4]], wrapped: &mut [[u8; 4]])
     requires some { 2 ≤ length key.now }
     requires few { length key.now < 2 ^ 28 }
@@ -134,9 +134,8 @@ pub fn wrap<C: BlockCipherEncrypt>(cipher: &C, key: &[[u8; 4]], wrapped: &mut [[
     wrapped[0] = first;
 }
 
-/// Unwraps a key into a list that is one semiblock shorter than what wraps it. Where it wraps no key
-/// under this cipher, the answer is `UnwrapError`, and the list is zeros. Every byte of the check
-/// value is looked at.
+/// Unwraps a key into a list of one semiblock less. If `wrapped` wraps no key under this cipher, the
+/// answer is `UnwrapError`, and the list is zeros. Every byte of the check value is compared.
 pub fn unwrap<C: BlockCipher>(
     cipher: &C,
     wrapped: &[[u8; 4]],

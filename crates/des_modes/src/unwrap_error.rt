@@ -1,11 +1,11 @@
-//! The error of what wraps no key.
+//! The error of unwrapping.
 
 ghost use Rattle.std.specs.Prelude.{codes, Some};
 
 use std::error::Error;
 use std::fmt;
 
-/// The error of what wraps no key under this one: it was made under another, or changed.
+/// The error of data that wrap no key under the given one: they were made under another, or changed.
 #[derive(Clone, Copy, Debug, PartialEq, Eq)]
 pub struct UnwrapError;
 

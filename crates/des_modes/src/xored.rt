@@ -3,8 +3,7 @@
 ghost use Rattle.std.specs.Prelude.{◌≡◌, ◌<◌, ◌≤◌, ◌+◌, ◌*◌, ◌/◌, ◌%◌, ℕ, [], length, slice_index, slice_index_or, bit_xor};
 ghost use Rattle.des_modes.specs.Streams.{XorsFrom};
 
-/// Each byte of the data becomes its xor with the byte of the key stream at its place, whose first is
-/// at `from`.
+/// Each byte of the data becomes its xor with a byte of the key stream, from byte `from` of it on.
 pub(crate) fn xor_from(bytes: &mut [u8], key_stream: &[u8], from: usize)
     requires { from + length bytes.old ≤ length key_stream.now }
     ensures { (i : ℕ) → i < length bytes.old → slice_index bytes.new i
@@ -15,7 +14,7 @@ pub(crate) fn xor_from(bytes: &mut [u8], key_stream: &[u8], from: usize)
     }
 }
 
-/// Each segment of the data becomes its xor with as many bytes of the block at its place.
+/// Each segment of `segment` bytes of the data becomes its xor with the first bytes of its block.
 pub(crate) fn xor_segments(bytes: &mut [u8], blocks: &[[u8; 8]], segment: usize)
     requires some { 1 ≤ segment }
     requires short { segment ≤ 8 }
