@@ -1,8 +1,10 @@
 -- The steps of TW, one after another, and turned round.
-use Rattle.std.proofs.Common.{◌≡◌, ℕ, zero, suc, ◌+◌, ◌-◌, ◌*◌, ◌<◌, List, [], ◌∷◌, ◌++◌, length, get_or, take, drop, bit_xor, refl, ap, ap₂, sym, ◌∙◌, arith, append_assoc, take_at, drop_at, length-append, length-drop, length-take-le}
+use Rattle.std.proofs.Common.{◌≡◌, inl, inr, ℕ, zero, suc, ◌+◌, ◌-◌, ◌*◌, ◌%◌, ◌<◌, ◌≤◌, List, [], ◌∷◌, ◌++◌, length, get_or, take, drop, bit_xor, refl, ap, ap₂, sym, ◌∙◌, arith, append_assoc, take_at, drop_at, length-append, length-drop, length-take-le}
 use Rattle.std.specs.Int.{w32, to_be_bytes}
 use Rattle.std.specs.List.{All}
-use Rattle.std.proofs.lemmas.List.{drop_more, take-append-drop}
+use Rattle.std.proofs.lemmas.Bool.{cases_lt}
+use Rattle.std.proofs.lemmas.List.{append-nil, drop_all, drop_more, take_all, take-append-drop}
+use Rattle.std.proofs.Math.Nat.{mod-lt, mod_self}
 use Rattle.std.proofs.lemmas.List.Elements.{All-nil, All-cons, All-head, All-tail, All-append, All-take, All-drop, All-from_get_or}
 use Rattle.std.proofs.lemmas.Nat.{xor_lt}
 use Rattle.std.proofs.lemmas.Simd.{get_or-zip2}
@@ -11,6 +13,7 @@ use Rattle.des.specs.Cbc.{xor_blocks}
 use Rattle.des.specs.Laws.BlockBits.{AreBytes-bytes_high_first}
 use Rattle.des.proofs.XoredBlocks.{length-xor_blocks, xor_blocks-undone}
 use Rattle.des.specs.Relations.{IsGraphOf}
+use Rattle.des_modes.proofs.Segments.{further-mod, same_segment-mod}
 use Rattle.des_modes.specs.Tkw.{IsSemiblock, TkwUnder, icv3, tw_step, tw_steps, tw, tkw}
 
 -- the last of some steps
@@ -21,33 +24,18 @@ tw_steps-last E t (suc m) words =
     tw_steps-last E (suc t) m (tw_step E (suc t) words)
     ∙ ap (λ (n : ℕ). tw_step E n (tw_steps E (suc t) m (tw_step E (suc t) words))) (omega arith)
 
-pub tw_steps-next : (E : List ℕ → List ℕ) (t m : ℕ) (words : List (List ℕ))
-    → tw_steps E t (m + 1) words ≡ tw_step E (t + m + 1) (tw_steps E t m words)
-tw_steps-next E t m words =
-    let count : m + 1 ≡ suc m = omega arith in
-    let number : t + suc m ≡ t + m + 1 = omega arith in
-    ap (λ (n : ℕ). tw_steps E t n words) count ∙ tw_steps-last E t m words
-    ∙ ap (λ (n : ℕ). tw_step E n (tw_steps E t m words)) number
+pub tw_steps-next : (E : List ℕ → List ℕ) (t : ℕ) (words : List (List ℕ))
+    → tw_steps E 0 (t + 1) words ≡ tw_step E (t + 1) (tw_steps E 0 t words)
+tw_steps-next E t words =
+    let count : t + 1 ≡ suc t = omega arith in
+    let number : 0 + suc t ≡ t + 1 = omega arith in
+    ap (λ (n : ℕ). tw_steps E 0 n words) count ∙ tw_steps-last E 0 t words ∙ ap (λ (n : ℕ). tw_step E n (tw_steps E 0 t words)) number
 
 -- the first of some steps
 pub tw_steps-first : (E : List ℕ → List ℕ) (t number count rest : ℕ) (words : List (List ℕ)) → suc t ≡ number
     → count ≡ suc rest → tw_steps E t count words ≡ tw_steps E number rest (tw_step E number words)
 tw_steps-first E t number count rest words is more =
     ap (λ (n : ℕ). tw_steps E t n words) more ∙ ap (λ (n : ℕ). tw_steps E n rest (tw_step E n words)) is
-
--- some steps after others
-pub tw_steps-add : (E : List ℕ → List ℕ) (t m k : ℕ) (words : List (List ℕ))
-    → tw_steps E t (m + k) words ≡ tw_steps E (t + m) k (tw_steps E t m words)
-tw_steps-add E t zero k words =
-    let number : t ≡ t + 0 = omega arith in
-    let count : 0 + k ≡ k = omega arith in
-    ap₂ (λ (n i : ℕ). tw_steps E n i words) number count
-tw_steps-add E t (suc m) k words =
-    let next : List (List ℕ) = tw_step E (suc t) words in
-    let count : suc m + k ≡ suc (m + k) = omega arith in
-    ap (λ (n : ℕ). tw_steps E t n words) count
-    ∙ tw_steps-add E (suc t) m k next
-    ∙ ap (λ (n : ℕ). tw_steps E n k (tw_steps E (suc t) m next)) (omega arith)
 
 -- a step of semiblocks in place: those before place i are done
 turned : (E : List ℕ → List ℕ) (t : ℕ) (a w : List ℕ) (rest done : List (List ℕ))
@@ -69,6 +57,22 @@ tw_step-at E t i a b words next within rest done first =
     ∙ ap₂ (λ (x : List ℕ) (xs : List (List ℕ)). x ∷ xs ++ (take i words ++ drop 4 (E (a ++ get_or words i [])) ∷ []))
     first (sym rest)
     ∙ ap (λ (xs : List (List ℕ)). b ∷ drop (i + 1) next ++ xs) (sym done)
+
+-- semiblocks from a place on, and those before it: at the first place all of them
+pub first_place : (words : List (List ℕ)) (i : ℕ) → i ≡ 0 → drop i words ++ take i words ≡ words
+first_place words i none = ap (λ (k : ℕ). drop k words ++ take k words) none ∙ append-nil words
+
+-- the place after the last is the first
+pub next_place : (words : List (List ℕ)) (t n : ℕ) → length words ≡ n → 1 ≤ n
+    → drop (t % n + 1) words ++ take (t % n + 1) words ≡ drop ((t + 1) % n) words ++ take ((t + 1) % n) words
+next_place words t n size some = elim (cases_lt (t % n + 1) n) [
+  | inl inside ↦ ap (λ (i : ℕ). drop i words ++ take i words) (sym (same_segment-mod n t 1 inside))
+  | inr past ↦
+      let full : t % n + 1 ≡ n = omega (arith, mod-lt t some) in
+      let none : (t + 1) % n ≡ 0 = further-mod n t 1 ∙ ap (λ (m : ℕ). m % n) full ∙ mod_self n in
+      ap₂ ◌++◌ (drop_all (t % n + 1) words (omega arith)) (take_all (t % n + 1) words (omega arith))
+      ∙ sym (first_place words ((t + 1) % n) none)
+]
 
 -- the halves of a block that was decrypted, encrypted again
 pub encrypted_again : (E : List ℕ → List ℕ) (block a w decrypted first second : List ℕ) → first ≡ take 4 decrypted

@@ -73,51 +73,30 @@ fn step_back<C: BlockCipher>(cipher: &C, first: &mut [u8; 4], word: &mut [u8; 4]
     split(&block, first, word);
 }
 
-// A step with each semiblock after the first.
-fn pass<C: BlockCipherEncrypt>(cipher: &C, first: &mut [u8; 4], words: &mut [[u8; 4]], before: u32)
-    requires { before + length words.old < 2 ^ 32 }
-    ensures { tw_steps (C.encrypted cipher.now) before (length words.old) (first.old ∷ words.old)
-        ≡ first.new ∷ words.new }
-{
-    'words: for i in 0..words.len() {
-        step(cipher, first, &mut words[i], before + i as u32 + 1);
-    }
-}
-
-// Undoes a pass.
-fn pass_back<C: BlockCipher>(cipher: &C, first: &mut [u8; 4], words: &mut [[u8; 4]], before: u32)
-    requires { before + length words.old < 2 ^ 32 }
-    ensures { tw_steps (C.encrypted cipher.now) before (length words.old) (first.new ∷ words.new)
-        ≡ first.old ∷ words.old }
-{
-    let mut left = words.len();
-    'words: while left > 0 {
-        step_back(cipher, first, &mut words[left - 1], before + left as u32);
-        left -= 1;
-    }
-}
-
-// TW, on the first semiblock and the others.
+// TW, on the first semiblock and the others. Step t is of the semiblock at place t - 1, round and round:
+// the standard moves them to the left.
 fn transform<C: BlockCipherEncrypt>(cipher: &C, first: &mut [u8; 4], words: &mut [[u8; 4]])
-    requires { length words.old < 2 ^ 28 }
+    requires some { 1 ≤ length words.old }
+    requires few { length words.old < 2 ^ 28 }
     ensures { tw (C.encrypted cipher.now) (first.old ∷ words.old) ≡ first.new ∷ words.new }
 {
-    let count = words.len() as u32;
-    'passes: for passes in 0..6 {
-        pass(cipher, first, words, passes * count);
+    let count = words.len();
+    'steps: for t in 0..6 * count {
+        step(cipher, first, &mut words[t % count], t as u32 + 1);
     }
 }
 
 // Undoes TW.
 fn transform_back<C: BlockCipher>(cipher: &C, first: &mut [u8; 4], words: &mut [[u8; 4]])
-    requires { length words.old < 2 ^ 28 }
+    requires some { 1 ≤ length words.old }
+    requires few { length words.old < 2 ^ 28 }
     ensures { tw (C.encrypted cipher.now) (first.new ∷ words.new) ≡ first.old ∷ words.old }
 {
-    let count = words.len() as u32;
-    let mut passes = 6;
-    'passes: while passes > 0 {
-        passes -= 1;
-        pass_back(cipher, first, words, passes * count);
+    let count = words.len();
+    let mut left = 6 * count;
+    'steps: while left > 0 {
+        left -= 1;
+        step_back(cipher, first, &mut words[left % count], left as u32 + 1);
     }
 }
 

@@ -1,14 +1,10 @@
-use Rattle.std.proofs.Common.{subst}
-use Rattle.des_modes.specs.CfbBits.{Cfb1, first_bits}
+use Rattle.des_modes.specs.CfbBits.{first_bits}
 use Rattle.des_modes.proofs.RelatedStreams.{CfbBits-from_bits}
 use Rattle.des_modes.proofs.by_key.decrypt_cfb_bits.Goals as goal
 
 pub returns : goal.returns
 returns g c = λ key made.
-    let P : g.row.C.Denot → Type 0 =
-    λ cipher. Cfb1 (g.C.BlockCipherEncrypt.encrypted cipher) c.args.iv.now (first_bits c.args.bits c.decrypt.new.bytes)
-    (first_bits c.args.bits c.args.bytes.now) in
     CfbBits-from_bits _ (g.C.BlockCipherEncrypt.encrypted c.args.cipher.now) 1 c.args.iv.now
     (first_bits c.args.bits c.decrypt.new.bytes) (first_bits c.args.bits c.args.bytes.now)
     (g.met.C.Relating.encrypts_by_relation c.args.cipher.now key made)
-    (subst P c.new.ensures c.decrypt.ensures.decrypted)
+    (rw c.new.ensures at c.decrypt.ensures.decrypted)

@@ -1,9 +1,9 @@
--- So many passes are done.
-use Rattle.std.proofs.Common.{◌≡◌, ◌*◌, ◌∷◌}
+-- So many steps are done.
+use Rattle.std.proofs.Common.{◌≡◌, ◌%◌, ◌∷◌, ◌++◌, length, take, drop}
 use Rattle.des_modes.specs.Tkw.{tw_steps}
 use Rattle.des_modes.proofs.tkw.transform.Given as goal
 
-abbrev pub invariant-passes : goal.invariant-passes
-invariant-passes g l =
-    tw_steps (g.C.BlockCipherEncrypt.encrypted l.cipher) 0 (l.passes * l.count) (l.initial.first ∷ l.initial.words)
-    ≡ l.first ∷ l.words
+abbrev pub invariant-steps : goal.invariant-steps
+invariant-steps g l =
+    tw_steps (g.C.BlockCipherEncrypt.encrypted l.cipher) 0 l.t (l.initial.first ∷ l.initial.words)
+    ≡ l.first ∷ drop (l.t % l.count) l.words ++ take (l.t % l.count) l.words
