@@ -1,5 +1,5 @@
 -- A block is decoded to a PIN exactly where it was encoded from that PIN.
-use Rattle.std.proofs.Common.{◌≡◌, ◌↔◌, ℕ, ◌≤◌, List, length, replicate, Option, None, Result, Ok, Err, IfOk, refl, sym, ap, ◌∙◌, subst, arith}
+use Rattle.std.proofs.Common.{◌≡◌, ◌↔◌, ℕ, ◌≤◌, List, length, replicate, Option, None, Result, Ok, Err, IfOk, refl, sym, ap, ◌∙◌, subst, lit≤, arith}
 use Rattle.std.specs.Result.{result_err}
 use Rattle.des.specs.Blocks.{IsBlock}
 use Rattle.des.specs.Cbc.{xor_blocks}
@@ -32,15 +32,19 @@ exactly (Err error) fault text F by is sound complete pin =
     (λ same. cc, λ holds. let none = (complete pin holds).0 in cc)
 
 -- the PIN field was made from the PIN with some fill digits
-abbrev pub IsFieldOf : ℕ → ℕ → List ℕ → List ℕ → Type 0
+abbrev IsFieldOf : ℕ → ℕ → List ℕ → List ℕ → Type 0
 IsFieldOf format least field pin =
     (fill : List ℕ) × (IsPin pin × AreFill least fill × (field ≡ pin_field format pin fill))
 
+-- a PIN field is read: its fault, or the PIN
+abbrev pub IsReading : Result (List ℕ) PinError → ℕ → ℕ → List ℕ → Type 0
+IsReading result format least field =
+    (result_err result ≡ field_fault format least field) × IfOk result (λ pin. pin ≡ text_of (pin_digits field))
+
 -- what is read of it is that PIN, and what is read was made from it
-pub reads : (result : Result (List ℕ) PinError) (format least : ℕ) (field : List ℕ) → length field ≡ 16 → least ≤ 15
-    → result_err result ≡ field_fault format least field → IfOk result (λ pin. pin ≡ text_of (pin_digits field))
-    → (pin : List ℕ) → (result ≡ Ok pin) ↔ IsFieldOf format least field pin
-reads result format least field count at_most by is =
+reads : (result : Result (List ℕ) PinError) (format least : ℕ) (field : List ℕ) → length field ≡ 16 → least ≤ 15
+    → IsReading result format least field → (pin : List ℕ) → (result ≡ Ok pin) ↔ IsFieldOf format least field pin
+reads result format least field count at_most (by, is) =
     exactly result (field_fault format least field) (text_of (pin_digits field)) (IsFieldOf format least field) by is
     (λ none. let read : IsMade format least field = IsMade-read format least field count at_most none in
     (read.fill, (read.is_pin, read.filled, read.made)))
@@ -49,31 +53,39 @@ reads result format least field count at_most by is =
       ap (λ (digits : List ℕ). text_of (pin_digits digits)) made.2 ∙ text_of-made format least pin fill made.0 made.1,
     ))
 
+-- fill digits from 15 are all 15
+fifteen : (fill : List ℕ) → AreFill 15 fill → fill ≡ replicate 10 15
+fifteen fill filled = all_fifteen fill filled.1 ∙ ap (λ (n : ℕ). replicate n 15) filled.0
+
+through : (A B C : Type 0) → A ↔ B → B ↔ C → A ↔ C
+through A B C first second = (λ a. second.0 (first.0 a), λ c. first.1 (second.1 c))
+
 -- ---- the formats
 
-pub IsFormat1-field : (block pin : List ℕ) → IsBlock block
-    → IsFieldOf 1 0 (digits_of block) pin ↔ ((transaction : List ℕ) × IsFormat1 pin transaction block)
-IsFormat1-field block pin is_block = (
-  λ (fill, made). (fill, (made.0, made.1, (is_block, made.2))),
-  λ (fill, is). (fill, (is.0, is.1, is.2.1)),
-)
+module _ (block field : List ℕ) (is_block : IsBlock block) (same : field ≡ digits_of block) where
+  length-digits : length field ≡ 16
+  length-digits = ap length same ∙ omega (arith, length-digits_of block, is_block.0)
 
-pub IsFormat2-field : (block pin : List ℕ) → IsBlock block
-    → IsFieldOf 2 15 (digits_of block) pin ↔ IsFormat2 pin block
-IsFormat2-field block pin is_block = (
-  λ (fill, made).
-      let fifteen : fill ≡ replicate 10 15 =
-      all_fifteen fill made.1.1 ∙ ap (λ (n : ℕ). replicate n 15) made.1.0 in
-      (made.0, (is_block, made.2 ∙ ap (pin_field 2 pin) fifteen)),
-  λ is. let filled : AreFill 15 (replicate 10 15) = (refl, refl) in (replicate 10 15, (is.0, filled, is.1.1)),
-)
+  pub decodes-format_1 : (result : Result (List ℕ) PinError) → IsReading result 1 0 field → (pin : List ℕ)
+      → (result ≡ Ok pin) ↔ ((transaction : List ℕ) × IsFormat1 pin transaction block)
+  decodes-format_1 result read pin = through _ _ _ (reads result 1 0 field length-digits (lit≤ tt) read pin) (
+    λ (fill, made). (fill, (made.0, made.1, (is_block, sym same ∙ made.2))),
+    λ (fill, is). (fill, (is.0, is.1, same ∙ is.2.1)),
+  )
+
+  pub decodes-format_2 : (result : Result (List ℕ) PinError) → IsReading result 2 15 field → (pin : List ℕ)
+      → (result ≡ Ok pin) ↔ IsFormat2 pin block
+  decodes-format_2 result read pin = through _ _ _ (reads result 2 15 field length-digits (lit≤ tt) read pin) (
+    λ (fill, made). (made.0, (is_block, sym same ∙ made.2 ∙ ap (pin_field 2 pin) (fifteen fill made.1))),
+    λ is. (replicate 10 15, (is.0, (refl, refl), same ∙ is.1.1)),
+  )
 
 module _ (account block field : List ℕ) (is_account : IsAccountNumber account) (is_block : IsBlock block)
     (same : field ≡ xor_blocks (digits_of block) (account_field account)) where
   count : length (digits_of block) ≡ 16
   count = omega (arith, length-digits_of block, is_block.0)
 
-  pub length-field : length field ≡ 16
+  length-field : length field ≡ 16
   length-field =
       ap length same
       ∙ length-xor_blocks (digits_of block) (account_field account)
@@ -94,29 +106,21 @@ module _ (account block field : List ℕ) (is_account : IsAccountNumber account)
       ∙ ap (λ (digits : List ℕ). xor_blocks digits (account_field account)) is
       ∙ xor_blocks-undone other (account_field account) (omega (arith, long, length-account_field account is_account))
 
-  pub IsFormat0-field : (pin : List ℕ) → IsFieldOf 0 15 field pin ↔ IsFormat0 pin account block
-  IsFormat0-field pin = (
+  pub decodes-format_0 : (result : Result (List ℕ) PinError) → IsReading result 0 15 field → (pin : List ℕ)
+      → (result ≡ Ok pin) ↔ IsFormat0 pin account block
+  decodes-format_0 result read pin = through _ _ _ (reads result 0 15 field length-field (lit≤ tt) read pin) (
     λ (fill, made).
-        let fifteen : fill ≡ replicate 10 15 =
-        all_fifteen fill made.1.1 ∙ ap (λ (n : ℕ). replicate n 15) made.1.0 in (
-          made.0,
-          is_account,
-          (is_block, from_field (pin_field 0 pin (replicate 10 15)) (made.2 ∙ ap (pin_field 0 pin) fifteen)),
-        ),
+        let made_of = made.2 ∙ ap (pin_field 0 pin) (fifteen fill made.1) in
+        (made.0, is_account, (is_block, from_field (pin_field 0 pin (replicate 10 15)) made_of)),
     λ is.
-        let filled : AreFill 15 (replicate 10 15) = (refl, refl) in (
-          replicate 10 15,
-          (
-            is.0,
-            filled,
-            to_field (pin_field 0 pin (replicate 10 15))
-                (length-pin_field 0 15 pin (replicate 10 15) is.0 filled) is.2.1,
-          ),
-        ),
+        let filled : AreFill 15 (replicate 10 15) = (refl, refl) in
+        let long = length-pin_field 0 15 pin (replicate 10 15) is.0 filled in
+        (replicate 10 15, (is.0, filled, to_field (pin_field 0 pin (replicate 10 15)) long is.2.1)),
   )
 
-  pub IsFormat3-field : (pin : List ℕ) → IsFieldOf 3 10 field pin ↔ ((fill : List ℕ) × IsFormat3 pin account fill block)
-  IsFormat3-field pin = (
+  pub decodes-format_3 : (result : Result (List ℕ) PinError) → IsReading result 3 10 field → (pin : List ℕ)
+      → (result ≡ Ok pin) ↔ ((fill : List ℕ) × IsFormat3 pin account fill block)
+  decodes-format_3 result read pin = through _ _ _ (reads result 3 10 field length-field (lit≤ tt) read pin) (
     λ (fill, made). (fill, (made.0, is_account, made.1, (is_block, from_field (pin_field 3 pin fill) made.2))),
     λ (fill, is).
         (fill, (is.0, is.2, to_field (pin_field 3 pin fill) (length-pin_field 3 10 pin fill is.0 is.2) is.3.1)),

@@ -11,7 +11,6 @@ pub mod FieldDigits
 pub mod FillPlaces
 pub mod PickedDigits
 pub mod Decoding
-pub mod TranslatedPins
 pub mod Derivations
 pub mod CardTexts
 pub mod BoolBytes
