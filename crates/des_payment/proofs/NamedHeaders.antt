@@ -1,5 +1,5 @@
 -- Headers of one text whose fields have their names are one.
-use Rattle.std.proofs.Common.{◌≡◌, ℕ, List, [], ◌∷◌, ◌++◌, length, take, drop, get_or, refl, sym, ap, ◌∙◌, arith}
+use Rattle.std.proofs.Common.{◌≡◌, ◌⊎◌, inl, inr, ℕ, Bool, List, [], ◌∷◌, ◌++◌, length, take, drop, get_or, refl, sym, ap, ◌∙◌, arith}
 use Rattle.std.specs.Prelude.{IsTrue}
 use Rattle.std.proofs.lemmas.List.{length-append, take_at, drop_at}
 use Rattle.des_payment.specs.KeyBlockHeaders.{usage_text, algorithm_text, mode_text, exportability_text, is_named_usage, is_named_algorithm, is_named_mode, is_named_rule, IsHeader, IsNamed}
@@ -17,61 +17,35 @@ use Rattle.des_payment.specs.declared.key_block_header.Exportability.TheVariants
 
 -- ---- fields of one text
 
-abbrev HasUsage : Usage → Type 0
-HasUsage usage = (name : Usage) → IsTrue (is_named_usage name) → usage_text name ≡ usage_text usage → usage ≡ name
+-- names of one text are one, if each is the name of its text where that has one, and else holds the text
+module _ (Name Text : Type 0) (text_of : Name → Text) (other : Text → Name) (is_named : Name → Bool) where
+  abbrev Has : Name → Type 0
+  Has name = (known : Name) → IsTrue (is_named known) → text_of known ≡ text_of name → name ≡ known
 
-other-usage : (usage : Usage) (text : List ℕ) → HasUsage (OtherUsage text) → usage_text usage ≡ text
-    → usage ≡ OtherUsage text
-other-usage (OtherUsage same) text named is = ap OtherUsage is
-other-usage usage text named is = sym (named usage refl is)
+  abbrev IsEither : Name → Type 0
+  IsEither name = IsTrue (is_named name) ⊎ (name ≡ other (text_of name))
 
-usage-same : (usage other : Usage) → HasUsage usage → HasUsage other → usage_text usage ≡ usage_text other
-    → usage ≡ other
-usage-same usage (OtherUsage text) named other_named is = other-usage usage text other_named is
-usage-same usage other named other_named is = named other refl (sym is)
+  one-name : (x y : Name) → IsEither x → IsEither y → Has x → Has y → text_of x ≡ text_of y → x ≡ y
+  one-name x y (inl known) either has_x has_y is = sym (has_y x known is)
+  one-name x y (inr holds) (inl known) has_x has_y is = has_x y known (sym is)
+  one-name x y (inr holds) (inr holds_too) has_x has_y is = holds ∙ ap other is ∙ sym holds_too
 
-abbrev HasAlgorithm : Algorithm → Type 0
-HasAlgorithm algorithm =
-    (name : Algorithm) → IsTrue (is_named_algorithm name) → algorithm_text name ≡ algorithm_text algorithm
-    → algorithm ≡ name
+usage-either : (usage : Usage) → IsTrue (is_named_usage usage) ⊎ (usage ≡ OtherUsage (usage_text usage))
+usage-either (OtherUsage text) = inr refl
+usage-either usage = inl refl
 
-other-algorithm : (algorithm : Algorithm) (character : ℕ) → HasAlgorithm (OtherAlgorithm character)
-    → algorithm_text algorithm ≡ character → algorithm ≡ OtherAlgorithm character
-other-algorithm (OtherAlgorithm same) character named is = ap OtherAlgorithm is
-other-algorithm algorithm character named is = sym (named algorithm refl is)
+algorithm-either : (algorithm : Algorithm)
+    → IsTrue (is_named_algorithm algorithm) ⊎ (algorithm ≡ OtherAlgorithm (algorithm_text algorithm))
+algorithm-either (OtherAlgorithm character) = inr refl
+algorithm-either algorithm = inl refl
 
-algorithm-same : (algorithm other : Algorithm) → HasAlgorithm algorithm → HasAlgorithm other
-    → algorithm_text algorithm ≡ algorithm_text other → algorithm ≡ other
-algorithm-same algorithm (OtherAlgorithm character) named other_named is =
-    other-algorithm algorithm character other_named is
-algorithm-same algorithm other named other_named is = named other refl (sym is)
+mode-either : (mode : Mode) → IsTrue (is_named_mode mode) ⊎ (mode ≡ OtherMode (mode_text mode))
+mode-either (OtherMode character) = inr refl
+mode-either mode = inl refl
 
-abbrev HasMode : Mode → Type 0
-HasMode mode = (name : Mode) → IsTrue (is_named_mode name) → mode_text name ≡ mode_text mode → mode ≡ name
-
-other-mode : (mode : Mode) (character : ℕ) → HasMode (OtherMode character) → mode_text mode ≡ character
-    → mode ≡ OtherMode character
-other-mode (OtherMode same) character named is = ap OtherMode is
-other-mode mode character named is = sym (named mode refl is)
-
-mode-same : (mode other : Mode) → HasMode mode → HasMode other → mode_text mode ≡ mode_text other → mode ≡ other
-mode-same mode (OtherMode character) named other_named is = other-mode mode character other_named is
-mode-same mode other named other_named is = named other refl (sym is)
-
-abbrev HasRule : Exportability → Type 0
-HasRule rule =
-    (name : Exportability) → IsTrue (is_named_rule name) → exportability_text name ≡ exportability_text rule
-    → rule ≡ name
-
-other-rule : (rule : Exportability) (character : ℕ) → HasRule (OtherRule character)
-    → exportability_text rule ≡ character → rule ≡ OtherRule character
-other-rule (OtherRule same) character named is = ap OtherRule is
-other-rule rule character named is = sym (named rule refl is)
-
-rule-same : (rule other : Exportability) → HasRule rule → HasRule other
-    → exportability_text rule ≡ exportability_text other → rule ≡ other
-rule-same rule (OtherRule character) named other_named is = other-rule rule character other_named is
-rule-same rule other named other_named is = named other refl (sym is)
+rule-either : (rule : Exportability) → IsTrue (is_named_rule rule) ⊎ (rule ≡ OtherRule (exportability_text rule))
+rule-either (OtherRule character) = inr refl
+rule-either rule = inl refl
 
 -- ---- the texts of the fields, one after another
 
@@ -135,7 +109,13 @@ named-same h k is_h is_k named_h named_k alike =
     (algorithm_text k.algorithm) (mode_text h.mode) (mode_text k.mode) h.key_version k.key_version
     (exportability_text h.exportability) (exportability_text k.exportability) is_h.0 is_k.0 is_h.1 is_k.1 alike.1 in
     of-fields-same h.version k.version h.usage k.usage h.algorithm k.algorithm h.mode k.mode h.key_version k.key_version
-    h.exportability k.exportability alike.0 (usage-same h.usage k.usage named_h.usage named_k.usage same.first)
-    (algorithm-same h.algorithm k.algorithm named_h.algorithm named_k.algorithm same.second)
-    (mode-same h.mode k.mode named_h.mode named_k.mode same.third) same.fourth
-    (rule-same h.exportability k.exportability named_h.exportability named_k.exportability same.fifth)
+    h.exportability k.exportability alike.0
+    (one-name _ _ usage_text OtherUsage is_named_usage _ _ (usage-either h.usage) (usage-either k.usage) named_h.usage
+    named_k.usage same.first)
+    (one-name _ _ algorithm_text OtherAlgorithm is_named_algorithm _ _ (algorithm-either h.algorithm)
+    (algorithm-either k.algorithm) named_h.algorithm named_k.algorithm same.second)
+    (one-name _ _ mode_text OtherMode is_named_mode _ _ (mode-either h.mode) (mode-either k.mode) named_h.mode
+    named_k.mode same.third)
+    same.fourth
+    (one-name _ _ exportability_text OtherRule is_named_rule _ _ (rule-either h.exportability)
+    (rule-either k.exportability) named_h.exportability named_k.exportability same.fifth)
