@@ -1,5 +1,5 @@
 -- A block that holds a key, from its parts and what is sealed in it, both ways; the first fault of one that holds none.
-use Rattle.std.proofs.Common.{◌≡◌, ℕ, ◌+◌, ◌%◌, ◌≤◌, inr, List, length, take, drop, sym, ◌∙◌, subst, arith}
+use Rattle.std.proofs.Common.{◌≡◌, ℕ, inr, List, length, take, drop, sym, ◌∙◌, subst}
 use Rattle.std.specs.Prelude.{IsTrue}
 use Rattle.des_payment.specs.KeyBlocks.{key_data, is_protection_key, HasParts, IsSealed, IsKeyBlock}
 use Rattle.des_payment.specs.KeyBlockReading.{is_sealed_length, HasPartsSo, HasSealFault, HasFault}
@@ -7,15 +7,7 @@ use Rattle.des_payment.specs.declared.key_block_error.KeyBlockError.{KeyBlockErr
 use Rattle.des_payment.specs.declared.key_block_error.KeyBlockError.TheVariants.{ProtectionKeyLength}
 use Rattle.des_payment.specs.declared.key_block_header.Header.{Header}
 use Rattle.des_payment.specs.declared.key_block_header.Version.{Version}
-use Rattle.des_payment.proofs.BlockParts.{front-there, rest-there, front-length}
-
--- a front is whole blocks, two at least
-pub front-whole : (header : Header) (blocks : List (List ℕ × List ℕ)) (front rest block : List ℕ)
-    → HasParts header blocks front rest block → (8 ≤ length front) × (length front % 8 ≡ 0)
-front-whole header blocks front rest block parts =
-    let count : length front ≡ 16 + length parts.optional = front-length header blocks front rest block parts in
-    let whole : length parts.optional % 8 ≡ 0 = parts.whole in
-    (omega arith, omega arith)
+use Rattle.des_payment.proofs.BlockParts.{front-there, rest-there}
 
 -- a fault of what is sealed is the block's
 stage-fault : (protection block : List ℕ) (error : KeyBlockError) → IsTrue (is_protection_key protection)
