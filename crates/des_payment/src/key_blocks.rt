@@ -85,11 +85,9 @@ fn front_of(block: &[u8]) -> Result<(Header, usize, KeyContext), KeyBlockError>
         × HasParts found.0 blocks (take found.1 block.now) (drop found.1 block.now) block.now) }
     ensures named { IfOk result (λ found. IsNamed found.0) }
     ensures only { (header : Header) (blocks : List (List ℕ × List ℕ)) (front rest : List ℕ)
-        → HasParts header blocks front rest block.now
-        → IsOkAnd result (λ found. AreAlike found.0 header × (found.1 ≡ length front)) }
-    ensures context { (header : Header) (blocks : List (List ℕ × List ℕ)) (front rest : List ℕ)
         → (parts : HasParts header blocks front rest block.now)
-        → IsOkAnd result (λ found. found.2 ≡ parts.context) }
+        → IsOkAnd result (λ found. AreAlike found.0 header × (found.1 ≡ length front)
+        × (found.2 ≡ parts.context)) }
     ensures fault { IfErr result (λ error. HasLayoutFault block.now error) }
 {
     let (header, count, context) = read_header(block)?;
@@ -122,11 +120,10 @@ fn layout_of(block: &[u8]) -> Result<(Header, usize, KeyContext), KeyBlockError>
     ensures sealed { IfOk result (λ found. IsTrue (is_sealed_length_of found.0.version
         (length (drop found.1 block.now)))) }
     ensures only { (header : Header) (blocks : List (List ℕ × List ℕ)) (front rest : List ℕ)
-        → HasParts header blocks front rest block.now
+        → (parts : HasParts header blocks front rest block.now)
         → IsTrue (is_sealed_length_of header.version (length rest))
-        → IsOkAnd result (λ found. AreAlike found.0 header × (found.1 ≡ length front)) }
-    ensures context { (layout : HasLayout block.now)
-        → IsOkAnd result (λ found. found.2 ≡ layout.parts.context) }
+        → IsOkAnd result (λ found. AreAlike found.0 header × (found.1 ≡ length front)
+        × (found.2 ≡ parts.context)) }
     ensures fault { IfErr result (λ error. HasLayoutFault block.now error) }
 {
     let (header, front, context) = front_of(block)?;

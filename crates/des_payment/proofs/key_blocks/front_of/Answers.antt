@@ -66,24 +66,4 @@ returns-clause-only c = λ header blocks front rest parts.
     let found = c.in-Some.ensures.only blocks parts.optional rest (sym read.2) parts.are_optional
     (take_rest block 16 ∙ optional-there header blocks front rest block parts) in
     let size : c.in-Some.size ≡ length parts.optional = same_Some _ _ found in
-    ((read.0, read.1), ap (λ n. 16 + n) size ∙ sym (front-length header blocks front rest block parts))
-
-pub returns-in_err-header-clause-context : goal.returns-in_err-header-clause-context
-returns-in_err-header-clause-context c = λ header blocks front rest parts.
-    absurd (c.in_err-header.ensures.only header parts.context (length blocks)
-    (least header blocks front rest c.args.block.now parts) parts.short parts.few
-    (header-there header blocks front rest c.args.block.now parts))
-
-pub returns-in-None-clause-context : goal.returns-in-None-clause-context
-returns-in-None-clause-context c = λ header blocks front rest parts.
-    absurd (returns-in-None-clause-only c header blocks front rest parts)
-
-pub returns-then-size-ne0-clause-context : goal.returns-then-size-ne0-clause-context
-returns-then-size-ne0-clause-context c = λ header blocks front rest parts.
-    absurd (returns-then-size-ne0-clause-only c header blocks front rest parts)
-
-pub returns-clause-context : goal.returns-clause-context
-returns-clause-context c = λ header blocks front rest parts.
-    (c.in_ok-header.ensures.only header parts.context (length blocks)
-    (least header blocks front rest c.args.block.now parts) parts.short parts.few
-    (header-there header blocks front rest c.args.block.now parts)).3
+    ((read.0, read.1), ap (λ n. 16 + n) size ∙ sym (front-length header blocks front rest block parts), read.3)

@@ -15,16 +15,3 @@ returns-then-not-is_sealed_length-clause-only c = λ header blocks front rest pa
 pub returns-clause-only : goal.returns-clause-only
 returns-clause-only c = λ header blocks front rest parts sealed.
     c.in_ok-header.ensures.only header blocks front rest parts
-
-pub returns-in_err-header-clause-context : goal.returns-in_err-header-clause-context
-returns-in_err-header-clause-context c = λ layout.
-    absurd (c.in_err-header.ensures.only layout.header layout.blocks layout.front layout.rest layout.parts)
-
-pub returns-then-not-is_sealed_length-clause-context : goal.returns-then-not-is_sealed_length-clause-context
-returns-then-not-is_sealed_length-clause-context c = λ layout.
-    absurd (returns-then-not-is_sealed_length-clause-only c layout.header layout.blocks layout.front layout.rest
-    layout.parts layout.fact)
-
-pub returns-clause-context : goal.returns-clause-context
-returns-clause-context c = λ layout.
-    c.in_ok-header.ensures.context layout.header layout.blocks layout.front layout.rest layout.parts
