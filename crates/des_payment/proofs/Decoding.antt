@@ -1,4 +1,4 @@
--- A block is decoded to a PIN exactly where it was encoded from that PIN.
+-- A block is decoded to a PIN exactly if it was encoded from that PIN.
 use Rattle.std.proofs.Common.{◌≡◌, ◌↔◌, ℕ, ◌≤◌, List, length, replicate, Option, None, Result, Ok, Err, IfOk, refl, sym, ap, ◌∙◌, subst, lit≤, arith}
 use Rattle.std.specs.Result.{result_err}
 use Rattle.des.specs.Blocks.{IsBlock}
@@ -18,8 +18,8 @@ pub IsTheOne-digits : (F : List ℕ → Type 0) (digits block : List ℕ)
     → ((other : List ℕ) → F other → digits_of other ≡ digits) → digits_of block ≡ digits → F block → IsTheOne F block
 IsTheOne-digits F digits block by same is = (is, λ other it. digits_of-injective other block (by other it ∙ sym same))
 
--- a result with this fault, and else with this text, is a text of which F holds, where F holds of the text alone, and
--- of it exactly where there is no fault
+-- a result with this fault, and else with this text, is a text of which F holds, if F holds of the text alone, and
+-- of it exactly if there is no fault
 exactly : (result : Result (List ℕ) PinError) (fault : Option PinError) (text : List ℕ) (F : List ℕ → Type 0)
     → result_err result ≡ fault
     → IfOk result (λ pin. pin ≡ text) → (fault ≡ None → F text)

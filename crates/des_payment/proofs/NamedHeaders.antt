@@ -17,7 +17,7 @@ use Rattle.des_payment.specs.declared.key_block_header.Exportability.TheVariants
 
 -- ---- fields of one text
 
--- names of one text are one, if each is the name of its text where that has one, and else holds the text
+-- two names of one text are one: each is known by its text, or holds it
 module _ (Name Text : Type 0) (text_of : Name → Text) (other : Text → Name) (is_named : Name → Bool) where
   abbrev Has : Name → Type 0
   Has name = (known : Name) → IsTrue (is_named known) → text_of known ≡ text_of name → name ≡ known

@@ -16,7 +16,7 @@ returns-in_err-header-clause-fault c =
     let p = err_from_is_err_and c.from_residual.result c.from_residual.ensures.1 in
     rw (p.1, p.2) (layout-fault c.args.block.now _ (sym c.in_err-header.ensures.fault))
 
--- where a block has parts, their header and as many optional blocks were read
+-- if a block has parts, their header and as many optional blocks were read
 pub returns-in-None-clause-only : goal.returns-in-None-clause-only
 returns-in-None-clause-only c = λ header blocks front rest parts.
     let block : List ℕ = c.args.block.now in
