@@ -28,14 +28,10 @@ answered cipher direction key iv digits result =
 
 pub returns-in-DesCbc-clause-answer : goal.returns-in-DesCbc-clause-answer
 returns-in-DesCbc-clause-answer c =
-    let key = bytes_of_digits c.args.key.now in
-    let iv = bytes_of_digits c.args.vector.now in
-    rw c.in-DesCbc.is (answered Des c.args.direction key iv c.args.digits.now c.chain_text_by.result
-    c.chain_text_by.ensures.answer)
+    rw c.in-DesCbc.is (answered Des c.args.direction (bytes_of_digits c.args.key.now) (bytes_of_digits c.args.vector.now)
+    c.args.digits.now c.chain_text_by.result c.chain_text_by.ensures.answer)
 
 pub returns-in-Ede3Cbc-clause-answer : goal.returns-in-Ede3Cbc-clause-answer
 returns-in-Ede3Cbc-clause-answer c =
-    let key = bytes_of_digits c.args.key.now in
-    let iv = bytes_of_digits c.args.vector.now in
-    rw c.in-Ede3Cbc.is (answered Ede3 c.args.direction key iv c.args.digits.now c.chain_text_by-in-Ede3Cbc.result
-    c.chain_text_by-in-Ede3Cbc.ensures.answer)
+    rw c.in-Ede3Cbc.is (answered Ede3 c.args.direction (bytes_of_digits c.args.key.now) (bytes_of_digits c.args.vector.now)
+    c.args.digits.now c.chain_text_by-in-Ede3Cbc.result c.chain_text_by-in-Ede3Cbc.ensures.answer)
