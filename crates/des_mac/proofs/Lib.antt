@@ -1,11 +1,9 @@
 mod KnownAnswers
 pub mod Absorbing
 pub mod ChainedBytes
-pub mod OneBit
 pub mod Doubling
 pub mod MaskedTags
 pub mod Differences
-pub mod ZerosAtTheEnd
 pub mod PaddedBytes
 pub mod RelatedMacs
 pub mod RelatedRetailMacs
