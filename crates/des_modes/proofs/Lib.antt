@@ -11,4 +11,6 @@ pub mod Segments
 pub mod CfbPlaces
 pub mod RelatedStreams
 pub mod BitSegments
+pub mod StreamPlaces
+pub mod StreamsAlike
 pub mod KnownAnswers

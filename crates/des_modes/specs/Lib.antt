@@ -9,5 +9,7 @@ pub mod Parts
 pub mod Related
 pub mod CfbBits
 pub mod CfbBitStates
+pub mod Modes
+pub mod StreamStates
 pub mod Tkw
 pub mod CmsKeyWrap

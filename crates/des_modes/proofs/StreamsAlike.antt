@@ -1,0 +1,93 @@
+-- Streams under ciphers that answer blocks alike, and by the relation of a key.
+use Rattle.std.proofs.Common.{◌≡◌, ℕ, zero, suc, ◌+◌, ◌*◌, ◌/◌, ◌%◌, ◌≤◌, Bool, List, length, ap, refl, ◌∙◌, arith}
+use Rattle.std.proofs.Math.Nat.{mul-div-le}
+use Rattle.des.specs.Bits.{bits_of_bytes, xor}
+use Rattle.des.specs.Blocks.{AreBytes, IsBlock}
+use Rattle.des.specs.Relations.{AnswerAlike, IsGraphOf}
+use Rattle.des.specs.Laws.BlockBits.{IsBlock-block_of_bits, IsBlock-to_be_bytes}
+use Rattle.des_modes.specs.CfbBits.{Cfb1, bit_at, block_bit}
+use Rattle.des_modes.specs.Modes.{InMode, InModeUnder, mode_by}
+use Rattle.des_modes.specs.Ofb.{output_block}
+use Rattle.des_modes.specs.StreamStates.{IsBitStreamAt, IsPlace, IsSound, IsStreamAt}
+use Rattle.des_modes.specs.Streams.{byte_at}
+use Rattle.des_modes.specs.declared.modes.Mode.{Mode}
+use Rattle.des_modes.specs.declared.modes.Mode.TheVariants.{Counter, OutputFeedback, BitFeedback, CipherFeedback}
+use Rattle.des_modes.specs.declared.stream.Place.{Place}
+use Rattle.des_modes.specs.declared.stream.Stream.{Stream}
+use Rattle.des_modes.proofs.BitSegments.{XorsBitsFrom-from_Cfb}
+use Rattle.des_modes.proofs.RelatedStreams.{CfbBits-from_bits, CtrUnder-from_Ctr, IsBlock-input_block, IsBlock-output_block, OfbUnder-from_Ofb}
+use Rattle.des_modes.proofs.XoredPieces.{XorsFrom-other}
+
+module _ (e f : List ℕ → List ℕ) (alike : AnswerAlike e f) where
+  Cfb1-alike : (iv : List ℕ) (p c : List Bool) → Cfb1 e iv p c → Cfb1 f iv p c
+  Cfb1-alike iv p c made = record {
+    count = made.count;
+    xored = λ i below.
+        made.xored i below
+        ∙ ap (λ (block : List ℕ). xor (bit_at p i) (block_bit block ((0 + i) % 1))) (alike _ (IsBlock-block_of_bits _));
+  }
+
+  pub IsBitStreamAt-alike : (iv : List ℕ) (p c : List Bool) (stream : Stream) → IsBitStreamAt e iv p c stream
+      → IsBitStreamAt f iv p c stream
+  IsBitStreamAt-alike iv p c stream is = record {
+    begun = is.begun;
+    is_mode = is.is_mode;
+    place = is.place;
+    made = Cfb1-alike iv p c is.made;
+  }
+
+  module _ (makes : (block : List ℕ) → IsBlock block → IsBlock (e block)) (iv c : List ℕ) (is_iv : IsBlock iv)
+      (bytes : AreBytes c) where
+    output_block-alike : (j : ℕ) → output_block e iv j ≡ output_block f iv j
+    output_block-alike zero = refl
+    output_block-alike (suc j) =
+        alike (output_block e iv j) (IsBlock-output_block e iv j is_iv makes) ∙ ap f (output_block-alike j)
+
+    IsPlace-alike : (mode : Mode) (place : Place) → IsPlace mode e iv c place → IsPlace mode f iv c place
+    IsPlace-alike Counter place at = at
+    IsPlace-alike OutputFeedback place at = record { block = at.block ∙ output_block-alike _; used = at.used }
+    IsPlace-alike BitFeedback place at = at
+    IsPlace-alike (CipherFeedback s) place at = record {
+      register = at.register;
+      used = at.used;
+      output = λ more.
+          at.output more ∙ alike _ (IsBlock-input_block s iv c _ is_iv bytes (mul-div-le (length c) s));
+    }
+
+    pub InMode-alike : (mode : Mode) (p : List ℕ) → InMode mode e iv p c → InMode mode f iv p c
+    InMode-alike Counter p made =
+        XorsFrom-other 0 _ _ p c
+        (λ i below. ap (λ (block : List ℕ). byte_at block ((0 + i) % 8)) (alike _ (IsBlock-to_be_bytes _))) made
+    InMode-alike OutputFeedback p made =
+        XorsFrom-other 0 _ _ p c
+        (λ i below. ap (λ (block : List ℕ). byte_at block ((0 + i) % 8)) (output_block-alike _)) made
+    InMode-alike BitFeedback p made = Cfb1-alike iv (bits_of_bytes p) (bits_of_bytes c) made
+    InMode-alike (CipherFeedback s) p made =
+        XorsFrom-other 0 _ _ p c (λ i below.
+        let begun : s * ((0 + i) / s) ≤ length c = omega (arith, mul-div-le (0 + i) s, made.count) in
+        ap (λ (block : List ℕ). byte_at block ((0 + i) % s)) (alike _ (IsBlock-input_block s iv c _ is_iv bytes begun)))
+        made
+
+  pub IsStreamAt-alike : (number : ℕ) (iv p c : List ℕ) (stream : Stream)
+      → ((block : List ℕ) → IsBlock block → IsBlock (e block)) → IsStreamAt number e iv p c stream
+      → IsStreamAt number f iv p c stream
+  IsStreamAt-alike number iv p c stream makes is = record {
+    begun = is.begun;
+    is_mode = is.is_mode;
+    is_block = is.is_block;
+    are_bytes = is.are_bytes;
+    place = IsPlace-alike makes iv c is.is_block is.are_bytes (mode_by number) stream.place is.place;
+    made = InMode-alike makes iv c is.is_block is.are_bytes (mode_by number) p is.made;
+  }
+
+pub InModeUnder-from : (mode : Mode) (Answers : List ℕ → List ℕ → Type 0) (encryption : List ℕ → List ℕ) (iv p c : List ℕ)
+    → IsSound mode → IsGraphOf encryption Answers → ((block : List ℕ) → IsBlock block → IsBlock (encryption block))
+    → IsBlock iv → AreBytes c → InMode mode encryption iv p c → InModeUnder mode Answers iv p c
+InModeUnder-from Counter Answers e iv p c sound graph makes is_iv bytes made = CtrUnder-from_Ctr Answers e iv p c graph made
+InModeUnder-from OutputFeedback Answers e iv p c sound graph makes is_iv bytes made =
+    OfbUnder-from_Ofb Answers e iv p c graph is_iv makes made
+InModeUnder-from BitFeedback Answers e iv p c sound graph makes is_iv bytes made =
+    CfbBits-from_bits Answers e 1 iv (bits_of_bytes p) (bits_of_bytes c) graph made
+InModeUnder-from (CipherFeedback s) Answers e iv p c sound graph makes is_iv bytes made =
+    CfbBits-from_bits Answers e (8 * s) iv (bits_of_bytes p) (bits_of_bytes c) graph
+    (XorsBitsFrom-from_Cfb s (8 * s) e iv p c sound.0 refl is_iv bytes makes sound.1 made)

@@ -1,0 +1,396 @@
+//! Streams of any of the modes as plain words, for callers that keep them in memory of their own.
+
+ghost use Rattle.std.specs.Prelude.{◌≡◌, ◌<◌, ◌≤◌, ◌+◌, ◌*◌, ◌++◌, ℕ, Bool, List, [], length, drop, IfNone, IfSome};
+ghost use Rattle.des.specs.Bits.{bits_of_bytes};
+ghost use Rattle.des.specs.Blocks.{AreBytes, IsBlock};
+ghost use Rattle.des_modes.specs.Cfb.{Cfb};
+ghost use Rattle.des_modes.specs.CfbBits.{Cfb1, first_bits};
+ghost use Rattle.des_modes.specs.Ctr.{Ctr};
+ghost use Rattle.des_modes.specs.Modes.{InMode, IsMode};
+ghost use Rattle.des_modes.specs.Ofb.{Ofb};
+ghost use Rattle.des_modes.specs.StreamStates.{HasBegun, IsBitStreamAt, IsCfbBitPlace, IsCfbPlace, IsCtrPlace, IsInMode, IsOfbPlace, IsPlace, IsSound, IsStreamAt, size_of};
+ghost use Rattle.des_modes.specs.CfbStates.{IsCfbAt};
+ghost use Rattle.des_modes.specs.declared.modes.Mode.TheVariants.{BitFeedback};
+ghost use Rattle.des_modes.specs.declared.modes.TheConstants.{CFB1, CTR};
+
+use crate::cfb::Register;
+use crate::cfb_bits::BitRegister;
+use crate::ctr::Counter;
+use crate::modes::{CTR, Mode};
+use crate::ofb::Feedback;
+use des::cipher::{BlockCipherEncrypt, are_bytes};
+
+/// What a stream that has begun ends with.
+pub const MARK: u32 = 0x57e4a317;
+
+/// Where a stream goes on: the counter block, the last output block or the shift register; the output
+/// block of a segment of cipher feedback that has begun; and how many bytes of the output block are
+/// used.
+#[repr(C)]
+#[derive(Clone, Copy)]
+pub struct Place {
+    pub(crate) register: [u8; 8],
+    pub(crate) output: [u8; 8],
+    pub(crate) used: usize,
+}
+
+impl Place {
+    // The beginning of a stream, or the place behind eight bytes of ciphertext.
+    fn new(register: &[u8; 8]) -> Place
+        ensures register { result.register ≡ register.now }
+        ensures used { result.used ≡ 0 }
+    {
+        Place {
+            register: *register,
+            output: [0; 8],
+            used: 0,
+        }
+    }
+
+    // Encrypts or decrypts the bytes that come next by the counter mode.
+    fn apply_ctr<C: BlockCipherEncrypt>(&mut self, cipher: &C, bytes: &mut [u8])
+        requires { self.old.used < 8 }
+        ensures after { (t : List ℕ) (n : ℕ) → IsCtrPlace t n self.old
+            → IsCtrPlace t (n + length bytes.old) self.new }
+        ensures whole { (t p c : List ℕ) → IsCtrPlace t (length p) self.old
+            → Ctr (C.encrypted cipher.now) t p c
+            → Ctr (C.encrypted cipher.now) t (p ++ bytes.old) (c ++ bytes.new) }
+    {
+        let mut counter = Counter {
+            counter: u64::from_be_bytes(self.register),
+            used: self.used,
+        };
+        counter.apply(cipher, bytes);
+        self.register = counter.counter.to_be_bytes();
+        self.used = counter.used;
+    }
+
+    // Encrypts or decrypts the bytes that come next by output feedback.
+    fn apply_ofb<C: BlockCipherEncrypt>(&mut self, cipher: &C, bytes: &mut [u8])
+        requires { self.old.used < 8 }
+        ensures after { (iv : List ℕ) (n : ℕ) → IsOfbPlace (C.encrypted cipher.now) iv n self.old
+            → IsOfbPlace (C.encrypted cipher.now) iv (n + length bytes.old) self.new }
+        ensures whole { (iv p c : List ℕ)
+            → IsOfbPlace (C.encrypted cipher.now) iv (length p) self.old
+            → Ofb (C.encrypted cipher.now) iv p c
+            → Ofb (C.encrypted cipher.now) iv (p ++ bytes.old) (c ++ bytes.new) }
+    {
+        let mut feedback = Feedback {
+            block: self.register,
+            used: self.used,
+        };
+        feedback.apply(cipher, bytes);
+        self.register = feedback.block;
+        self.used = feedback.used;
+    }
+
+    // The shift register at this place.
+    fn register_by(&self, segment: usize) -> Register
+        requires some { 1 ≤ segment }
+        requires short { segment ≤ 8 }
+        requires fits { self.now.used < segment }
+        ensures { (encryption : List ℕ → List ℕ) (iv c : List ℕ)
+            → IsCfbPlace segment encryption iv c self.now → IsCfbAt segment encryption iv c result }
+    {
+        Register {
+            register: self.register,
+            output: self.output,
+            segment,
+            used: self.used,
+        }
+    }
+
+    // The place of a shift register.
+    fn of_register(register: &Register) -> Place
+        ensures { (s : ℕ) (encryption : List ℕ → List ℕ) (iv c : List ℕ)
+            → IsCfbAt s encryption iv c register.now → IsCfbPlace s encryption iv c result }
+    {
+        Place {
+            register: register.register,
+            output: register.output,
+            used: register.used,
+        }
+    }
+
+    // Encrypts the bytes that come next by cipher feedback.
+    fn encrypt_cfb<C: BlockCipherEncrypt>(&mut self, segment: usize, cipher: &C, bytes: &mut [u8])
+        requires some { 1 ≤ segment }
+        requires short { segment ≤ 8 }
+        requires fits { self.old.used < segment }
+        ensures after { (iv c : List ℕ) → IsCfbPlace segment (C.encrypted cipher.now) iv c self.old
+            → IsCfbPlace segment (C.encrypted cipher.now) iv (c ++ bytes.new) self.new }
+        ensures whole { (iv c p : List ℕ)
+            → IsCfbPlace segment (C.encrypted cipher.now) iv c self.old
+            → Cfb segment (C.encrypted cipher.now) iv p c
+            → Cfb segment (C.encrypted cipher.now) iv (p ++ bytes.old) (c ++ bytes.new) }
+    {
+        let mut register = self.register_by(segment);
+        register.encrypt(cipher, bytes);
+        *self = Place::of_register(&register);
+    }
+
+    // Decrypts the bytes that come next by cipher feedback.
+    fn decrypt_cfb<C: BlockCipherEncrypt>(&mut self, segment: usize, cipher: &C, bytes: &mut [u8])
+        requires some { 1 ≤ segment }
+        requires short { segment ≤ 8 }
+        requires fits { self.old.used < segment }
+        ensures after { (iv c : List ℕ) → IsCfbPlace segment (C.encrypted cipher.now) iv c self.old
+            → IsCfbPlace segment (C.encrypted cipher.now) iv (c ++ bytes.old) self.new }
+        ensures whole { (iv c p : List ℕ)
+            → IsCfbPlace segment (C.encrypted cipher.now) iv c self.old
+            → Cfb segment (C.encrypted cipher.now) iv p c
+            → Cfb segment (C.encrypted cipher.now) iv (p ++ bytes.new) (c ++ bytes.old) }
+    {
+        let mut register = self.register_by(segment);
+        register.decrypt(cipher, bytes);
+        *self = Place::of_register(&register);
+    }
+
+    // Encrypts the bits that come next by cipher feedback of one bit.
+    fn encrypt_bits<C: BlockCipherEncrypt>(&mut self, cipher: &C, bytes: &mut [u8], bits: usize)
+        requires { bits ≤ 8 * length bytes.old }
+        ensures after { (iv : List ℕ) (c : List Bool) → IsCfbBitPlace iv c self.old
+            → IsCfbBitPlace iv (c ++ first_bits bits bytes.new) self.new }
+        ensures whole { (iv : List ℕ) (p c : List Bool) → IsCfbBitPlace iv c self.old
+            → Cfb1 (C.encrypted cipher.now) iv p c → Cfb1 (C.encrypted cipher.now) iv
+            (p ++ first_bits bits bytes.old) (c ++ first_bits bits bytes.new) }
+        ensures rest { drop bits (bits_of_bytes bytes.new) ≡ drop bits (bits_of_bytes bytes.old) }
+        ensures used { self.new.used ≡ self.old.used }
+    {
+        let mut register = BitRegister {
+            register: self.register,
+        };
+        register.encrypt(cipher, bytes, bits);
+        self.register = register.register;
+    }
+
+    // Decrypts the bits that come next by cipher feedback of one bit.
+    fn decrypt_bits<C: BlockCipherEncrypt>(&mut self, cipher: &C, bytes: &mut [u8], bits: usize)
+        requires { bits ≤ 8 * length bytes.old }
+        ensures after { (iv : List ℕ) (c : List Bool) → IsCfbBitPlace iv c self.old
+            → IsCfbBitPlace iv (c ++ first_bits bits bytes.old) self.new }
+        ensures whole { (iv : List ℕ) (p c : List Bool) → IsCfbBitPlace iv c self.old
+            → Cfb1 (C.encrypted cipher.now) iv p c → Cfb1 (C.encrypted cipher.now) iv
+            (p ++ first_bits bits bytes.new) (c ++ first_bits bits bytes.old) }
+        ensures rest { drop bits (bits_of_bytes bytes.new) ≡ drop bits (bits_of_bytes bytes.old) }
+        ensures used { self.new.used ≡ self.old.used }
+    {
+        let mut register = BitRegister {
+            register: self.register,
+        };
+        register.decrypt(cipher, bytes, bits);
+        self.register = register.register;
+    }
+
+    // Encrypts the bytes that come next by cipher feedback of one bit: byte by byte, since eight times
+    // their number may not fit its type.
+    fn encrypt_cfb1<C: BlockCipherEncrypt>(&mut self, cipher: &C, bytes: &mut [u8])
+        ensures after { (iv : List ℕ) (c : List Bool) → IsCfbBitPlace iv c self.old
+            → IsCfbBitPlace iv (c ++ bits_of_bytes bytes.new) self.new }
+        ensures whole { (iv : List ℕ) (p c : List Bool) → IsCfbBitPlace iv c self.old
+            → Cfb1 (C.encrypted cipher.now) iv p c → Cfb1 (C.encrypted cipher.now) iv
+            (p ++ bits_of_bytes bytes.old) (c ++ bits_of_bytes bytes.new) }
+    {
+        'bytes: for i in 0..bytes.len() {
+            self.encrypt_bits(cipher, &mut bytes[i..i + 1], 8);
+        }
+    }
+
+    // Decrypts the bytes that come next by cipher feedback of one bit.
+    fn decrypt_cfb1<C: BlockCipherEncrypt>(&mut self, cipher: &C, bytes: &mut [u8])
+        ensures after { (iv : List ℕ) (c : List Bool) → IsCfbBitPlace iv c self.old
+            → IsCfbBitPlace iv (c ++ bits_of_bytes bytes.old) self.new }
+        ensures whole { (iv : List ℕ) (p c : List Bool) → IsCfbBitPlace iv c self.old
+            → Cfb1 (C.encrypted cipher.now) iv p c → Cfb1 (C.encrypted cipher.now) iv
+            (p ++ bits_of_bytes bytes.new) (c ++ bits_of_bytes bytes.old) }
+    {
+        'bytes: for i in 0..bytes.len() {
+            self.decrypt_bits(cipher, &mut bytes[i..i + 1], 8);
+        }
+    }
+
+    // Encrypts the bytes that come next in a mode.
+    fn encrypt<C: BlockCipherEncrypt>(&mut self, mode: Mode, cipher: &C, bytes: &mut [u8])
+        requires sound { IsSound mode }
+        requires fits { self.old.used < size_of mode }
+        ensures after { (iv c : List ℕ) → IsPlace mode (C.encrypted cipher.now) iv c self.old
+            → IsPlace mode (C.encrypted cipher.now) iv (c ++ bytes.new) self.new }
+        ensures made { (iv p c : List ℕ) → IsPlace mode (C.encrypted cipher.now) iv c self.old
+            → InMode mode (C.encrypted cipher.now) iv p c
+            → InMode mode (C.encrypted cipher.now) iv (p ++ bytes.old) (c ++ bytes.new) }
+        ensures after_bits { mode ≡ BitFeedback → (iv : List ℕ) (c : List Bool)
+            → IsCfbBitPlace iv c self.old
+            → IsCfbBitPlace iv (c ++ bits_of_bytes bytes.new) self.new }
+        ensures made_bits { mode ≡ BitFeedback → (iv : List ℕ) (p c : List Bool)
+            → IsCfbBitPlace iv c self.old
+            → Cfb1 (C.encrypted cipher.now) iv p c → Cfb1 (C.encrypted cipher.now) iv
+            (p ++ bits_of_bytes bytes.old) (c ++ bits_of_bytes bytes.new) }
+    {
+        match mode {
+            Mode::Counter => self.apply_ctr(cipher, bytes),
+            Mode::OutputFeedback => self.apply_ofb(cipher, bytes),
+            Mode::BitFeedback => self.encrypt_cfb1(cipher, bytes),
+            Mode::CipherFeedback(segment) => self.encrypt_cfb(segment, cipher, bytes),
+        }
+    }
+
+    // Decrypts the bytes that come next in a mode.
+    fn decrypt<C: BlockCipherEncrypt>(&mut self, mode: Mode, cipher: &C, bytes: &mut [u8])
+        requires sound { IsSound mode }
+        requires fits { self.old.used < size_of mode }
+        ensures after { (iv c : List ℕ) → IsPlace mode (C.encrypted cipher.now) iv c self.old
+            → IsPlace mode (C.encrypted cipher.now) iv (c ++ bytes.old) self.new }
+        ensures made { (iv p c : List ℕ) → IsPlace mode (C.encrypted cipher.now) iv c self.old
+            → InMode mode (C.encrypted cipher.now) iv p c
+            → InMode mode (C.encrypted cipher.now) iv (p ++ bytes.new) (c ++ bytes.old) }
+        ensures after_bits { mode ≡ BitFeedback → (iv : List ℕ) (c : List Bool)
+            → IsCfbBitPlace iv c self.old
+            → IsCfbBitPlace iv (c ++ bits_of_bytes bytes.old) self.new }
+        ensures made_bits { mode ≡ BitFeedback → (iv : List ℕ) (p c : List Bool)
+            → IsCfbBitPlace iv c self.old
+            → Cfb1 (C.encrypted cipher.now) iv p c → Cfb1 (C.encrypted cipher.now) iv
+            (p ++ bits_of_bytes bytes.new) (c ++ bits_of_bytes bytes.old) }
+    {
+        match mode {
+            Mode::Counter => self.apply_ctr(cipher, bytes),
+            Mode::OutputFeedback => self.apply_ofb(cipher, bytes),
+            Mode::BitFeedback => self.decrypt_cfb1(cipher, bytes),
+            Mode::CipherFeedback(segment) => self.decrypt_cfb(segment, cipher, bytes),
+        }
+    }
+}
+
+/// A stream as plain words: its place, the number of its mode, and a mark. Words that no call of this
+/// type made are refused, if they have no mark or can't be those of a stream.
+#[repr(C)]
+#[derive(Clone, Copy)]
+pub struct Stream {
+    pub(crate) place: Place,
+    pub(crate) mode: u32,
+    pub(crate) mark: u32,
+}
+
+impl Stream {
+    /// The beginning of a stream in the mode of a number, if it is that of one, from an initialization
+    /// vector, or for the counter mode the first counter block.
+    pub fn new(number: u32, iv: &[u8; 8]) -> Option<Stream>
+        ensures none { IfNone result (¬ (IsMode number)) }
+        ensures some { IfSome result (λ stream. IsMode number × ((encryption : List ℕ → List ℕ)
+            → IsStreamAt number encryption iv.now [] [] stream)) }
+    {
+        are_bytes(iv);
+        Mode::of(number)?;
+        Some(Stream {
+            place: Place::new(iv),
+            mode: number,
+            mark: MARK,
+        })
+    }
+
+    /// The place in the stream of the counter mode whose first counter block is `block` that has so
+    /// many blocks behind it: to decrypt a part, no other bytes are needed.
+    pub fn ctr_at(block: &[u8; 8], blocks: u64) -> Stream
+        ensures { (encryption : List ℕ → List ℕ) (p c : List ℕ) → length p ≡ 8 * blocks
+            → AreBytes c → Ctr encryption block.now p c
+            → IsStreamAt CTR encryption block.now p c result }
+    {
+        are_bytes(block);
+        let counter = Counter::at(block, blocks).counter;
+        Stream {
+            place: Place::new(&counter.to_be_bytes()),
+            mode: CTR,
+            mark: MARK,
+        }
+    }
+
+    /// The mode of the words, if they are those of a stream.
+    pub fn mode(&self) -> Option<Mode>
+        ensures none { IfNone result (¬ (HasBegun self.now)) }
+        ensures some { IfSome result (λ mode. IsInMode mode self.now) }
+    {
+        let mode = Mode::of(self.mode)?;
+        let size = match mode {
+            Mode::Counter | Mode::OutputFeedback => 8,
+            Mode::BitFeedback => 1,
+            Mode::CipherFeedback(segment) => segment,
+        };
+        if self.mark == MARK && self.place.used < size {
+            Some(mode)
+        } else {
+            None
+        }
+    }
+
+    /// The feedback register: the counter block, the last output block, or the last eight bytes of the
+    /// initialization vector and the ciphertext.
+    pub fn register(&self) -> [u8; 8]
+        ensures { result ≡ self.now.place.register }
+    {
+        self.place.register
+    }
+
+    /// How many bytes of the output block that goes next are used.
+    pub fn used(&self) -> usize
+        ensures { result ≡ self.now.place.used }
+    {
+        self.place.used
+    }
+
+    /// Encrypts the bytes that come next in place, in the mode of the stream: any number of them. In
+    /// pieces, wherever they are cut, they become what they become as one.
+    pub fn encrypt<C: BlockCipherEncrypt>(&mut self, mode: Mode, cipher: &C, bytes: &mut [u8])
+        requires { IsInMode mode self.old }
+        ensures bytes { (number : ℕ) (iv p c : List ℕ)
+            → IsStreamAt number (C.encrypted cipher.now) iv p c self.old
+            → IsStreamAt number (C.encrypted cipher.now) iv (p ++ bytes.old) (c ++ bytes.new) self.new }
+        ensures bits { (iv : List ℕ) (p c : List Bool)
+            → IsBitStreamAt (C.encrypted cipher.now) iv p c self.old
+            → IsBitStreamAt (C.encrypted cipher.now) iv
+            (p ++ bits_of_bytes bytes.old) (c ++ bits_of_bytes bytes.new) self.new }
+    {
+        self.place.encrypt(mode, cipher, bytes);
+        are_bytes(bytes);
+    }
+
+    /// Decrypts the bytes that come next in place, as `encrypt` encrypts.
+    pub fn decrypt<C: BlockCipherEncrypt>(&mut self, mode: Mode, cipher: &C, bytes: &mut [u8])
+        requires { IsInMode mode self.old }
+        ensures bytes { (number : ℕ) (iv p c : List ℕ)
+            → IsStreamAt number (C.encrypted cipher.now) iv p c self.old
+            → IsStreamAt number (C.encrypted cipher.now) iv (p ++ bytes.new) (c ++ bytes.old) self.new }
+        ensures bits { (iv : List ℕ) (p c : List Bool)
+            → IsBitStreamAt (C.encrypted cipher.now) iv p c self.old
+            → IsBitStreamAt (C.encrypted cipher.now) iv
+            (p ++ bits_of_bytes bytes.new) (c ++ bits_of_bytes bytes.old) self.new }
+    {
+        are_bytes(bytes);
+        self.place.decrypt(mode, cipher, bytes);
+    }
+
+    /// Encrypts the first so many bits in place, which come next in a stream of CFB1: any number of
+    /// them. The others stay.
+    pub fn encrypt_bits<C: BlockCipherEncrypt>(&mut self, cipher: &C, bytes: &mut [u8], bits: usize)
+        requires mode { IsInMode BitFeedback self.old }
+        requires few { bits ≤ 8 * length bytes.old }
+        ensures bits { (iv : List ℕ) (p c : List Bool)
+            → IsBitStreamAt (C.encrypted cipher.now) iv p c self.old
+            → IsBitStreamAt (C.encrypted cipher.now) iv
+            (p ++ first_bits bits bytes.old) (c ++ first_bits bits bytes.new) self.new }
+        ensures rest { drop bits (bits_of_bytes bytes.new) ≡ drop bits (bits_of_bytes bytes.old) }
+    {
+        self.place.encrypt_bits(cipher, bytes, bits);
+    }
+
+    /// Decrypts the first so many bits in place, as `encrypt_bits` encrypts.
+    pub fn decrypt_bits<C: BlockCipherEncrypt>(&mut self, cipher: &C, bytes: &mut [u8], bits: usize)
+        requires mode { IsInMode BitFeedback self.old }
+        requires few { bits ≤ 8 * length bytes.old }
+        ensures bits { (iv : List ℕ) (p c : List Bool)
+            → IsBitStreamAt (C.encrypted cipher.now) iv p c self.old
+            → IsBitStreamAt (C.encrypted cipher.now) iv
+            (p ++ first_bits bits bytes.new) (c ++ first_bits bits bytes.old) self.new }
+        ensures rest { drop bits (bits_of_bytes bytes.new) ≡ drop bits (bits_of_bytes bytes.old) }
+    {
+        self.place.decrypt_bits(cipher, bytes, bits);
+    }
+}
