@@ -16,3 +16,4 @@ pub mod payment_lists;
 pub mod records;
 pub mod salted;
 pub mod status;
+pub mod stream_modes;

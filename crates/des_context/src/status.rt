@@ -138,3 +138,9 @@ pub const ERR_SALT_LENGTH: i32 = 43;
 
 /// The context is not one that the init of this type made.
 pub const ERR_CONTEXT: i32 = 44;
+
+/// The mode is not one that the call takes.
+pub const ERR_MODE: i32 = 45;
+
+/// The stream is not one that was begun.
+pub const ERR_STREAM: i32 = 46;

@@ -1,5 +1,5 @@
 -- Streams under ciphers that answer blocks alike, and by the relation of a key.
-use Rattle.std.proofs.Common.{◌≡◌, ℕ, zero, suc, ◌+◌, ◌*◌, ◌/◌, ◌%◌, ◌≤◌, Bool, List, length, ap, refl, ◌∙◌, arith}
+use Rattle.std.proofs.Common.{◌≡◌, ℕ, zero, suc, ◌+◌, ◌*◌, ◌/◌, ◌%◌, ◌≤◌, Bool, List, length, ap, refl, sym, subst, ◌∙◌, arith}
 use Rattle.std.proofs.Math.Nat.{mul-div-le}
 use Rattle.des.specs.Bits.{bits_of_bytes, xor}
 use Rattle.des.specs.Blocks.{AreBytes, IsBlock}
@@ -8,7 +8,7 @@ use Rattle.des.specs.Laws.BlockBits.{IsBlock-block_of_bits, IsBlock-to_be_bytes}
 use Rattle.des_modes.specs.CfbBits.{Cfb1, bit_at, block_bit}
 use Rattle.des_modes.specs.Modes.{InMode, InModeUnder, mode_by}
 use Rattle.des_modes.specs.Ofb.{output_block}
-use Rattle.des_modes.specs.StreamStates.{IsBitStreamAt, IsPlace, IsSound, IsStreamAt}
+use Rattle.des_modes.specs.StreamStates.{HasBegun, IsBitStreamAt, IsPlace, IsSound, IsStreamAt}
 use Rattle.des_modes.specs.Streams.{byte_at}
 use Rattle.des_modes.specs.declared.modes.Mode.{Mode}
 use Rattle.des_modes.specs.declared.modes.Mode.TheVariants.{Counter, OutputFeedback, BitFeedback, CipherFeedback}
@@ -16,6 +16,7 @@ use Rattle.des_modes.specs.declared.stream.Place.{Place}
 use Rattle.des_modes.specs.declared.stream.Stream.{Stream}
 use Rattle.des_modes.proofs.BitSegments.{XorsBitsFrom-from_Cfb}
 use Rattle.des_modes.proofs.RelatedStreams.{CfbBits-from_bits, CtrUnder-from_Ctr, IsBlock-input_block, IsBlock-output_block, OfbUnder-from_Ofb}
+use Rattle.des_modes.proofs.StreamPlaces.{mode_by-each}
 use Rattle.des_modes.proofs.XoredPieces.{XorsFrom-other}
 
 module _ (e f : List ℕ → List ℕ) (alike : AnswerAlike e f) where
@@ -91,3 +92,34 @@ InModeUnder-from BitFeedback Answers e iv p c sound graph makes is_iv bytes made
 InModeUnder-from (CipherFeedback s) Answers e iv p c sound graph makes is_iv bytes made =
     CfbBits-from_bits Answers e (8 * s) iv (bits_of_bytes p) (bits_of_bytes c) graph
     (XorsBitsFrom-from_Cfb s (8 * s) e iv p c sound.0 refl is_iv bytes makes sound.1 made)
+
+IsSound-number : (number : ℕ) (stream : Stream) → HasBegun stream → stream.mode ≡ number → IsSound (mode_by number)
+IsSound-number number stream begun is = mode_by-each IsSound number (rw (← is) begun.1) tt tt tt (λ s some short. (some, short))
+
+-- a cipher whose encryption takes blocks to blocks and, of them, is that of a key
+module _ (e k : List ℕ → List ℕ) (alike : AnswerAlike e k) (makes : (block : List ℕ) → IsBlock block → IsBlock (e block)) where
+  back : AnswerAlike k e
+  back block is = sym (alike block is)
+
+  makes_too : (block : List ℕ) → IsBlock block → IsBlock (k block)
+  makes_too block is = subst IsBlock (alike block is) (makes block is)
+
+  pub IsStreamAt-by_key : (number : ℕ) (iv p c others more : List ℕ) (old new : Stream)
+      → (IsStreamAt number e iv p c old → IsStreamAt number e iv others more new)
+      → IsStreamAt number k iv p c old → IsStreamAt number k iv others more new
+  IsStreamAt-by_key number iv p c others more old new goes_on is =
+      IsStreamAt-alike e k alike number iv others more new makes
+      (goes_on (IsStreamAt-alike k e back number iv p c old makes_too is))
+
+  pub IsBitStreamAt-by_key : (iv : List ℕ) (p c others more : List Bool) (old new : Stream)
+      → (IsBitStreamAt e iv p c old → IsBitStreamAt e iv others more new)
+      → IsBitStreamAt k iv p c old → IsBitStreamAt k iv others more new
+  IsBitStreamAt-by_key iv p c others more old new goes_on is =
+      IsBitStreamAt-alike e k alike iv others more new (goes_on (IsBitStreamAt-alike k e back iv p c old is))
+
+  pub InModeUnder-by_key : (Answers : List ℕ → List ℕ → Type 0) → IsGraphOf e Answers → (number : ℕ) (iv p c : List ℕ)
+      (stream : Stream) → IsStreamAt number k iv p c stream → InModeUnder (mode_by number) Answers iv p c
+  InModeUnder-by_key Answers graph number iv p c stream is =
+      let same = IsStreamAt-alike k e back number iv p c stream makes_too is in
+      InModeUnder-from (mode_by number) Answers e iv p c (IsSound-number number stream is.begun is.is_mode) graph makes
+      is.is_block is.are_bytes same.made

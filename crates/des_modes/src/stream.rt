@@ -321,6 +321,13 @@ impl Stream {
         }
     }
 
+    /// The number of the mode.
+    pub fn number(&self) -> u32
+        ensures { result ≡ self.now.mode }
+    {
+        self.mode
+    }
+
     /// The feedback register: the counter block, the last output block, or the last eight bytes of the
     /// initialization vector and the ciphertext.
     pub fn register(&self) -> [u8; 8]

@@ -1,0 +1,322 @@
+//! CTR, OFB and CFB over any context and any width, by the number of a mode: a stream of bytes in pieces,
+//! or a whole text. A call refuses first words that do not end with the mark of a cipher's init, by
+//! `ERR_CONTEXT`, then words that are no stream, by `ERR_STREAM`. The cipher is made as for ECB.
+
+ghost use Rattle.std.specs.Prelude.{◌≡◌, ◌≢◌, ◌↔◌, ◌≤◌, ◌*◌, ◌++◌, ℕ, Bool, List, [], length, drop};
+ghost use Rattle.des.specs.Bits.{bits_of_bytes};
+ghost use Rattle.des.specs.Blocks.{AreBytes};
+ghost use Rattle.des_modes.specs.CfbBits.{first_bits};
+ghost use Rattle.des_modes.specs.Ctr.{Ctr};
+ghost use Rattle.des_modes.specs.Modes.{InModeUnder, IsMode, mode_by};
+ghost use Rattle.des_modes.specs.StreamStates.{HasBegun, IsBitStreamAt, IsInMode, IsStreamAt};
+ghost use Rattle.des_modes.specs.declared.modes.Mode.TheVariants.{BitFeedback};
+ghost use Rattle.des_modes.specs.declared.modes.TheConstants.{CFB1, CTR};
+ghost use Rattle.des_context.specs.CipherTypes.{encryption_of, relation_of};
+ghost use Rattle.des_context.specs.Contexts.{HasCipherType, HasMark, IsContextOf, IsSoundIfMarked};
+ghost use Rattle.des_context.specs.declared.contexts.TheConstants.{NO_MAC};
+
+use crate::ciphers::{ContextCipher, dispatch_cipher};
+use crate::contexts::{NO_MAC, has_mark, has_no_tables};
+use crate::status::{ERR_CONTEXT, ERR_MODE, ERR_STREAM, OK};
+use des_fast::box_lookup::Tables;
+use des_fast::many::{ManyBlocks, Slice};
+use des_modes::lists::ByLists;
+use des_modes::modes::{CFB1, Mode};
+use des_modes::stream::Stream;
+
+// Encrypts the bytes that come next, by a cipher.
+#[inline(never)]
+fn encrypt_by<C: ContextCipher + ManyBlocks, S: Slice>(
+    context: &[u64],
+    mode: Mode,
+    stream: &mut Stream,
+    bytes: &mut [u8],
+)
+    requires cipher_type { HasCipherType C.CIPHER_TYPE context.now }
+    requires made { (key : List ℕ) × IsContextOf context.now key }
+    requires mode { IsInMode mode stream.old }
+    ensures bytes { (number : ℕ) (key iv p c : List ℕ) → IsContextOf context.now key
+        → IsStreamAt number (encryption_of key) iv p c stream.old
+        → IsStreamAt number (encryption_of key) iv (p ++ bytes.old) (c ++ bytes.new) stream.new }
+    ensures under { (number : ℕ) (key iv p c : List ℕ) → IsContextOf context.now key
+        → IsStreamAt number (encryption_of key) iv p c stream.old
+        → InModeUnder (mode_by number) (relation_of key) iv (p ++ bytes.old) (c ++ bytes.new) }
+    ensures bits { (key iv : List ℕ) (p c : List Bool) → IsContextOf context.now key
+        → IsBitStreamAt (encryption_of key) iv p c stream.old
+        → IsBitStreamAt (encryption_of key) iv
+        (p ++ bits_of_bytes bytes.old) (c ++ bits_of_bytes bytes.new) stream.new }
+{
+    let cipher = C::of(context);
+    let cipher = ByLists::<C, S>::new(&cipher, has_no_tables(NO_MAC, context));
+    stream.encrypt(mode, &cipher, bytes);
+}
+
+// Decrypts the bytes that come next, by a cipher.
+#[inline(never)]
+fn decrypt_by<C: ContextCipher + ManyBlocks, S: Slice>(
+    context: &[u64],
+    mode: Mode,
+    stream: &mut Stream,
+    bytes: &mut [u8],
+)
+    requires cipher_type { HasCipherType C.CIPHER_TYPE context.now }
+    requires made { (key : List ℕ) × IsContextOf context.now key }
+    requires mode { IsInMode mode stream.old }
+    ensures bytes { (number : ℕ) (key iv p c : List ℕ) → IsContextOf context.now key
+        → IsStreamAt number (encryption_of key) iv p c stream.old
+        → IsStreamAt number (encryption_of key) iv (p ++ bytes.new) (c ++ bytes.old) stream.new }
+    ensures under { (number : ℕ) (key iv p c : List ℕ) → IsContextOf context.now key
+        → IsStreamAt number (encryption_of key) iv p c stream.old
+        → InModeUnder (mode_by number) (relation_of key) iv (p ++ bytes.new) (c ++ bytes.old) }
+    ensures bits { (key iv : List ℕ) (p c : List Bool) → IsContextOf context.now key
+        → IsBitStreamAt (encryption_of key) iv p c stream.old
+        → IsBitStreamAt (encryption_of key) iv
+        (p ++ bits_of_bytes bytes.new) (c ++ bits_of_bytes bytes.old) stream.new }
+{
+    let cipher = C::of(context);
+    let cipher = ByLists::<C, S>::new(&cipher, has_no_tables(NO_MAC, context));
+    stream.decrypt(mode, &cipher, bytes);
+}
+
+// Encrypts the first so many bits, which come next, by a cipher.
+#[inline(never)]
+fn encrypt_bits_by<C: ContextCipher + ManyBlocks, S: Slice>(
+    context: &[u64],
+    stream: &mut Stream,
+    bytes: &mut [u8],
+    bits: usize,
+)
+    requires cipher_type { HasCipherType C.CIPHER_TYPE context.now }
+    requires made { (key : List ℕ) × IsContextOf context.now key }
+    requires mode { IsInMode BitFeedback stream.old }
+    requires few { bits ≤ 8 * length bytes.old }
+    ensures bits { (key iv : List ℕ) (p c : List Bool) → IsContextOf context.now key
+        → IsBitStreamAt (encryption_of key) iv p c stream.old
+        → IsBitStreamAt (encryption_of key) iv
+        (p ++ first_bits bits bytes.old) (c ++ first_bits bits bytes.new) stream.new }
+    ensures rest { drop bits (bits_of_bytes bytes.new) ≡ drop bits (bits_of_bytes bytes.old) }
+{
+    let cipher = C::of(context);
+    let cipher = ByLists::<C, S>::new(&cipher, has_no_tables(NO_MAC, context));
+    stream.encrypt_bits(&cipher, bytes, bits);
+}
+
+// Decrypts the first so many bits, which come next, by a cipher.
+#[inline(never)]
+fn decrypt_bits_by<C: ContextCipher + ManyBlocks, S: Slice>(
+    context: &[u64],
+    stream: &mut Stream,
+    bytes: &mut [u8],
+    bits: usize,
+)
+    requires cipher_type { HasCipherType C.CIPHER_TYPE context.now }
+    requires made { (key : List ℕ) × IsContextOf context.now key }
+    requires mode { IsInMode BitFeedback stream.old }
+    requires few { bits ≤ 8 * length bytes.old }
+    ensures bits { (key iv : List ℕ) (p c : List Bool) → IsContextOf context.now key
+        → IsBitStreamAt (encryption_of key) iv p c stream.old
+        → IsBitStreamAt (encryption_of key) iv
+        (p ++ first_bits bits bytes.new) (c ++ first_bits bits bytes.old) stream.new }
+    ensures rest { drop bits (bits_of_bytes bytes.new) ≡ drop bits (bits_of_bytes bytes.old) }
+{
+    let cipher = C::of(context);
+    let cipher = ByLists::<C, S>::new(&cipher, has_no_tables(NO_MAC, context));
+    stream.decrypt_bits(&cipher, bytes, bits);
+}
+
+/// Begins a stream in the mode of a number from an initialization vector, or for the counter mode the
+/// first counter block. The status of another number is `ERR_MODE`; the stream is then unchanged.
+pub fn begin(stream: &mut Stream, mode: u32, iv: &[u8; 8]) -> i32
+    ensures accepted { (result ≡ OK) ↔ IsMode mode }
+    ensures refused { (result ≡ ERR_MODE) ↔ ¬ (IsMode mode) }
+    ensures begun { result ≡ OK → (encryption : List ℕ → List ℕ)
+        → IsStreamAt mode encryption iv.now [] [] stream.new }
+    ensures begun_bits { result ≡ OK → mode ≡ CFB1 → (encryption : List ℕ → List ℕ)
+        → IsBitStreamAt encryption iv.now [] [] stream.new }
+    ensures kept { result ≢ OK → stream.new ≡ stream.old }
+{
+    match Stream::new(mode, iv) {
+        Some(begun) => {
+            *stream = begun;
+            OK
+        }
+        None => ERR_MODE,
+    }
+}
+
+/// Encrypts in place the bytes that come next in a stream: any number of them. In pieces, wherever they
+/// are cut, they become what they become as one. The status of words that are no stream is `ERR_STREAM`;
+/// they and the bytes are then unchanged.
+pub fn encrypt_stream<S: Slice>(context: &[u64], stream: &mut Stream, bytes: &mut [u8]) -> i32
+    requires { IsSoundIfMarked context.now }
+    ensures unmarked { (result ≡ ERR_CONTEXT) ↔ ¬ (HasMark NO_MAC context.now) }
+    ensures accepted { (result ≡ OK) ↔ (HasMark NO_MAC context.now × HasBegun stream.old) }
+    ensures refused { (result ≡ ERR_STREAM)
+        ↔ (HasMark NO_MAC context.now × ¬ (HasBegun stream.old)) }
+    ensures bytes { result ≡ OK → (number : ℕ) (key iv p c : List ℕ) → IsContextOf context.now key
+        → IsStreamAt number (encryption_of key) iv p c stream.old
+        → IsStreamAt number (encryption_of key) iv (p ++ bytes.old) (c ++ bytes.new) stream.new }
+    ensures under { result ≡ OK → (number : ℕ) (key iv p c : List ℕ) → IsContextOf context.now key
+        → IsStreamAt number (encryption_of key) iv p c stream.old
+        → InModeUnder (mode_by number) (relation_of key) iv (p ++ bytes.old) (c ++ bytes.new) }
+    ensures bits { result ≡ OK → (key iv : List ℕ) (p c : List Bool) → IsContextOf context.now key
+        → IsBitStreamAt (encryption_of key) iv p c stream.old
+        → IsBitStreamAt (encryption_of key) iv
+        (p ++ bits_of_bytes bytes.old) (c ++ bits_of_bytes bytes.new) stream.new }
+    ensures kept { result ≢ OK → (bytes.new ≡ bytes.old) × (stream.new ≡ stream.old) }
+{
+    if !has_mark(NO_MAC, context) {
+        return ERR_CONTEXT;
+    }
+    let mode = match stream.mode() {
+        Some(mode) => mode,
+        None => return ERR_STREAM,
+    };
+    dispatch_cipher!(encrypt_by::<Tables, S>(context, mode, stream, bytes));
+    OK
+}
+
+/// Decrypts in place the bytes that come next in a stream. The status is as of `encrypt_stream`.
+pub fn decrypt_stream<S: Slice>(context: &[u64], stream: &mut Stream, bytes: &mut [u8]) -> i32
+    requires { IsSoundIfMarked context.now }
+    ensures unmarked { (result ≡ ERR_CONTEXT) ↔ ¬ (HasMark NO_MAC context.now) }
+    ensures accepted { (result ≡ OK) ↔ (HasMark NO_MAC context.now × HasBegun stream.old) }
+    ensures refused { (result ≡ ERR_STREAM)
+        ↔ (HasMark NO_MAC context.now × ¬ (HasBegun stream.old)) }
+    ensures bytes { result ≡ OK → (number : ℕ) (key iv p c : List ℕ) → IsContextOf context.now key
+        → IsStreamAt number (encryption_of key) iv p c stream.old
+        → IsStreamAt number (encryption_of key) iv (p ++ bytes.new) (c ++ bytes.old) stream.new }
+    ensures under { result ≡ OK → (number : ℕ) (key iv p c : List ℕ) → IsContextOf context.now key
+        → IsStreamAt number (encryption_of key) iv p c stream.old
+        → InModeUnder (mode_by number) (relation_of key) iv (p ++ bytes.new) (c ++ bytes.old) }
+    ensures bits { result ≡ OK → (key iv : List ℕ) (p c : List Bool) → IsContextOf context.now key
+        → IsBitStreamAt (encryption_of key) iv p c stream.old
+        → IsBitStreamAt (encryption_of key) iv
+        (p ++ bits_of_bytes bytes.new) (c ++ bits_of_bytes bytes.old) stream.new }
+    ensures kept { result ≢ OK → (bytes.new ≡ bytes.old) × (stream.new ≡ stream.old) }
+{
+    if !has_mark(NO_MAC, context) {
+        return ERR_CONTEXT;
+    }
+    let mode = match stream.mode() {
+        Some(mode) => mode,
+        None => return ERR_STREAM,
+    };
+    dispatch_cipher!(decrypt_by::<Tables, S>(context, mode, stream, bytes));
+    OK
+}
+
+/// Encrypts in place the first so many bits, which come next in a stream of CFB1: any number of them.
+/// The others stay. The status of a stream of another mode is `ERR_MODE`, of words that are no stream
+/// `ERR_STREAM`; they and the bytes are then unchanged.
+pub fn encrypt_stream_bits<S: Slice>(
+    context: &[u64],
+    stream: &mut Stream,
+    bytes: &mut [u8],
+    bits: usize,
+) -> i32
+    requires sound { IsSoundIfMarked context.now }
+    requires few { bits ≤ 8 * length bytes.old }
+    ensures unmarked { (result ≡ ERR_CONTEXT) ↔ ¬ (HasMark NO_MAC context.now) }
+    ensures accepted { (result ≡ OK) ↔ (HasMark NO_MAC context.now × HasBegun stream.old
+        × (stream.old.mode ≡ CFB1)) }
+    ensures refused { (result ≡ ERR_STREAM)
+        ↔ (HasMark NO_MAC context.now × ¬ (HasBegun stream.old)) }
+    ensures other { (result ≡ ERR_MODE) ↔ (HasMark NO_MAC context.now × HasBegun stream.old
+        × (stream.old.mode ≢ CFB1)) }
+    ensures bits { result ≡ OK → (key iv : List ℕ) (p c : List Bool) → IsContextOf context.now key
+        → IsBitStreamAt (encryption_of key) iv p c stream.old
+        → IsBitStreamAt (encryption_of key) iv
+        (p ++ first_bits bits bytes.old) (c ++ first_bits bits bytes.new) stream.new }
+    ensures rest { drop bits (bits_of_bytes bytes.new) ≡ drop bits (bits_of_bytes bytes.old) }
+    ensures kept { result ≢ OK → (bytes.new ≡ bytes.old) × (stream.new ≡ stream.old) }
+{
+    if !has_mark(NO_MAC, context) {
+        return ERR_CONTEXT;
+    }
+    if stream.mode().is_none() {
+        return ERR_STREAM;
+    }
+    if stream.number() != CFB1 {
+        return ERR_MODE;
+    }
+    dispatch_cipher!(encrypt_bits_by::<Tables, S>(context, stream, bytes, bits));
+    OK
+}
+
+/// Decrypts in place the first so many bits, which come next in a stream of CFB1. The status is as of
+/// `encrypt_stream_bits`.
+pub fn decrypt_stream_bits<S: Slice>(
+    context: &[u64],
+    stream: &mut Stream,
+    bytes: &mut [u8],
+    bits: usize,
+) -> i32
+    requires sound { IsSoundIfMarked context.now }
+    requires few { bits ≤ 8 * length bytes.old }
+    ensures unmarked { (result ≡ ERR_CONTEXT) ↔ ¬ (HasMark NO_MAC context.now) }
+    ensures accepted { (result ≡ OK) ↔ (HasMark NO_MAC context.now × HasBegun stream.old
+        × (stream.old.mode ≡ CFB1)) }
+    ensures refused { (result ≡ ERR_STREAM)
+        ↔ (HasMark NO_MAC context.now × ¬ (HasBegun stream.old)) }
+    ensures other { (result ≡ ERR_MODE) ↔ (HasMark NO_MAC context.now × HasBegun stream.old
+        × (stream.old.mode ≢ CFB1)) }
+    ensures bits { result ≡ OK → (key iv : List ℕ) (p c : List Bool) → IsContextOf context.now key
+        → IsBitStreamAt (encryption_of key) iv p c stream.old
+        → IsBitStreamAt (encryption_of key) iv
+        (p ++ first_bits bits bytes.new) (c ++ first_bits bits bytes.old) stream.new }
+    ensures rest { drop bits (bits_of_bytes bytes.new) ≡ drop bits (bits_of_bytes bytes.old) }
+    ensures kept { result ≢ OK → (bytes.new ≡ bytes.old) × (stream.new ≡ stream.old) }
+{
+    if !has_mark(NO_MAC, context) {
+        return ERR_CONTEXT;
+    }
+    if stream.mode().is_none() {
+        return ERR_STREAM;
+    }
+    if stream.number() != CFB1 {
+        return ERR_MODE;
+    }
+    dispatch_cipher!(decrypt_bits_by::<Tables, S>(context, stream, bytes, bits));
+    OK
+}
+
+/// Encrypts a text in place by the mode of a number, from an initialization vector, or for the counter
+/// mode the first counter block. The status of another number is `ERR_MODE`; the text is then
+/// unchanged.
+pub fn encrypt_mode<S: Slice>(context: &[u64], mode: u32, iv: &[u8; 8], bytes: &mut [u8]) -> i32
+    requires { IsSoundIfMarked context.now }
+    ensures unmarked { (result ≡ ERR_CONTEXT) ↔ ¬ (HasMark NO_MAC context.now) }
+    ensures accepted { (result ≡ OK) ↔ (HasMark NO_MAC context.now × IsMode mode) }
+    ensures refused { (result ≡ ERR_MODE) ↔ (HasMark NO_MAC context.now × ¬ (IsMode mode)) }
+    ensures encrypted { result ≡ OK → (key : List ℕ) → IsContextOf context.now key
+        → InModeUnder (mode_by mode) (relation_of key) iv.now bytes.old bytes.new }
+    ensures kept { result ≢ OK → bytes.new ≡ bytes.old }
+{
+    if !has_mark(NO_MAC, context) {
+        return ERR_CONTEXT;
+    }
+    match Stream::new(mode, iv) {
+        Some(mut stream) => encrypt_stream::<S>(context, &mut stream, bytes),
+        None => ERR_MODE,
+    }
+}
+
+/// Decrypts a text in place by the mode of a number. The status is as of `encrypt_mode`.
+pub fn decrypt_mode<S: Slice>(context: &[u64], mode: u32, iv: &[u8; 8], bytes: &mut [u8]) -> i32
+    requires { IsSoundIfMarked context.now }
+    ensures unmarked { (result ≡ ERR_CONTEXT) ↔ ¬ (HasMark NO_MAC context.now) }
+    ensures accepted { (result ≡ OK) ↔ (HasMark NO_MAC context.now × IsMode mode) }
+    ensures refused { (result ≡ ERR_MODE) ↔ (HasMark NO_MAC context.now × ¬ (IsMode mode)) }
+    ensures decrypted { result ≡ OK → (key : List ℕ) → IsContextOf context.now key
+        → InModeUnder (mode_by mode) (relation_of key) iv.now bytes.new bytes.old }
+    ensures kept { result ≢ OK → bytes.new ≡ bytes.old }
+{
+    if !has_mark(NO_MAC, context) {
+        return ERR_CONTEXT;
+    }
+    match Stream::new(mode, iv) {
+        Some(mut stream) => decrypt_stream::<S>(context, &mut stream, bytes),
+        None => ERR_MODE,
+    }
+}
