@@ -297,7 +297,10 @@ pub fn encrypt_mode<S: Slice>(context: &[u64], mode: u32, iv: &[u8; 8], bytes: &
         return ERR_CONTEXT;
     }
     match Stream::new(mode, iv) {
-        Some(mut stream) => encrypt_stream::<S>(context, &mut stream, bytes),
+        Some(mut stream) => {
+            encrypt_stream::<S>(context, &mut stream, bytes);
+            OK
+        }
         None => ERR_MODE,
     }
 }
@@ -316,7 +319,10 @@ pub fn decrypt_mode<S: Slice>(context: &[u64], mode: u32, iv: &[u8; 8], bytes: &
         return ERR_CONTEXT;
     }
     match Stream::new(mode, iv) {
-        Some(mut stream) => decrypt_stream::<S>(context, &mut stream, bytes),
+        Some(mut stream) => {
+            decrypt_stream::<S>(context, &mut stream, bytes);
+            OK
+        }
         None => ERR_MODE,
     }
 }
