@@ -24,3 +24,4 @@ mod macs;
 mod padding;
 mod passwords;
 mod payment;
+mod streams;

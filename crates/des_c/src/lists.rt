@@ -7,6 +7,7 @@ mod each_key;
 mod macs;
 mod payment;
 mod records;
+mod streams;
 
 use std::simd::prelude::*;
 

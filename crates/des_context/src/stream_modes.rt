@@ -23,6 +23,7 @@ use des_fast::many::{ManyBlocks, Slice};
 use des_modes::lists::ByLists;
 use des_modes::modes::{CFB1, Mode};
 use des_modes::stream::Stream;
+use std::simd::prelude::*;
 
 // Encrypts the bytes that come next, by a cipher.
 #[inline(never)]
@@ -78,9 +79,10 @@ fn decrypt_by<C: ContextCipher + ManyBlocks, S: Slice>(
     stream.decrypt(mode, &cipher, bytes);
 }
 
-// Encrypts the first so many bits, which come next, by a cipher.
+// Encrypts the first so many bits, which come next, by a cipher: bit after bit, so that no width is
+// quicker.
 #[inline(never)]
-fn encrypt_bits_by<C: ContextCipher + ManyBlocks, S: Slice>(
+fn encrypt_bits_by<C: ContextCipher + ManyBlocks>(
     context: &[u64],
     stream: &mut Stream,
     bytes: &mut [u8],
@@ -97,13 +99,13 @@ fn encrypt_bits_by<C: ContextCipher + ManyBlocks, S: Slice>(
     ensures rest { drop bits (bits_of_bytes bytes.new) ≡ drop bits (bits_of_bytes bytes.old) }
 {
     let cipher = C::of(context);
-    let cipher = ByLists::<C, S>::new(&cipher, has_no_tables(NO_MAC, context));
+    let cipher = ByLists::<C, u64x2>::new(&cipher, has_no_tables(NO_MAC, context));
     stream.encrypt_bits(&cipher, bytes, bits);
 }
 
 // Decrypts the first so many bits, which come next, by a cipher.
 #[inline(never)]
-fn decrypt_bits_by<C: ContextCipher + ManyBlocks, S: Slice>(
+fn decrypt_bits_by<C: ContextCipher + ManyBlocks>(
     context: &[u64],
     stream: &mut Stream,
     bytes: &mut [u8],
@@ -120,7 +122,7 @@ fn decrypt_bits_by<C: ContextCipher + ManyBlocks, S: Slice>(
     ensures rest { drop bits (bits_of_bytes bytes.new) ≡ drop bits (bits_of_bytes bytes.old) }
 {
     let cipher = C::of(context);
-    let cipher = ByLists::<C, S>::new(&cipher, has_no_tables(NO_MAC, context));
+    let cipher = ByLists::<C, u64x2>::new(&cipher, has_no_tables(NO_MAC, context));
     stream.decrypt_bits(&cipher, bytes, bits);
 }
 
@@ -209,7 +211,7 @@ pub fn decrypt_stream<S: Slice>(context: &[u64], stream: &mut Stream, bytes: &mu
 /// Encrypts in place the first so many bits, which come next in a stream of CFB1: any number of them.
 /// The others stay. The status of a stream of another mode is `ERR_MODE`, of words that are no stream
 /// `ERR_STREAM`; they and the bytes are then unchanged.
-pub fn encrypt_stream_bits<S: Slice>(
+pub fn encrypt_stream_bits(
     context: &[u64],
     stream: &mut Stream,
     bytes: &mut [u8],
@@ -240,13 +242,13 @@ pub fn encrypt_stream_bits<S: Slice>(
     if stream.number() != CFB1 {
         return ERR_MODE;
     }
-    dispatch_cipher!(encrypt_bits_by::<Tables, S>(context, stream, bytes, bits));
+    dispatch_cipher!(encrypt_bits_by::<Tables>(context, stream, bytes, bits));
     OK
 }
 
 /// Decrypts in place the first so many bits, which come next in a stream of CFB1. The status is as of
 /// `encrypt_stream_bits`.
-pub fn decrypt_stream_bits<S: Slice>(
+pub fn decrypt_stream_bits(
     context: &[u64],
     stream: &mut Stream,
     bytes: &mut [u8],
@@ -277,7 +279,7 @@ pub fn decrypt_stream_bits<S: Slice>(
     if stream.number() != CFB1 {
         return ERR_MODE;
     }
-    dispatch_cipher!(decrypt_bits_by::<Tables, S>(context, stream, bytes, bits));
+    dispatch_cipher!(decrypt_bits_by::<Tables>(context, stream, bytes, bits));
     OK
 }
 
