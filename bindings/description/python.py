@@ -8,14 +8,15 @@ from sources.text import Refused
 
 from .rust import camel
 
-BASES = {"size_t": "SIZE", "int": "INT", "bool": "BOOL", "void": "None"}
+BASES = {"size_t": "SIZE", "uint64_t": "UINT64", "int": "INT", "bool": "BOOL", "void": "None"}
 HEAD = '''\
 """What each call of cukvashe_des.h returns and takes, how many words its contexts have, and its structs: made of it by bindings/describe."""
 
 import ctypes
 from typing import Any, Dict, Tuple
 
-POINTER, SIZE, INT, BOOL, TEXT = ctypes.c_void_p, ctypes.c_size_t, ctypes.c_int, ctypes.c_bool, ctypes.c_char_p
+POINTER, SIZE, UINT64 = ctypes.c_void_p, ctypes.c_size_t, ctypes.c_uint64
+INT, BOOL, TEXT = ctypes.c_int, ctypes.c_bool, ctypes.c_char_p
 '''
 
 

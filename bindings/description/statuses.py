@@ -17,7 +17,7 @@ NAMES = {
     "ITERATIONS": "IterationCount",
 }
 # Those that no caller meets, and those of which a call says more than their sentence.
-NO_ERRORS = {"OK", "CAPACITY", "NO_OPTIONAL_BLOCK", "CONTEXT", "WEAK_KEY", "NO_SERIAL"}
+NO_ERRORS = {"OK", "CAPACITY", "NO_OPTIONAL_BLOCK", "CONTEXT", "MODE", "STREAM", "WEAK_KEY", "NO_SERIAL"}
 
 SAID = "made of it by bindings/describe"
 
@@ -69,7 +69,7 @@ def of_python(header):
 def classes_of_python(header):
     """The errors for Python. Those that say that something is not the right one are no ValueError."""
     for it, name in errors(header):
-        bases = "VerificationError" if short(it) in ("TAG", "WRONG_PIN", "KEY_BLOCK_MAC") else "Error, ValueError"
+        bases = "VerificationError" if short(it) in ("TAG", "WRONG_PIN", "KEY_BLOCK_MAC", "WRAPPED_KEY") else "Error, ValueError"
         yield f"class {name}Error({bases}):"
         lines = textwrap.wrap(f'"""{capitalized(it.text)}."""', 126, break_on_hyphens=False)
         yield from [*(f"    {line}" for line in lines), "", ""]
