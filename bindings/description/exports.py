@@ -12,6 +12,7 @@ STRUCTS = {
     "TableText": "cukvashe_decimal_table *{}",
     "Terminal": "cukvashe_dukpt_terminal *{}",
     "MessageState": "uint64_t {}[4]",
+    "Stream": "cukvashe_stream *{}",
 }
 
 

@@ -115,8 +115,8 @@ class Header:
 
     @property
     def kinds(self):
-        """The names of ciphers and MACs: those of contexts of words."""
-        return [name for name, struct in self.structs.items() if struct.words]
+        """The names of ciphers and MACs: those of contexts of words that an init makes of a key."""
+        return [name for name, struct in self.structs.items() if struct.words and f"{name}_init" in self.calls]
 
     def number(self, name):
         """The number of a constant."""

@@ -12,6 +12,9 @@ from .header import PLACE
 # samples.py returns; None is one that depends on more than arguments.
 FAULTS = {
     "*.CONTEXT": {"context": "(void *)no_bytes"},
+    "*.STREAM": {"stream": "(void *)no_bytes"},
+    "*_stream_bits.MODE*": {"stream": "&streams[0]"},
+    "*.MODE": {"mode": "0"},
     "*_each.COUNTS if `count`*": {"count": "count + 1"},
     "*.COUNTS if the sum of the counts*": {"counts": "no_counts"},
     "*.COUNTS*`vectors_length`*": {"vectors_length": "8 * count + 1"},

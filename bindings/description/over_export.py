@@ -13,6 +13,7 @@ from .header import PLACE
 MESSAGE_WORDS = 4
 ALGORITHMS = {"cbc_mac": "ALGORITHM_CBC_MAC", "retail_mac": "ALGORITHM_RETAIL_MAC", "cmac": "ALGORITHM_CMAC"}
 BLOCKS = "length / CUKVASHE_BLOCK_SIZE"
+BYTES_OF_BITS = "bits / 8 + (bits % 8 != 0)"
 # The calls of lists whose speed goes by the number of blocks, and not by the other count: CBC decryption takes all blocks of all records
 # at once, and encryption a block of each record.
 BY_BLOCKS = ("decrypt_cbc_records",)
@@ -24,7 +25,7 @@ OF_WORDS = re.compile(r"(HasSomeCipherType|HasMacCipherType algorithm|IsSoundIfM
 UPHELD = {
     "IsAlgorithm algorithm", "IsKeyLength key_size", "IsMacKeyLength algorithm key_size", KEY_OF_MAC,
     "IsKeyLength (length key.old)", "(length first.now ≡ length key.old)", "(length second.now ≡ length key.old)",
-    "length others.now % length key.old ≡ 0",
+    "length others.now % length key.old ≡ 0", "bits ≤ 8 * length bytes.old",
 }  # fmt: skip
 
 
@@ -163,6 +164,8 @@ class OverExport:
             return [f"{self._taken(self.count or 'count')} * {self.size_of('keys')}"]
         if kind.startswith("&mut") and "capacity" in self.values:
             return [self._taken("capacity")]
+        if "bits" in self.values:
+            return [BYTES_OF_BITS]
         return [self._taken("length" if "length" in self.values else "key_length")]
 
     def _used(self, name):

@@ -56,7 +56,7 @@ def declarations(header):
     yield "}"
     yield ""
     yield "WORDS = {"
-    yield from (f'    "{name}": {header.structs[name].words},' for name in header.kinds)
+    yield from (f'    "{name}": {struct.words},' for name, struct in header.structs.items() if struct.words)
     yield "}"
     yield from structs(header)
 

@@ -10,11 +10,12 @@ from .c import filled
 # The arguments that a call reads, where any bytes won't do, and its numbers; what it writes goes to room of the test's. `count` is the length
 # of a list.
 BY_NAME = {
-    "account": '"4012345678909"', "account_length": "13", "base": "key", "block": "sent", "buffer": "blocks", "bytes": "salted",
+    "account": '"4012345678909"', "account_length": "13", "base": "key", "bits": "8 * count - 3", "block": "sent", "blocks": "1",
+    "buffer": "blocks", "bytes": "salted",
     "capacity": "sizeof blocks", "card": "key", "count": "count", "counts": "ones", "digits": '"0123456789012345"',
     "expiry": '"8701"', "expiry_length": "4", "fill": "fill", "first": "key", "hash": "CUKVASHE_SHA256", "index": "1",
     "initial": "key", "is_response": "true", "issuer": "key", "iterations": "2", "key": "key", "key_length": "24", "keys": "keys",
-    "length": "8 * count", "messages": "messages", "method": "1", "offset": "pin_digits", "offset_length": "12", "others": "others",
+    "length": "8 * count", "messages": "messages", "method": "1", "mode": "CUKVASHE_CTR", "offset": "pin_digits", "offset_length": "12", "others": "others",
     "others_count": "1", "parts": "&parts", "password": "others", "password_length": "sizeof others", "pin": "pin_digits",
     "pin_length": "12", "place": "0", "protection": "key", "protection_length": "24", "records_count": "count", "salt_length": "8",
     "second": "others", "sequence": '"00"', "sequence_length": "2", "serial": "serial", "service": '"101"', "service_length": "3",
@@ -34,6 +35,7 @@ EXCEPTIONS = {
     "pin_translate_to_1.block": "sent + 8", "pin_translate_to_1.translation": "&translations[1]",
     "tdes_ede2_open_salted.hash": "CUKVASHE_MD5", "tdes_*_open_salted.iterations": "0", "unpad.length": "80",
     "*_open_salted.length": "sizeof salted", "*_open_salted.capacity": "sizeof salted",
+    "stream_begin*.stream": "(void *)rooms[0]", "*_stream_bits.stream": "&streams[1]", "*.stream": "&streams[0]",
 }  # fmt: skip
 
 

@@ -96,6 +96,8 @@ const ITERATIONS = 41;
 const NOT_SALTED = 42;
 const SALT_LENGTH = 43;
 const CONTEXT = 44;
+const MODE = 45;
+const STREAM = 46;
 const SENTENCES = [
   "success",
   "the key does not have a length that the call takes",
@@ -142,6 +144,8 @@ const SENTENCES = [
   "the bytes do not begin with Salted__",
   "the bytes end within the salt, or it does not have 0 or 8 bytes",
   "the context is not one that the init of this type made",
+  "the mode is not one that the call takes",
+  "the stream is not one that was begun",
 ];
 export const KeyLength = fault("KeyLength");
 export const BlockLength = fault("BlockLength");

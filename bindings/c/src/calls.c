@@ -180,6 +180,92 @@ int cukvashe_tdes_ede3_decrypt_cbc_to(const cukvashe_tdes_ede3 *context, uint8_t
     length / CUKVASHE_BLOCK_SIZE, output, length / CUKVASHE_BLOCK_SIZE, length);
 }
 
+int cukvashe_des_encrypt_mode(const cukvashe_des *context, int mode, const uint8_t iv[8], uint8_t *data,
+    size_t length) {
+  return CHOOSE(length / CUKVASHE_BLOCK_SIZE, encrypt_mode, context->words, 17, (uint32_t)mode, iv, data, length);
+}
+
+int cukvashe_des_decrypt_mode(const cukvashe_des *context, int mode, const uint8_t iv[8], uint8_t *data,
+    size_t length) {
+  return CHOOSE(length / CUKVASHE_BLOCK_SIZE, decrypt_mode, context->words, 17, (uint32_t)mode, iv, data, length);
+}
+
+int cukvashe_tdes_ede2_encrypt_mode(const cukvashe_tdes_ede2 *context, int mode, const uint8_t iv[8], uint8_t *data,
+    size_t length) {
+  return CHOOSE(length / CUKVASHE_BLOCK_SIZE, encrypt_mode, context->words, 33, (uint32_t)mode, iv, data, length);
+}
+
+int cukvashe_tdes_ede2_decrypt_mode(const cukvashe_tdes_ede2 *context, int mode, const uint8_t iv[8], uint8_t *data,
+    size_t length) {
+  return CHOOSE(length / CUKVASHE_BLOCK_SIZE, decrypt_mode, context->words, 33, (uint32_t)mode, iv, data, length);
+}
+
+int cukvashe_tdes_ede3_encrypt_mode(const cukvashe_tdes_ede3 *context, int mode, const uint8_t iv[8], uint8_t *data,
+    size_t length) {
+  return CHOOSE(length / CUKVASHE_BLOCK_SIZE, encrypt_mode, context->words, 49, (uint32_t)mode, iv, data, length);
+}
+
+int cukvashe_tdes_ede3_decrypt_mode(const cukvashe_tdes_ede3 *context, int mode, const uint8_t iv[8], uint8_t *data,
+    size_t length) {
+  return CHOOSE(length / CUKVASHE_BLOCK_SIZE, decrypt_mode, context->words, 49, (uint32_t)mode, iv, data, length);
+}
+
+int cukvashe_des_encrypt_stream(const cukvashe_des *context, cukvashe_stream *stream, uint8_t *data, size_t length) {
+  return CHOOSE(length / CUKVASHE_BLOCK_SIZE, encrypt_stream, context->words, 17, stream, data, length);
+}
+
+int cukvashe_des_decrypt_stream(const cukvashe_des *context, cukvashe_stream *stream, uint8_t *data, size_t length) {
+  return CHOOSE(length / CUKVASHE_BLOCK_SIZE, decrypt_stream, context->words, 17, stream, data, length);
+}
+
+int cukvashe_tdes_ede2_encrypt_stream(const cukvashe_tdes_ede2 *context, cukvashe_stream *stream, uint8_t *data,
+    size_t length) {
+  return CHOOSE(length / CUKVASHE_BLOCK_SIZE, encrypt_stream, context->words, 33, stream, data, length);
+}
+
+int cukvashe_tdes_ede2_decrypt_stream(const cukvashe_tdes_ede2 *context, cukvashe_stream *stream, uint8_t *data,
+    size_t length) {
+  return CHOOSE(length / CUKVASHE_BLOCK_SIZE, decrypt_stream, context->words, 33, stream, data, length);
+}
+
+int cukvashe_tdes_ede3_encrypt_stream(const cukvashe_tdes_ede3 *context, cukvashe_stream *stream, uint8_t *data,
+    size_t length) {
+  return CHOOSE(length / CUKVASHE_BLOCK_SIZE, encrypt_stream, context->words, 49, stream, data, length);
+}
+
+int cukvashe_tdes_ede3_decrypt_stream(const cukvashe_tdes_ede3 *context, cukvashe_stream *stream, uint8_t *data,
+    size_t length) {
+  return CHOOSE(length / CUKVASHE_BLOCK_SIZE, decrypt_stream, context->words, 49, stream, data, length);
+}
+
+int cukvashe_des_encrypt_stream_bits(const cukvashe_des *context, cukvashe_stream *stream, uint8_t *data, size_t bits) {
+  return cukvashe_internal_encrypt_stream_bits(context->words, 17, stream, data, bits / 8 + (bits % 8 != 0), bits);
+}
+
+int cukvashe_des_decrypt_stream_bits(const cukvashe_des *context, cukvashe_stream *stream, uint8_t *data, size_t bits) {
+  return cukvashe_internal_decrypt_stream_bits(context->words, 17, stream, data, bits / 8 + (bits % 8 != 0), bits);
+}
+
+int cukvashe_tdes_ede2_encrypt_stream_bits(const cukvashe_tdes_ede2 *context, cukvashe_stream *stream, uint8_t *data,
+    size_t bits) {
+  return cukvashe_internal_encrypt_stream_bits(context->words, 33, stream, data, bits / 8 + (bits % 8 != 0), bits);
+}
+
+int cukvashe_tdes_ede2_decrypt_stream_bits(const cukvashe_tdes_ede2 *context, cukvashe_stream *stream, uint8_t *data,
+    size_t bits) {
+  return cukvashe_internal_decrypt_stream_bits(context->words, 33, stream, data, bits / 8 + (bits % 8 != 0), bits);
+}
+
+int cukvashe_tdes_ede3_encrypt_stream_bits(const cukvashe_tdes_ede3 *context, cukvashe_stream *stream, uint8_t *data,
+    size_t bits) {
+  return cukvashe_internal_encrypt_stream_bits(context->words, 49, stream, data, bits / 8 + (bits % 8 != 0), bits);
+}
+
+int cukvashe_tdes_ede3_decrypt_stream_bits(const cukvashe_tdes_ede3 *context, cukvashe_stream *stream, uint8_t *data,
+    size_t bits) {
+  return cukvashe_internal_decrypt_stream_bits(context->words, 49, stream, data, bits / 8 + (bits % 8 != 0), bits);
+}
+
 int cukvashe_des_encrypt_each(const uint8_t *keys, size_t count, uint8_t *blocks, size_t length) {
   if (length % CUKVASHE_BLOCK_SIZE != 0) return CUKVASHE_ERR_BLOCKS;
   if (count != length / CUKVASHE_BLOCK_SIZE) return CUKVASHE_ERR_COUNTS;
@@ -984,6 +1070,10 @@ size_t cukvashe_tdes_ede3_size(void) {
   return sizeof(cukvashe_tdes_ede3);
 }
 
+size_t cukvashe_stream_size(void) {
+  return sizeof(cukvashe_stream);
+}
+
 size_t cukvashe_cbc_mac_des_size(void) {
   return sizeof(cukvashe_cbc_mac_des);
 }
@@ -1146,6 +1236,26 @@ int cukvashe_sha1(void) {
 
 int cukvashe_sha256(void) {
   return CUKVASHE_SHA256;
+}
+
+int cukvashe_ctr(void) {
+  return CUKVASHE_CTR;
+}
+
+int cukvashe_ofb(void) {
+  return CUKVASHE_OFB;
+}
+
+int cukvashe_cfb1(void) {
+  return CUKVASHE_CFB1;
+}
+
+int cukvashe_cfb8(void) {
+  return CUKVASHE_CFB8;
+}
+
+int cukvashe_cfb64(void) {
+  return CUKVASHE_CFB64;
 }
 
 int cukvashe_mac_padding_1(void) {

@@ -41,6 +41,14 @@ int cukvashe_internal_encrypt_cbc_records(const uint64_t *context, size_t contex
     size_t vectors_count, const size_t *counts, size_t counts_count, uint8_t *blocks, size_t blocks_count, size_t size);
 int cukvashe_internal_decrypt_cbc_records(const uint64_t *context, size_t context_count, uint8_t *vectors,
     size_t vectors_count, const size_t *counts, size_t counts_count, uint8_t *blocks, size_t blocks_count, size_t size);
+int cukvashe_internal_encrypt_stream(const uint64_t *context, size_t context_count, cukvashe_stream *stream,
+    uint8_t *bytes, size_t bytes_count);
+int cukvashe_internal_decrypt_stream(const uint64_t *context, size_t context_count, cukvashe_stream *stream,
+    uint8_t *bytes, size_t bytes_count);
+int cukvashe_internal_encrypt_mode(const uint64_t *context, size_t context_count, uint32_t mode, const uint8_t iv[8],
+    uint8_t *bytes, size_t bytes_count);
+int cukvashe_internal_decrypt_mode(const uint64_t *context, size_t context_count, uint32_t mode, const uint8_t iv[8],
+    uint8_t *bytes, size_t bytes_count);
 int cukvashe_internal_mac_init(uint32_t algorithm, uint64_t *context, size_t context_count, uint64_t message[4],
     const uint8_t *key, size_t key_count, uint32_t padding, bool no_tables);
 int cukvashe_internal_mac_update(uint32_t algorithm, const uint64_t *context, size_t context_count, uint64_t message[4],
@@ -58,6 +66,10 @@ int cukvashe_internal_open_salted(size_t key_size, uint32_t hash, size_t iterati
 int cukvashe_internal_check_value(size_t key_size, const uint8_t *key, size_t key_count, uint8_t value[3]);
 int cukvashe_internal_combine(const uint8_t *first, size_t first_count, const uint8_t *second, size_t second_count,
     const uint8_t *others, size_t others_count, uint8_t *key, size_t key_count);
+int cukvashe_internal_encrypt_stream_bits(const uint64_t *context, size_t context_count, cukvashe_stream *stream,
+    uint8_t *bytes, size_t bytes_count, size_t bits);
+int cukvashe_internal_decrypt_stream_bits(const uint64_t *context, size_t context_count, cukvashe_stream *stream,
+    uint8_t *bytes, size_t bytes_count, size_t bits);
 
 /* Those of lists for x86-64-v3, which take 256 at a time: what bindings/widen and bindings/generate make of the same source. */
 int cukvashe_wide_encrypt_ecb(const uint64_t *context, size_t context_count, uint8_t *blocks, size_t blocks_count,
@@ -88,6 +100,14 @@ int cukvashe_wide_encrypt_cbc_records(const uint64_t *context, size_t context_co
     size_t vectors_count, const size_t *counts, size_t counts_count, uint8_t *blocks, size_t blocks_count, size_t size);
 int cukvashe_wide_decrypt_cbc_records(const uint64_t *context, size_t context_count, uint8_t *vectors,
     size_t vectors_count, const size_t *counts, size_t counts_count, uint8_t *blocks, size_t blocks_count, size_t size);
+int cukvashe_wide_encrypt_stream(const uint64_t *context, size_t context_count, cukvashe_stream *stream, uint8_t *bytes,
+    size_t bytes_count);
+int cukvashe_wide_decrypt_stream(const uint64_t *context, size_t context_count, cukvashe_stream *stream, uint8_t *bytes,
+    size_t bytes_count);
+int cukvashe_wide_encrypt_mode(const uint64_t *context, size_t context_count, uint32_t mode, const uint8_t iv[8],
+    uint8_t *bytes, size_t bytes_count);
+int cukvashe_wide_decrypt_mode(const uint64_t *context, size_t context_count, uint32_t mode, const uint8_t iv[8],
+    uint8_t *bytes, size_t bytes_count);
 
 /* Those that have the name of a call of the header, which wipes after them: bindings/generate gives them these names. */
 int cukvashe_unwiped_weak_key_test(const uint8_t *key, size_t key_length);

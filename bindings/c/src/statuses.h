@@ -44,3 +44,5 @@
 [CUKVASHE_ERR_NOT_SALTED] = "the bytes do not begin with Salted__",
 [CUKVASHE_ERR_SALT_LENGTH] = "the bytes end within the salt, or it does not have 0 or 8 bytes",
 [CUKVASHE_ERR_CONTEXT] = "the context is not one that the init of this type made",
+[CUKVASHE_ERR_MODE] = "the mode is not one that the call takes",
+[CUKVASHE_ERR_STREAM] = "the stream is not one that was begun",

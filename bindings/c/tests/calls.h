@@ -61,6 +61,45 @@ static void call_tdes_ede3_encrypt_cbc_to(void) { returned = cukvashe_tdes_ede3_
     (void *)rooms[0], blocks, (void *)rooms[1], 8 * count); }
 static void call_tdes_ede3_decrypt_cbc_to(void) { returned = cukvashe_tdes_ede3_decrypt_cbc_to((void *)contexts[2],
     (void *)rooms[0], blocks, (void *)rooms[1], 8 * count); }
+static void call_des_encrypt_mode(void) { returned = cukvashe_des_encrypt_mode((void *)contexts[0], CUKVASHE_CTR,
+    blocks, (void *)rooms[0], 8 * count); }
+static void call_des_decrypt_mode(void) { returned = cukvashe_des_decrypt_mode((void *)contexts[0], CUKVASHE_CTR,
+    blocks, (void *)rooms[0], 8 * count); }
+static void call_tdes_ede2_encrypt_mode(void) { returned = cukvashe_tdes_ede2_encrypt_mode((void *)contexts[1],
+    CUKVASHE_CTR, blocks, (void *)rooms[0], 8 * count); }
+static void call_tdes_ede2_decrypt_mode(void) { returned = cukvashe_tdes_ede2_decrypt_mode((void *)contexts[1],
+    CUKVASHE_CTR, blocks, (void *)rooms[0], 8 * count); }
+static void call_tdes_ede3_encrypt_mode(void) { returned = cukvashe_tdes_ede3_encrypt_mode((void *)contexts[2],
+    CUKVASHE_CTR, blocks, (void *)rooms[0], 8 * count); }
+static void call_tdes_ede3_decrypt_mode(void) { returned = cukvashe_tdes_ede3_decrypt_mode((void *)contexts[2],
+    CUKVASHE_CTR, blocks, (void *)rooms[0], 8 * count); }
+static void call_stream_begin(void) { returned = cukvashe_stream_begin((void *)rooms[0], CUKVASHE_CTR, blocks); }
+static void call_stream_begin_ctr_at(void) { cukvashe_stream_begin_ctr_at((void *)rooms[0], blocks, 1); }
+static void call_des_encrypt_stream(void) { returned = cukvashe_des_encrypt_stream((void *)contexts[0], &streams[0],
+    (void *)rooms[0], 8 * count); }
+static void call_des_decrypt_stream(void) { returned = cukvashe_des_decrypt_stream((void *)contexts[0], &streams[0],
+    (void *)rooms[0], 8 * count); }
+static void call_tdes_ede2_encrypt_stream(void) { returned = cukvashe_tdes_ede2_encrypt_stream((void *)contexts[1],
+    &streams[0], (void *)rooms[0], 8 * count); }
+static void call_tdes_ede2_decrypt_stream(void) { returned = cukvashe_tdes_ede2_decrypt_stream((void *)contexts[1],
+    &streams[0], (void *)rooms[0], 8 * count); }
+static void call_tdes_ede3_encrypt_stream(void) { returned = cukvashe_tdes_ede3_encrypt_stream((void *)contexts[2],
+    &streams[0], (void *)rooms[0], 8 * count); }
+static void call_tdes_ede3_decrypt_stream(void) { returned = cukvashe_tdes_ede3_decrypt_stream((void *)contexts[2],
+    &streams[0], (void *)rooms[0], 8 * count); }
+static void call_des_encrypt_stream_bits(void) { returned = cukvashe_des_encrypt_stream_bits((void *)contexts[0],
+    &streams[1], (void *)rooms[0], 8 * count - 3); }
+static void call_des_decrypt_stream_bits(void) { returned = cukvashe_des_decrypt_stream_bits((void *)contexts[0],
+    &streams[1], (void *)rooms[0], 8 * count - 3); }
+static void call_tdes_ede2_encrypt_stream_bits(void) { returned = cukvashe_tdes_ede2_encrypt_stream_bits((void *)contexts[1],
+    &streams[1], (void *)rooms[0], 8 * count - 3); }
+static void call_tdes_ede2_decrypt_stream_bits(void) { returned = cukvashe_tdes_ede2_decrypt_stream_bits((void *)contexts[1],
+    &streams[1], (void *)rooms[0], 8 * count - 3); }
+static void call_tdes_ede3_encrypt_stream_bits(void) { returned = cukvashe_tdes_ede3_encrypt_stream_bits((void *)contexts[2],
+    &streams[1], (void *)rooms[0], 8 * count - 3); }
+static void call_tdes_ede3_decrypt_stream_bits(void) { returned = cukvashe_tdes_ede3_decrypt_stream_bits((void *)contexts[2],
+    &streams[1], (void *)rooms[0], 8 * count - 3); }
+static void call_stream_position(void) { cukvashe_stream_position(&streams[0], (void *)rooms[0], (void *)rooms[1]); }
 static void call_des_encrypt_each(void) { returned = cukvashe_des_encrypt_each(keys, count, (void *)rooms[0],
     8 * count); }
 static void call_des_decrypt_each(void) { returned = cukvashe_des_decrypt_each(keys, count, (void *)rooms[0],
@@ -284,6 +323,7 @@ static void call_tdes_ede3_open_salted(void) { returned = cukvashe_tdes_ede3_ope
 static void call_des_size(void) { returned = cukvashe_des_size(); }
 static void call_tdes_ede2_size(void) { returned = cukvashe_tdes_ede2_size(); }
 static void call_tdes_ede3_size(void) { returned = cukvashe_tdes_ede3_size(); }
+static void call_stream_size(void) { returned = cukvashe_stream_size(); }
 static void call_cbc_mac_des_size(void) { returned = cukvashe_cbc_mac_des_size(); }
 static void call_cbc_mac_tdes_ede2_size(void) { returned = cukvashe_cbc_mac_tdes_ede2_size(); }
 static void call_cbc_mac_tdes_ede3_size(void) { returned = cukvashe_cbc_mac_tdes_ede3_size(); }
@@ -325,6 +365,11 @@ static void call_iso7816(void) { returned = cukvashe_iso7816(); }
 static void call_md5(void) { returned = cukvashe_md5(); }
 static void call_sha1(void) { returned = cukvashe_sha1(); }
 static void call_sha256(void) { returned = cukvashe_sha256(); }
+static void call_ctr(void) { returned = cukvashe_ctr(); }
+static void call_ofb(void) { returned = cukvashe_ofb(); }
+static void call_cfb1(void) { returned = cukvashe_cfb1(); }
+static void call_cfb8(void) { returned = cukvashe_cfb8(); }
+static void call_cfb64(void) { returned = cukvashe_cfb64(); }
 static void call_mac_padding_1(void) { returned = cukvashe_mac_padding_1(); }
 static void call_mac_padding_2(void) { returned = cukvashe_mac_padding_2(); }
 
@@ -363,6 +408,27 @@ static const struct call calls[] = {
     {"tdes_ede3_decrypt_cbc", call_tdes_ede3_decrypt_cbc, 27000, 0, 1, 1},
     {"tdes_ede3_encrypt_cbc_to", call_tdes_ede3_encrypt_cbc_to, 27000, 0, 1, 1},
     {"tdes_ede3_decrypt_cbc_to", call_tdes_ede3_decrypt_cbc_to, 27000, 0, 1, 1},
+    {"des_encrypt_mode", call_des_encrypt_mode, 32000, 0, 1, 1},
+    {"des_decrypt_mode", call_des_decrypt_mode, 32000, 0, 1, 1},
+    {"tdes_ede2_encrypt_mode", call_tdes_ede2_encrypt_mode, 32000, 0, 1, 1},
+    {"tdes_ede2_decrypt_mode", call_tdes_ede2_decrypt_mode, 32000, 0, 1, 1},
+    {"tdes_ede3_encrypt_mode", call_tdes_ede3_encrypt_mode, 32000, 0, 1, 1},
+    {"tdes_ede3_decrypt_mode", call_tdes_ede3_decrypt_mode, 32000, 0, 1, 1},
+    {"stream_begin", call_stream_begin, 6000, 0, 0, 1},
+    {"stream_begin_ctr_at", call_stream_begin_ctr_at, 6000, 0, 0, 1},
+    {"des_encrypt_stream", call_des_encrypt_stream, 32000, 0, 1, 1},
+    {"des_decrypt_stream", call_des_decrypt_stream, 32000, 0, 1, 1},
+    {"tdes_ede2_encrypt_stream", call_tdes_ede2_encrypt_stream, 32000, 0, 1, 1},
+    {"tdes_ede2_decrypt_stream", call_tdes_ede2_decrypt_stream, 32000, 0, 1, 1},
+    {"tdes_ede3_encrypt_stream", call_tdes_ede3_encrypt_stream, 32000, 0, 1, 1},
+    {"tdes_ede3_decrypt_stream", call_tdes_ede3_decrypt_stream, 32000, 0, 1, 1},
+    {"des_encrypt_stream_bits", call_des_encrypt_stream_bits, 32000, 0, 1, 1},
+    {"des_decrypt_stream_bits", call_des_decrypt_stream_bits, 32000, 0, 1, 1},
+    {"tdes_ede2_encrypt_stream_bits", call_tdes_ede2_encrypt_stream_bits, 32000, 0, 1, 1},
+    {"tdes_ede2_decrypt_stream_bits", call_tdes_ede2_decrypt_stream_bits, 32000, 0, 1, 1},
+    {"tdes_ede3_encrypt_stream_bits", call_tdes_ede3_encrypt_stream_bits, 32000, 0, 1, 1},
+    {"tdes_ede3_decrypt_stream_bits", call_tdes_ede3_decrypt_stream_bits, 32000, 0, 1, 1},
+    {"stream_position", call_stream_position, 6000, 0, 0, 1},
     {"des_encrypt_each", call_des_encrypt_each, 27000, 1, 1, 0},
     {"des_decrypt_each", call_des_decrypt_each, 27000, 1, 1, 0},
     {"tdes_ede2_encrypt_each", call_tdes_ede2_encrypt_each, 27000, 1, 1, 0},
@@ -492,6 +558,7 @@ static const struct call calls[] = {
     {"des_size", call_des_size, 6000, 0, 0, 0},
     {"tdes_ede2_size", call_tdes_ede2_size, 6000, 0, 0, 0},
     {"tdes_ede3_size", call_tdes_ede3_size, 6000, 0, 0, 0},
+    {"stream_size", call_stream_size, 6000, 0, 0, 0},
     {"cbc_mac_des_size", call_cbc_mac_des_size, 6000, 0, 0, 0},
     {"cbc_mac_tdes_ede2_size", call_cbc_mac_tdes_ede2_size, 6000, 0, 0, 0},
     {"cbc_mac_tdes_ede3_size", call_cbc_mac_tdes_ede3_size, 6000, 0, 0, 0},
@@ -533,6 +600,11 @@ static const struct call calls[] = {
     {"md5", call_md5, 6000, 0, 0, 0},
     {"sha1", call_sha1, 6000, 0, 0, 0},
     {"sha256", call_sha256, 6000, 0, 0, 0},
+    {"ctr", call_ctr, 6000, 0, 0, 0},
+    {"ofb", call_ofb, 6000, 0, 0, 0},
+    {"cfb1", call_cfb1, 6000, 0, 0, 0},
+    {"cfb8", call_cfb8, 6000, 0, 0, 0},
+    {"cfb64", call_cfb64, 6000, 0, 0, 0},
     {"mac_padding_1", call_mac_padding_1, 6000, 0, 0, 0},
     {"mac_padding_2", call_mac_padding_2, 6000, 0, 0, 0},
 };

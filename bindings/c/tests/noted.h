@@ -94,6 +94,26 @@ int cukvashe_internal_decrypt_cbc_records(const uint64_t *context, size_t contex
     (uintptr_t)vectors, (uintptr_t)vectors_count, (uintptr_t)counts, (uintptr_t)counts_count, (uintptr_t)blocks,
     (uintptr_t)blocks_count, (uintptr_t)size));
 }
+int cukvashe_internal_encrypt_stream(const uint64_t *context, size_t context_count, cukvashe_stream *stream,
+    uint8_t *bytes, size_t bytes_count) {
+  return noted("internal encrypt_stream", ARGUMENTS((uintptr_t)context, (uintptr_t)context_count, (uintptr_t)stream,
+    (uintptr_t)bytes, (uintptr_t)bytes_count));
+}
+int cukvashe_internal_decrypt_stream(const uint64_t *context, size_t context_count, cukvashe_stream *stream,
+    uint8_t *bytes, size_t bytes_count) {
+  return noted("internal decrypt_stream", ARGUMENTS((uintptr_t)context, (uintptr_t)context_count, (uintptr_t)stream,
+    (uintptr_t)bytes, (uintptr_t)bytes_count));
+}
+int cukvashe_internal_encrypt_mode(const uint64_t *context, size_t context_count, uint32_t mode, const uint8_t iv[8],
+    uint8_t *bytes, size_t bytes_count) {
+  return noted("internal encrypt_mode", ARGUMENTS((uintptr_t)context, (uintptr_t)context_count, (uintptr_t)mode,
+    (uintptr_t)iv, (uintptr_t)bytes, (uintptr_t)bytes_count));
+}
+int cukvashe_internal_decrypt_mode(const uint64_t *context, size_t context_count, uint32_t mode, const uint8_t iv[8],
+    uint8_t *bytes, size_t bytes_count) {
+  return noted("internal decrypt_mode", ARGUMENTS((uintptr_t)context, (uintptr_t)context_count, (uintptr_t)mode,
+    (uintptr_t)iv, (uintptr_t)bytes, (uintptr_t)bytes_count));
+}
 int cukvashe_internal_mac_init(uint32_t algorithm, uint64_t *context, size_t context_count, uint64_t message[4],
     const uint8_t *key, size_t key_count, uint32_t padding, bool no_tables) {
   return noted("internal mac_init", ARGUMENTS((uintptr_t)algorithm, (uintptr_t)context, (uintptr_t)context_count,
@@ -138,6 +158,16 @@ int cukvashe_internal_combine(const uint8_t *first, size_t first_count, const ui
     const uint8_t *others, size_t others_count, uint8_t *key, size_t key_count) {
   return noted("internal combine", ARGUMENTS((uintptr_t)first, (uintptr_t)first_count, (uintptr_t)second,
     (uintptr_t)second_count, (uintptr_t)others, (uintptr_t)others_count, (uintptr_t)key, (uintptr_t)key_count));
+}
+int cukvashe_internal_encrypt_stream_bits(const uint64_t *context, size_t context_count, cukvashe_stream *stream,
+    uint8_t *bytes, size_t bytes_count, size_t bits) {
+  return noted("internal encrypt_stream_bits", ARGUMENTS((uintptr_t)context, (uintptr_t)context_count,
+    (uintptr_t)stream, (uintptr_t)bytes, (uintptr_t)bytes_count, (uintptr_t)bits));
+}
+int cukvashe_internal_decrypt_stream_bits(const uint64_t *context, size_t context_count, cukvashe_stream *stream,
+    uint8_t *bytes, size_t bytes_count, size_t bits) {
+  return noted("internal decrypt_stream_bits", ARGUMENTS((uintptr_t)context, (uintptr_t)context_count,
+    (uintptr_t)stream, (uintptr_t)bytes, (uintptr_t)bytes_count, (uintptr_t)bits));
 }
 #if HAS_WIDE
 int cukvashe_wide_encrypt_ecb(const uint64_t *context, size_t context_count, uint8_t *blocks, size_t blocks_count,
@@ -214,6 +244,26 @@ int cukvashe_wide_decrypt_cbc_records(const uint64_t *context, size_t context_co
   return noted("wide decrypt_cbc_records", ARGUMENTS((uintptr_t)context, (uintptr_t)context_count, (uintptr_t)vectors,
     (uintptr_t)vectors_count, (uintptr_t)counts, (uintptr_t)counts_count, (uintptr_t)blocks, (uintptr_t)blocks_count,
     (uintptr_t)size));
+}
+int cukvashe_wide_encrypt_stream(const uint64_t *context, size_t context_count, cukvashe_stream *stream, uint8_t *bytes,
+    size_t bytes_count) {
+  return noted("wide encrypt_stream", ARGUMENTS((uintptr_t)context, (uintptr_t)context_count, (uintptr_t)stream,
+    (uintptr_t)bytes, (uintptr_t)bytes_count));
+}
+int cukvashe_wide_decrypt_stream(const uint64_t *context, size_t context_count, cukvashe_stream *stream, uint8_t *bytes,
+    size_t bytes_count) {
+  return noted("wide decrypt_stream", ARGUMENTS((uintptr_t)context, (uintptr_t)context_count, (uintptr_t)stream,
+    (uintptr_t)bytes, (uintptr_t)bytes_count));
+}
+int cukvashe_wide_encrypt_mode(const uint64_t *context, size_t context_count, uint32_t mode, const uint8_t iv[8],
+    uint8_t *bytes, size_t bytes_count) {
+  return noted("wide encrypt_mode", ARGUMENTS((uintptr_t)context, (uintptr_t)context_count, (uintptr_t)mode,
+    (uintptr_t)iv, (uintptr_t)bytes, (uintptr_t)bytes_count));
+}
+int cukvashe_wide_decrypt_mode(const uint64_t *context, size_t context_count, uint32_t mode, const uint8_t iv[8],
+    uint8_t *bytes, size_t bytes_count) {
+  return noted("wide decrypt_mode", ARGUMENTS((uintptr_t)context, (uintptr_t)context_count, (uintptr_t)mode,
+    (uintptr_t)iv, (uintptr_t)bytes, (uintptr_t)bytes_count));
 }
 #endif
 int cukvashe_unwiped_weak_key_test(const uint8_t *key, size_t key_length) {

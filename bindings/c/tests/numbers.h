@@ -3,6 +3,7 @@ static void gives_numbers(void) {
   CHECK(cukvashe_des_size() == sizeof(cukvashe_des));
   CHECK(cukvashe_tdes_ede2_size() == sizeof(cukvashe_tdes_ede2));
   CHECK(cukvashe_tdes_ede3_size() == sizeof(cukvashe_tdes_ede3));
+  CHECK(cukvashe_stream_size() == sizeof(cukvashe_stream));
   CHECK(cukvashe_cbc_mac_des_size() == sizeof(cukvashe_cbc_mac_des));
   CHECK(cukvashe_cbc_mac_tdes_ede2_size() == sizeof(cukvashe_cbc_mac_tdes_ede2));
   CHECK(cukvashe_cbc_mac_tdes_ede3_size() == sizeof(cukvashe_cbc_mac_tdes_ede3));
@@ -44,6 +45,11 @@ static void gives_numbers(void) {
   CHECK(cukvashe_md5() == 21);
   CHECK(cukvashe_sha1() == 22);
   CHECK(cukvashe_sha256() == 23);
+  CHECK(cukvashe_ctr() == 31);
+  CHECK(cukvashe_ofb() == 32);
+  CHECK(cukvashe_cfb1() == 40);
+  CHECK(cukvashe_cfb8() == 41);
+  CHECK(cukvashe_cfb64() == 48);
   CHECK(cukvashe_mac_padding_1() == 1);
   CHECK(cukvashe_mac_padding_2() == 2);
 }

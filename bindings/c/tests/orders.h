@@ -113,6 +113,81 @@ static int faulty_tdes_ede3_decrypt_cbc_to(const bool *has) {
   return cukvashe_tdes_ede3_decrypt_cbc_to(has[0] ? (void *)no_bytes : (void *)contexts[2], (void *)rooms[0], blocks,
     (void *)rooms[1], has[1] ? 8 * count + 1 : 8 * count);
 }
+static int faulty_des_encrypt_mode(const bool *has) {
+  return cukvashe_des_encrypt_mode(has[0] ? (void *)no_bytes : (void *)contexts[0], has[1] ? 0 : CUKVASHE_CTR, blocks,
+    (void *)rooms[0], 8 * count);
+}
+static int faulty_tdes_ede2_encrypt_mode(const bool *has) {
+  return cukvashe_tdes_ede2_encrypt_mode(has[0] ? (void *)no_bytes : (void *)contexts[1], has[1] ? 0 : CUKVASHE_CTR,
+    blocks, (void *)rooms[0], 8 * count);
+}
+static int faulty_tdes_ede3_encrypt_mode(const bool *has) {
+  return cukvashe_tdes_ede3_encrypt_mode(has[0] ? (void *)no_bytes : (void *)contexts[2], has[1] ? 0 : CUKVASHE_CTR,
+    blocks, (void *)rooms[0], 8 * count);
+}
+static int faulty_des_decrypt_mode(const bool *has) {
+  return cukvashe_des_decrypt_mode(has[0] ? (void *)no_bytes : (void *)contexts[0], has[1] ? 0 : CUKVASHE_CTR, blocks,
+    (void *)rooms[0], 8 * count);
+}
+static int faulty_tdes_ede2_decrypt_mode(const bool *has) {
+  return cukvashe_tdes_ede2_decrypt_mode(has[0] ? (void *)no_bytes : (void *)contexts[1], has[1] ? 0 : CUKVASHE_CTR,
+    blocks, (void *)rooms[0], 8 * count);
+}
+static int faulty_tdes_ede3_decrypt_mode(const bool *has) {
+  return cukvashe_tdes_ede3_decrypt_mode(has[0] ? (void *)no_bytes : (void *)contexts[2], has[1] ? 0 : CUKVASHE_CTR,
+    blocks, (void *)rooms[0], 8 * count);
+}
+static int faulty_stream_begin(const bool *has) {
+  return cukvashe_stream_begin((void *)rooms[0], has[0] ? 0 : CUKVASHE_CTR, blocks);
+}
+static int faulty_des_encrypt_stream(const bool *has) {
+  return cukvashe_des_encrypt_stream(has[0] ? (void *)no_bytes : (void *)contexts[0],
+    has[1] ? (void *)no_bytes : &streams[0], (void *)rooms[0], 8 * count);
+}
+static int faulty_tdes_ede2_encrypt_stream(const bool *has) {
+  return cukvashe_tdes_ede2_encrypt_stream(has[0] ? (void *)no_bytes : (void *)contexts[1],
+    has[1] ? (void *)no_bytes : &streams[0], (void *)rooms[0], 8 * count);
+}
+static int faulty_tdes_ede3_encrypt_stream(const bool *has) {
+  return cukvashe_tdes_ede3_encrypt_stream(has[0] ? (void *)no_bytes : (void *)contexts[2],
+    has[1] ? (void *)no_bytes : &streams[0], (void *)rooms[0], 8 * count);
+}
+static int faulty_des_decrypt_stream(const bool *has) {
+  return cukvashe_des_decrypt_stream(has[0] ? (void *)no_bytes : (void *)contexts[0],
+    has[1] ? (void *)no_bytes : &streams[0], (void *)rooms[0], 8 * count);
+}
+static int faulty_tdes_ede2_decrypt_stream(const bool *has) {
+  return cukvashe_tdes_ede2_decrypt_stream(has[0] ? (void *)no_bytes : (void *)contexts[1],
+    has[1] ? (void *)no_bytes : &streams[0], (void *)rooms[0], 8 * count);
+}
+static int faulty_tdes_ede3_decrypt_stream(const bool *has) {
+  return cukvashe_tdes_ede3_decrypt_stream(has[0] ? (void *)no_bytes : (void *)contexts[2],
+    has[1] ? (void *)no_bytes : &streams[0], (void *)rooms[0], 8 * count);
+}
+static int faulty_des_encrypt_stream_bits(const bool *has) {
+  return cukvashe_des_encrypt_stream_bits(has[0] ? (void *)no_bytes : (void *)contexts[0],
+    has[1] ? (void *)no_bytes : has[2] ? &streams[0] : &streams[1], (void *)rooms[0], 8 * count - 3);
+}
+static int faulty_tdes_ede2_encrypt_stream_bits(const bool *has) {
+  return cukvashe_tdes_ede2_encrypt_stream_bits(has[0] ? (void *)no_bytes : (void *)contexts[1],
+    has[1] ? (void *)no_bytes : has[2] ? &streams[0] : &streams[1], (void *)rooms[0], 8 * count - 3);
+}
+static int faulty_tdes_ede3_encrypt_stream_bits(const bool *has) {
+  return cukvashe_tdes_ede3_encrypt_stream_bits(has[0] ? (void *)no_bytes : (void *)contexts[2],
+    has[1] ? (void *)no_bytes : has[2] ? &streams[0] : &streams[1], (void *)rooms[0], 8 * count - 3);
+}
+static int faulty_des_decrypt_stream_bits(const bool *has) {
+  return cukvashe_des_decrypt_stream_bits(has[0] ? (void *)no_bytes : (void *)contexts[0],
+    has[1] ? (void *)no_bytes : has[2] ? &streams[0] : &streams[1], (void *)rooms[0], 8 * count - 3);
+}
+static int faulty_tdes_ede2_decrypt_stream_bits(const bool *has) {
+  return cukvashe_tdes_ede2_decrypt_stream_bits(has[0] ? (void *)no_bytes : (void *)contexts[1],
+    has[1] ? (void *)no_bytes : has[2] ? &streams[0] : &streams[1], (void *)rooms[0], 8 * count - 3);
+}
+static int faulty_tdes_ede3_decrypt_stream_bits(const bool *has) {
+  return cukvashe_tdes_ede3_decrypt_stream_bits(has[0] ? (void *)no_bytes : (void *)contexts[2],
+    has[1] ? (void *)no_bytes : has[2] ? &streams[0] : &streams[1], (void *)rooms[0], 8 * count - 3);
+}
 static int faulty_des_encrypt_each(const bool *has) {
   return cukvashe_des_encrypt_each(keys, has[1] ? count + 1 : count, (void *)rooms[0],
     has[0] ? 8 * count + 1 : 8 * count);
@@ -552,6 +627,31 @@ static const struct order orders[] = {
     {"tdes_ede3_decrypt_cbc", faulty_tdes_ede3_decrypt_cbc, {CUKVASHE_ERR_CONTEXT, CUKVASHE_ERR_BLOCKS}},
     {"tdes_ede3_encrypt_cbc_to", faulty_tdes_ede3_encrypt_cbc_to, {CUKVASHE_ERR_CONTEXT, CUKVASHE_ERR_BLOCKS}},
     {"tdes_ede3_decrypt_cbc_to", faulty_tdes_ede3_decrypt_cbc_to, {CUKVASHE_ERR_CONTEXT, CUKVASHE_ERR_BLOCKS}},
+    {"des_encrypt_mode", faulty_des_encrypt_mode, {CUKVASHE_ERR_CONTEXT, CUKVASHE_ERR_MODE}},
+    {"tdes_ede2_encrypt_mode", faulty_tdes_ede2_encrypt_mode, {CUKVASHE_ERR_CONTEXT, CUKVASHE_ERR_MODE}},
+    {"tdes_ede3_encrypt_mode", faulty_tdes_ede3_encrypt_mode, {CUKVASHE_ERR_CONTEXT, CUKVASHE_ERR_MODE}},
+    {"des_decrypt_mode", faulty_des_decrypt_mode, {CUKVASHE_ERR_CONTEXT, CUKVASHE_ERR_MODE}},
+    {"tdes_ede2_decrypt_mode", faulty_tdes_ede2_decrypt_mode, {CUKVASHE_ERR_CONTEXT, CUKVASHE_ERR_MODE}},
+    {"tdes_ede3_decrypt_mode", faulty_tdes_ede3_decrypt_mode, {CUKVASHE_ERR_CONTEXT, CUKVASHE_ERR_MODE}},
+    {"stream_begin", faulty_stream_begin, {CUKVASHE_ERR_MODE}},
+    {"des_encrypt_stream", faulty_des_encrypt_stream, {CUKVASHE_ERR_CONTEXT, CUKVASHE_ERR_STREAM}},
+    {"tdes_ede2_encrypt_stream", faulty_tdes_ede2_encrypt_stream, {CUKVASHE_ERR_CONTEXT, CUKVASHE_ERR_STREAM}},
+    {"tdes_ede3_encrypt_stream", faulty_tdes_ede3_encrypt_stream, {CUKVASHE_ERR_CONTEXT, CUKVASHE_ERR_STREAM}},
+    {"des_decrypt_stream", faulty_des_decrypt_stream, {CUKVASHE_ERR_CONTEXT, CUKVASHE_ERR_STREAM}},
+    {"tdes_ede2_decrypt_stream", faulty_tdes_ede2_decrypt_stream, {CUKVASHE_ERR_CONTEXT, CUKVASHE_ERR_STREAM}},
+    {"tdes_ede3_decrypt_stream", faulty_tdes_ede3_decrypt_stream, {CUKVASHE_ERR_CONTEXT, CUKVASHE_ERR_STREAM}},
+    {"des_encrypt_stream_bits", faulty_des_encrypt_stream_bits, {CUKVASHE_ERR_CONTEXT, CUKVASHE_ERR_STREAM,
+    CUKVASHE_ERR_MODE}},
+    {"tdes_ede2_encrypt_stream_bits", faulty_tdes_ede2_encrypt_stream_bits, {CUKVASHE_ERR_CONTEXT, CUKVASHE_ERR_STREAM,
+    CUKVASHE_ERR_MODE}},
+    {"tdes_ede3_encrypt_stream_bits", faulty_tdes_ede3_encrypt_stream_bits, {CUKVASHE_ERR_CONTEXT, CUKVASHE_ERR_STREAM,
+    CUKVASHE_ERR_MODE}},
+    {"des_decrypt_stream_bits", faulty_des_decrypt_stream_bits, {CUKVASHE_ERR_CONTEXT, CUKVASHE_ERR_STREAM,
+    CUKVASHE_ERR_MODE}},
+    {"tdes_ede2_decrypt_stream_bits", faulty_tdes_ede2_decrypt_stream_bits, {CUKVASHE_ERR_CONTEXT, CUKVASHE_ERR_STREAM,
+    CUKVASHE_ERR_MODE}},
+    {"tdes_ede3_decrypt_stream_bits", faulty_tdes_ede3_decrypt_stream_bits, {CUKVASHE_ERR_CONTEXT, CUKVASHE_ERR_STREAM,
+    CUKVASHE_ERR_MODE}},
     {"des_encrypt_each", faulty_des_encrypt_each, {CUKVASHE_ERR_BLOCKS, CUKVASHE_ERR_COUNTS}},
     {"des_decrypt_each", faulty_des_decrypt_each, {CUKVASHE_ERR_BLOCKS, CUKVASHE_ERR_COUNTS}},
     {"tdes_ede2_encrypt_each", faulty_tdes_ede2_encrypt_each, {CUKVASHE_ERR_BLOCKS, CUKVASHE_ERR_COUNTS}},

@@ -3,7 +3,8 @@
 import ctypes
 from typing import Any, Dict, Tuple
 
-POINTER, SIZE, INT, BOOL, TEXT = ctypes.c_void_p, ctypes.c_size_t, ctypes.c_int, ctypes.c_bool, ctypes.c_char_p
+POINTER, SIZE, UINT64 = ctypes.c_void_p, ctypes.c_size_t, ctypes.c_uint64
+INT, BOOL, TEXT = ctypes.c_int, ctypes.c_bool, ctypes.c_char_p
 
 CALLS: Dict[str, Tuple[Any, ...]] = {
     "version": (TEXT,),
@@ -39,6 +40,27 @@ CALLS: Dict[str, Tuple[Any, ...]] = {
     "tdes_ede3_decrypt_cbc": (INT, POINTER, POINTER, POINTER, SIZE),
     "tdes_ede3_encrypt_cbc_to": (INT, POINTER, POINTER, POINTER, POINTER, SIZE),
     "tdes_ede3_decrypt_cbc_to": (INT, POINTER, POINTER, POINTER, POINTER, SIZE),
+    "des_encrypt_mode": (INT, POINTER, INT, POINTER, POINTER, SIZE),
+    "des_decrypt_mode": (INT, POINTER, INT, POINTER, POINTER, SIZE),
+    "tdes_ede2_encrypt_mode": (INT, POINTER, INT, POINTER, POINTER, SIZE),
+    "tdes_ede2_decrypt_mode": (INT, POINTER, INT, POINTER, POINTER, SIZE),
+    "tdes_ede3_encrypt_mode": (INT, POINTER, INT, POINTER, POINTER, SIZE),
+    "tdes_ede3_decrypt_mode": (INT, POINTER, INT, POINTER, POINTER, SIZE),
+    "stream_begin": (INT, POINTER, INT, POINTER),
+    "stream_begin_ctr_at": (None, POINTER, POINTER, UINT64),
+    "des_encrypt_stream": (INT, POINTER, POINTER, POINTER, SIZE),
+    "des_decrypt_stream": (INT, POINTER, POINTER, POINTER, SIZE),
+    "tdes_ede2_encrypt_stream": (INT, POINTER, POINTER, POINTER, SIZE),
+    "tdes_ede2_decrypt_stream": (INT, POINTER, POINTER, POINTER, SIZE),
+    "tdes_ede3_encrypt_stream": (INT, POINTER, POINTER, POINTER, SIZE),
+    "tdes_ede3_decrypt_stream": (INT, POINTER, POINTER, POINTER, SIZE),
+    "des_encrypt_stream_bits": (INT, POINTER, POINTER, POINTER, SIZE),
+    "des_decrypt_stream_bits": (INT, POINTER, POINTER, POINTER, SIZE),
+    "tdes_ede2_encrypt_stream_bits": (INT, POINTER, POINTER, POINTER, SIZE),
+    "tdes_ede2_decrypt_stream_bits": (INT, POINTER, POINTER, POINTER, SIZE),
+    "tdes_ede3_encrypt_stream_bits": (INT, POINTER, POINTER, POINTER, SIZE),
+    "tdes_ede3_decrypt_stream_bits": (INT, POINTER, POINTER, POINTER, SIZE),
+    "stream_position": (None, POINTER, POINTER, POINTER),
     "des_encrypt_each": (INT, POINTER, SIZE, POINTER, SIZE),
     "des_decrypt_each": (INT, POINTER, SIZE, POINTER, SIZE),
     "tdes_ede2_encrypt_each": (INT, POINTER, SIZE, POINTER, SIZE),
@@ -168,6 +190,7 @@ CALLS: Dict[str, Tuple[Any, ...]] = {
     "des_size": (SIZE,),
     "tdes_ede2_size": (SIZE,),
     "tdes_ede3_size": (SIZE,),
+    "stream_size": (SIZE,),
     "cbc_mac_des_size": (SIZE,),
     "cbc_mac_tdes_ede2_size": (SIZE,),
     "cbc_mac_tdes_ede3_size": (SIZE,),
@@ -209,6 +232,11 @@ CALLS: Dict[str, Tuple[Any, ...]] = {
     "md5": (INT,),
     "sha1": (INT,),
     "sha256": (INT,),
+    "ctr": (INT,),
+    "ofb": (INT,),
+    "cfb1": (INT,),
+    "cfb8": (INT,),
+    "cfb64": (INT,),
     "mac_padding_1": (INT,),
     "mac_padding_2": (INT,),
 }
@@ -217,6 +245,7 @@ WORDS = {
     "des": 17,
     "tdes_ede2": 33,
     "tdes_ede3": 49,
+    "stream": 4,
     "cbc_mac_des": 21,
     "cbc_mac_tdes_ede2": 37,
     "cbc_mac_tdes_ede3": 53,

@@ -45,6 +45,8 @@ ITERATIONS = 41
 NOT_SALTED = 42
 SALT_LENGTH = 43
 CONTEXT = 44
+MODE = 45
+STREAM = 46
 
 SENTENCES = (
     "success",
@@ -92,6 +94,8 @@ SENTENCES = (
     "the bytes do not begin with Salted__",
     "the bytes end within the salt, or it does not have 0 or 8 bytes",
     "the context is not one that the init of this type made",
+    "the mode is not one that the call takes",
+    "the stream is not one that was begun",
 )
 
 # The error of each status that is one by itself.

@@ -49,13 +49,15 @@ pub const ITERATIONS: c_int = 41;
 pub const NOT_SALTED: c_int = 42;
 pub const SALT_LENGTH: c_int = 43;
 pub const CONTEXT: c_int = 44;
+pub const MODE: c_int = 45;
+pub const STREAM: c_int = 46;
 
 /// The sentence of a status.
 pub fn sentence(status: c_int) -> &'static str {
     SENTENCES[status as usize]
 }
 
-const SENTENCES: [&str; 45] = [
+const SENTENCES: [&str; 47] = [
     "success",
     "the key does not have a length that the call takes",
     "the length is not a multiple of 8 bytes",
@@ -101,4 +103,6 @@ const SENTENCES: [&str; 45] = [
     "the bytes do not begin with Salted__",
     "the bytes end within the salt, or it does not have 0 or 8 bytes",
     "the context is not one that the init of this type made",
+    "the mode is not one that the call takes",
+    "the stream is not one that was begun",
 ];

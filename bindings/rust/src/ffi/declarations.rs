@@ -13,12 +13,18 @@ pub const ISO7816: c_int = 12;
 pub const MD5: c_int = 21;
 pub const SHA1: c_int = 22;
 pub const SHA256: c_int = 23;
+pub const CTR: c_int = 31;
+pub const OFB: c_int = 32;
+pub const CFB1: c_int = 40;
+pub const CFB8: c_int = 41;
+pub const CFB64: c_int = 48;
 pub const MAC_PADDING_1: c_int = 1;
 pub const MAC_PADDING_2: c_int = 2;
 
 pub type Des = Context<17>;
 pub type TdesEde2 = Context<33>;
 pub type TdesEde3 = Context<49>;
+pub type Stream = Context<4>;
 pub type CbcMacDes = Context<21>;
 pub type CbcMacTdesEde2 = Context<37>;
 pub type CbcMacTdesEde3 = Context<53>;
@@ -191,6 +197,113 @@ extern "C" {
         output: *mut u8,
         length: usize,
     ) -> c_int;
+    pub fn cukvashe_des_encrypt_mode(
+        context: *const Des,
+        mode: c_int,
+        iv: *const [u8; 8],
+        data: *mut u8,
+        length: usize,
+    ) -> c_int;
+    pub fn cukvashe_des_decrypt_mode(
+        context: *const Des,
+        mode: c_int,
+        iv: *const [u8; 8],
+        data: *mut u8,
+        length: usize,
+    ) -> c_int;
+    pub fn cukvashe_tdes_ede2_encrypt_mode(
+        context: *const TdesEde2,
+        mode: c_int,
+        iv: *const [u8; 8],
+        data: *mut u8,
+        length: usize,
+    ) -> c_int;
+    pub fn cukvashe_tdes_ede2_decrypt_mode(
+        context: *const TdesEde2,
+        mode: c_int,
+        iv: *const [u8; 8],
+        data: *mut u8,
+        length: usize,
+    ) -> c_int;
+    pub fn cukvashe_tdes_ede3_encrypt_mode(
+        context: *const TdesEde3,
+        mode: c_int,
+        iv: *const [u8; 8],
+        data: *mut u8,
+        length: usize,
+    ) -> c_int;
+    pub fn cukvashe_tdes_ede3_decrypt_mode(
+        context: *const TdesEde3,
+        mode: c_int,
+        iv: *const [u8; 8],
+        data: *mut u8,
+        length: usize,
+    ) -> c_int;
+    pub fn cukvashe_stream_begin(stream: *mut Stream, mode: c_int, iv: *const [u8; 8]) -> c_int;
+    pub fn cukvashe_stream_begin_ctr_at(stream: *mut Stream, counter: *const [u8; 8], blocks: u64);
+    pub fn cukvashe_des_encrypt_stream(context: *const Des, stream: *mut Stream, data: *mut u8, length: usize) -> c_int;
+    pub fn cukvashe_des_decrypt_stream(context: *const Des, stream: *mut Stream, data: *mut u8, length: usize) -> c_int;
+    pub fn cukvashe_tdes_ede2_encrypt_stream(
+        context: *const TdesEde2,
+        stream: *mut Stream,
+        data: *mut u8,
+        length: usize,
+    ) -> c_int;
+    pub fn cukvashe_tdes_ede2_decrypt_stream(
+        context: *const TdesEde2,
+        stream: *mut Stream,
+        data: *mut u8,
+        length: usize,
+    ) -> c_int;
+    pub fn cukvashe_tdes_ede3_encrypt_stream(
+        context: *const TdesEde3,
+        stream: *mut Stream,
+        data: *mut u8,
+        length: usize,
+    ) -> c_int;
+    pub fn cukvashe_tdes_ede3_decrypt_stream(
+        context: *const TdesEde3,
+        stream: *mut Stream,
+        data: *mut u8,
+        length: usize,
+    ) -> c_int;
+    pub fn cukvashe_des_encrypt_stream_bits(
+        context: *const Des,
+        stream: *mut Stream,
+        data: *mut u8,
+        bits: usize,
+    ) -> c_int;
+    pub fn cukvashe_des_decrypt_stream_bits(
+        context: *const Des,
+        stream: *mut Stream,
+        data: *mut u8,
+        bits: usize,
+    ) -> c_int;
+    pub fn cukvashe_tdes_ede2_encrypt_stream_bits(
+        context: *const TdesEde2,
+        stream: *mut Stream,
+        data: *mut u8,
+        bits: usize,
+    ) -> c_int;
+    pub fn cukvashe_tdes_ede2_decrypt_stream_bits(
+        context: *const TdesEde2,
+        stream: *mut Stream,
+        data: *mut u8,
+        bits: usize,
+    ) -> c_int;
+    pub fn cukvashe_tdes_ede3_encrypt_stream_bits(
+        context: *const TdesEde3,
+        stream: *mut Stream,
+        data: *mut u8,
+        bits: usize,
+    ) -> c_int;
+    pub fn cukvashe_tdes_ede3_decrypt_stream_bits(
+        context: *const TdesEde3,
+        stream: *mut Stream,
+        data: *mut u8,
+        bits: usize,
+    ) -> c_int;
+    pub fn cukvashe_stream_position(stream: *const Stream, iv: *mut [u8; 8], used: *mut usize);
     pub fn cukvashe_des_encrypt_each(keys: *const u8, count: usize, blocks: *mut u8, length: usize) -> c_int;
     pub fn cukvashe_des_decrypt_each(keys: *const u8, count: usize, blocks: *mut u8, length: usize) -> c_int;
     pub fn cukvashe_tdes_ede2_encrypt_each(keys: *const u8, count: usize, blocks: *mut u8, length: usize) -> c_int;
@@ -789,6 +902,7 @@ extern "C" {
     pub fn cukvashe_des_size() -> usize;
     pub fn cukvashe_tdes_ede2_size() -> usize;
     pub fn cukvashe_tdes_ede3_size() -> usize;
+    pub fn cukvashe_stream_size() -> usize;
     pub fn cukvashe_cbc_mac_des_size() -> usize;
     pub fn cukvashe_cbc_mac_tdes_ede2_size() -> usize;
     pub fn cukvashe_cbc_mac_tdes_ede3_size() -> usize;
@@ -830,6 +944,11 @@ extern "C" {
     pub fn cukvashe_md5() -> c_int;
     pub fn cukvashe_sha1() -> c_int;
     pub fn cukvashe_sha256() -> c_int;
+    pub fn cukvashe_ctr() -> c_int;
+    pub fn cukvashe_ofb() -> c_int;
+    pub fn cukvashe_cfb1() -> c_int;
+    pub fn cukvashe_cfb8() -> c_int;
+    pub fn cukvashe_cfb64() -> c_int;
     pub fn cukvashe_mac_padding_1() -> c_int;
     pub fn cukvashe_mac_padding_2() -> c_int;
 }
