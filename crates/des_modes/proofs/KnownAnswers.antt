@@ -6,12 +6,15 @@ use Rattle.des.specs.Bits.{xor, bits_of, bits_of_bytes, number_of, select, xor_b
 use Rattle.des.specs.Blocks.{block_of_bits}
 use Rattle.des.specs.CipherFunction.{box_entry, substitute_by, cipher_function}
 use Rattle.des.specs.KeySchedule.{c_half, d_half, rotate, shifts_through, round_key, key_schedule}
+use Rattle.des.specs.Cbc.{xor_blocks}
+use Rattle.des.specs.TripleCiphers.{ede3_encryption}
 use Rattle.des.specs.Rounds.{after_rounds, through_rounds}
 use Rattle.des_modes.specs.Cfb.{Cfb}
 use Rattle.des_modes.specs.CfbBits.{Cfb1, cfb_bits}
 use Rattle.des_modes.specs.Ctr.{counter_block}
 use Rattle.des_modes.specs.Ofb.{Ofb}
 use Rattle.des_modes.specs.Streams.{Xors}
+use Rattle.des_modes.specs.Tkw.{tkw}
 
 -- elements under the xor with a key stream from element n on
 abbrev xored : {A : Type 0} → (A → A → A) → (ℕ → A) → ℕ → List A → List A
@@ -77,6 +80,17 @@ unfolding encryption vector text in_cfb_64 bits_of bits_of_bytes block_of_bits s
     cipher_function xor_bits round_key c_half d_half rotate shifts_through key_schedule after_rounds through_rounds key
 known_cfb_64 = Xors-xored bit_xor 0 _ text in_cfb_64 refl
 
+-- in segments of 48 bits (OpenSSL's test/destest.c)
+in_cfb_48 : List ℕ
+in_cfb_48 =
+    0xf3 ∷ 0x09 ∷ 0x62 ∷ 0x49 ∷ 0xc7 ∷ 0xf4 ∷ 0x30 ∷ 0xb5 ∷ 0x15 ∷ 0xec ∷ 0xbb ∷ 0x85 ∷
+    0x97 ∷ 0x5a ∷ 0x13 ∷ 0x8c ∷ 0x68 ∷ 0x60 ∷ 0xe2 ∷ 0x38 ∷ 0x34 ∷ 0x3c ∷ 0xdc ∷ 0x1f ∷ []
+
+known_cfb_48 : Cfb 6 encryption vector text in_cfb_48
+unfolding encryption vector text in_cfb_48 bits_of bits_of_bytes block_of_bits select substitute_by box_entry number_of
+    cipher_function xor_bits round_key c_half d_half rotate shifts_through key_schedule after_rounds through_rounds key
+known_cfb_48 = Xors-xored bit_xor 0 _ text in_cfb_48 refl
+
 -- the first eight bytes
 known_cfb_8 : Cfb 1 encryption vector (take 8 text) in_cfb_8
 unfolding encryption vector text in_cfb_8 bits_of bits_of_bytes block_of_bits select substitute_by box_entry number_of
@@ -94,3 +108,16 @@ known_cfb_1 =
 known_counter : counter_block (0xff ∷ 0xff ∷ 0xff ∷ 0xff ∷ 0xff ∷ 0xff ∷ 0xff ∷ 0xfe ∷ []) 3
     ≡ 0x00 ∷ 0x00 ∷ 0x00 ∷ 0x00 ∷ 0x00 ∷ 0x00 ∷ 0x00 ∷ 0x01 ∷ []
 known_counter = refl
+
+-- a value of NIST's validation program for key wrap, of TKW with three keys
+wrapping_key : List ℕ
+wrapping_key =
+    0x12 ∷ 0xb8 ∷ 0x4c ∷ 0x66 ∷ 0x31 ∷ 0x20 ∷ 0xc1 ∷ 0x96 ∷ 0xf8 ∷ 0xfc ∷ 0x17 ∷ 0x42 ∷
+    0x8b ∷ 0xc8 ∷ 0x6a ∷ 0x11 ∷ 0x0d ∷ 0x92 ∷ 0xcc ∷ 0x7c ∷ 0x4d ∷ 0x3c ∷ 0xb6 ∷ 0x95 ∷ []
+
+known_tkw : tkw (ede3_encryption wrapping_key)
+    ((0xef ∷ 0x7d ∷ 0xa3 ∷ 0xda ∷ []) ∷ (0x91 ∷ 0x8d ∷ 0x06 ∷ 0x79 ∷ []) ∷ [])
+    ≡ (0x7a ∷ 0x72 ∷ 0xbb ∷ 0xca ∷ []) ∷ (0x3a ∷ 0xa3 ∷ 0x23 ∷ 0xaa ∷ []) ∷ (0x1a ∷ 0xc2 ∷ 0x31 ∷ 0xba ∷ []) ∷ []
+unfolding wrapping_key xor_blocks bits_of bits_of_bytes block_of_bits select substitute_by box_entry number_of
+    cipher_function xor_bits round_key c_half d_half rotate shifts_through key_schedule after_rounds through_rounds
+known_tkw = refl

@@ -74,12 +74,6 @@ next_place words t n size some = elim (cases_lt (t % n + 1) n) [
       ∙ sym (first_place words ((t + 1) % n) none)
 ]
 
--- the halves of a block that was decrypted, encrypted again
-pub encrypted_again : (E : List ℕ → List ℕ) (block a w decrypted first second : List ℕ) → first ≡ take 4 decrypted
-    → second ≡ drop 4 decrypted → E decrypted ≡ block → block ≡ a ++ w → E (first ++ second) ≡ a ++ w
-encrypted_again E block a w decrypted first second is_first is_second undoes joined =
-    ap E (ap₂ ◌++◌ is_first is_second ∙ take-append-drop 4 decrypted) ∙ undoes ∙ joined
-
 -- ---- the semiblocks that the steps were made of
 
 -- two lists with one more element each

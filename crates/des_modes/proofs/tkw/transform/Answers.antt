@@ -1,5 +1,5 @@
 -- A step more.
-use Rattle.std.proofs.Common.{◌≡◌, ℕ, ◌+◌, ◌*◌, ◌-◌, ◌%◌, ◌<◌, List, [], ◌∷◌, ◌++◌, length, set, take, drop, ap, sym, ◌∙◌, arith}
+use Rattle.std.proofs.Common.{◌≡◌, ℕ, ◌+◌, ◌*◌, ◌-◌, ◌%◌, ◌<◌, List, [], ◌∷◌, ◌++◌, length, set, take, ap, sym, ◌∙◌, arith}
 use Rattle.std.proofs.Math.Nat.{mod-lt, mul-mod_left, zero-mod}
 use Rattle.std.proofs.lemmas.List.{take_more_set, drop-set-lt, length-set}
 use Rattle.des_modes.specs.Tkw.{tw_step, tw_steps}

@@ -1,5 +1,5 @@
 -- The steps after the index are undone.
-use Rattle.std.proofs.Common.{◌≡◌, ◌≤◌, ◌-◌, ◌*◌, ◌%◌, ◌∷◌, ◌++◌, length, take, drop}
+use Rattle.std.proofs.Common.{◌≡◌, ◌≤◌, ◌-◌, ◌*◌, ◌%◌, ◌∷◌, ◌++◌, take, drop}
 use Rattle.des_modes.specs.Tkw.{tw_steps}
 use Rattle.des_modes.proofs.tkw.transform_back.Given as goal
 
