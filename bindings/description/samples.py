@@ -35,7 +35,8 @@ EXCEPTIONS = {
     "pin_translate_to_1.block": "sent + 8", "pin_translate_to_1.translation": "&translations[1]",
     "tdes_ede2_open_salted.hash": "CUKVASHE_MD5", "tdes_*_open_salted.iterations": "0", "unpad.length": "80",
     "*_open_salted.length": "sizeof salted", "*_open_salted.capacity": "sizeof salted",
-    "stream_begin*.stream": "(void *)rooms[0]", "*_stream_bits.stream": "&streams[1]", "*.stream": "&streams[0]",
+    "stream_begin*.stream": "(void *)rooms[0]", "*_stream_bits.stream": "&streams[1]",
+    "*_decrypt_stream.stream": "&streams[2]", "*_decrypt_mode.mode": "CUKVASHE_CFB64", "*.stream": "&streams[0]",
 }  # fmt: skip
 
 

@@ -63,30 +63,30 @@ static void call_tdes_ede3_decrypt_cbc_to(void) { returned = cukvashe_tdes_ede3_
     (void *)rooms[0], blocks, (void *)rooms[1], 8 * count); }
 static void call_des_encrypt_mode(void) { returned = cukvashe_des_encrypt_mode((void *)contexts[0], CUKVASHE_CTR,
     blocks, (void *)rooms[0], 8 * count); }
-static void call_des_decrypt_mode(void) { returned = cukvashe_des_decrypt_mode((void *)contexts[0], CUKVASHE_CTR,
+static void call_des_decrypt_mode(void) { returned = cukvashe_des_decrypt_mode((void *)contexts[0], CUKVASHE_CFB64,
     blocks, (void *)rooms[0], 8 * count); }
 static void call_tdes_ede2_encrypt_mode(void) { returned = cukvashe_tdes_ede2_encrypt_mode((void *)contexts[1],
     CUKVASHE_CTR, blocks, (void *)rooms[0], 8 * count); }
 static void call_tdes_ede2_decrypt_mode(void) { returned = cukvashe_tdes_ede2_decrypt_mode((void *)contexts[1],
-    CUKVASHE_CTR, blocks, (void *)rooms[0], 8 * count); }
+    CUKVASHE_CFB64, blocks, (void *)rooms[0], 8 * count); }
 static void call_tdes_ede3_encrypt_mode(void) { returned = cukvashe_tdes_ede3_encrypt_mode((void *)contexts[2],
     CUKVASHE_CTR, blocks, (void *)rooms[0], 8 * count); }
 static void call_tdes_ede3_decrypt_mode(void) { returned = cukvashe_tdes_ede3_decrypt_mode((void *)contexts[2],
-    CUKVASHE_CTR, blocks, (void *)rooms[0], 8 * count); }
+    CUKVASHE_CFB64, blocks, (void *)rooms[0], 8 * count); }
 static void call_stream_begin(void) { returned = cukvashe_stream_begin((void *)rooms[0], CUKVASHE_CTR, blocks); }
 static void call_stream_begin_ctr_at(void) { cukvashe_stream_begin_ctr_at((void *)rooms[0], blocks, 1); }
 static void call_des_encrypt_stream(void) { returned = cukvashe_des_encrypt_stream((void *)contexts[0], &streams[0],
     (void *)rooms[0], 8 * count); }
-static void call_des_decrypt_stream(void) { returned = cukvashe_des_decrypt_stream((void *)contexts[0], &streams[0],
+static void call_des_decrypt_stream(void) { returned = cukvashe_des_decrypt_stream((void *)contexts[0], &streams[2],
     (void *)rooms[0], 8 * count); }
 static void call_tdes_ede2_encrypt_stream(void) { returned = cukvashe_tdes_ede2_encrypt_stream((void *)contexts[1],
     &streams[0], (void *)rooms[0], 8 * count); }
 static void call_tdes_ede2_decrypt_stream(void) { returned = cukvashe_tdes_ede2_decrypt_stream((void *)contexts[1],
-    &streams[0], (void *)rooms[0], 8 * count); }
+    &streams[2], (void *)rooms[0], 8 * count); }
 static void call_tdes_ede3_encrypt_stream(void) { returned = cukvashe_tdes_ede3_encrypt_stream((void *)contexts[2],
     &streams[0], (void *)rooms[0], 8 * count); }
 static void call_tdes_ede3_decrypt_stream(void) { returned = cukvashe_tdes_ede3_decrypt_stream((void *)contexts[2],
-    &streams[0], (void *)rooms[0], 8 * count); }
+    &streams[2], (void *)rooms[0], 8 * count); }
 static void call_des_encrypt_stream_bits(void) { returned = cukvashe_des_encrypt_stream_bits((void *)contexts[0],
     &streams[1], (void *)rooms[0], 8 * count - 3); }
 static void call_des_decrypt_stream_bits(void) { returned = cukvashe_des_decrypt_stream_bits((void *)contexts[0],

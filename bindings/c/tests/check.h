@@ -26,6 +26,8 @@ typedef int in_place(const union context *, uint8_t *data, size_t length);
 typedef int to_other(const union context *, const uint8_t *input, uint8_t *output, size_t length);
 typedef int in_place_cbc(const union context *, uint8_t *iv, uint8_t *data, size_t length);
 typedef int to_other_cbc(const union context *, uint8_t *iv, const uint8_t *input, uint8_t *output, size_t length);
+typedef int whole_text(const union context *, int mode, const uint8_t *iv, uint8_t *data, size_t length);
+typedef int next_bytes(const union context *, cukvashe_stream *, uint8_t *data, size_t length);
 
 /* The calls of one cipher: those of the header, or those of one width. */
 struct way {
@@ -33,6 +35,8 @@ struct way {
   to_other *encrypt_ecb_to, *decrypt_ecb_to;
   in_place_cbc *encrypt_cbc, *decrypt_cbc;
   to_other_cbc *encrypt_cbc_to, *decrypt_cbc_to;
+  whole_text *encrypt_mode, *decrypt_mode;
+  next_bytes *encrypt_stream, *decrypt_stream;
 };
 
 /* The header's calls of one cipher over the union. */
@@ -68,12 +72,31 @@ struct way {
   static int name##_decrypt_cbc_to(const union context *c, uint8_t *iv, const uint8_t *input, uint8_t *output,        \
                                    size_t length) {                                                                   \
     return cukvashe_##name##_decrypt_cbc_to(&c->name, iv, input, output, length);                                     \
+  }                                                                                                                   \
+  static int name##_encrypt_mode(const union context *c, int mode, const uint8_t *iv, uint8_t *data, size_t length) { \
+    return cukvashe_##name##_encrypt_mode(&c->name, mode, iv, data, length);                                          \
+  }                                                                                                                   \
+  static int name##_decrypt_mode(const union context *c, int mode, const uint8_t *iv, uint8_t *data, size_t length) { \
+    return cukvashe_##name##_decrypt_mode(&c->name, mode, iv, data, length);                                          \
+  }                                                                                                                   \
+  static int name##_encrypt_stream(const union context *c, cukvashe_stream *stream, uint8_t *data, size_t length) {   \
+    return cukvashe_##name##_encrypt_stream(&c->name, stream, data, length);                                          \
+  }                                                                                                                   \
+  static int name##_decrypt_stream(const union context *c, cukvashe_stream *stream, uint8_t *data, size_t length) {   \
+    return cukvashe_##name##_decrypt_stream(&c->name, stream, data, length);                                          \
+  }                                                                                                                   \
+  static int name##_encrypt_bits(const union context *c, cukvashe_stream *stream, uint8_t *data, size_t bits) {       \
+    return cukvashe_##name##_encrypt_stream_bits(&c->name, stream, data, bits);                                       \
+  }                                                                                                                   \
+  static int name##_decrypt_bits(const union context *c, cukvashe_stream *stream, uint8_t *data, size_t bits) {       \
+    return cukvashe_##name##_decrypt_stream_bits(&c->name, stream, data, bits);                                       \
   }
 
 #define PUBLIC(name)                                                                                                  \
   {                                                                                                                   \
     name##_encrypt_ecb, name##_decrypt_ecb, name##_encrypt_ecb_to, name##_decrypt_ecb_to, name##_encrypt_cbc,         \
-        name##_decrypt_cbc, name##_encrypt_cbc_to, name##_decrypt_cbc_to                                              \
+        name##_decrypt_cbc, name##_encrypt_cbc_to, name##_decrypt_cbc_to, name##_encrypt_mode, name##_decrypt_mode,   \
+        name##_encrypt_stream, name##_decrypt_stream                                                                  \
   }
 
 DEFINE_PUBLIC(des)
@@ -110,13 +133,30 @@ DEFINE_PUBLIC(tdes_ede3)
   static int name##_##width##_decrypt_cbc_to(const union context *c, uint8_t *iv, const uint8_t *input,               \
                                              uint8_t *output, size_t length) {                                        \
     return cukvashe_##width##_decrypt_cbc_to(WORDS_OF(c->name), iv, FROM_TO);                                         \
+  }                                                                                                                   \
+  static int name##_##width##_encrypt_mode(const union context *c, int mode, const uint8_t *iv, uint8_t *data,        \
+                                          size_t length) {                                                            \
+    return cukvashe_##width##_encrypt_mode(WORDS_OF(c->name), (uint32_t)mode, iv, data, length);                      \
+  }                                                                                                                   \
+  static int name##_##width##_decrypt_mode(const union context *c, int mode, const uint8_t *iv, uint8_t *data,        \
+                                          size_t length) {                                                            \
+    return cukvashe_##width##_decrypt_mode(WORDS_OF(c->name), (uint32_t)mode, iv, data, length);                      \
+  }                                                                                                                   \
+  static int name##_##width##_encrypt_stream(const union context *c, cukvashe_stream *stream, uint8_t *data,          \
+                                            size_t length) {                                                          \
+    return cukvashe_##width##_encrypt_stream(WORDS_OF(c->name), stream, data, length);                                \
+  }                                                                                                                   \
+  static int name##_##width##_decrypt_stream(const union context *c, cukvashe_stream *stream, uint8_t *data,          \
+                                            size_t length) {                                                          \
+    return cukvashe_##width##_decrypt_stream(WORDS_OF(c->name), stream, data, length);                                \
   }
 
 #define FORCED_WAY(name, width)                                                                                       \
   , {                                                                                                                 \
     name##_##width##_encrypt_ecb, name##_##width##_decrypt_ecb, name##_##width##_encrypt_ecb_to,                      \
         name##_##width##_decrypt_ecb_to, name##_encrypt_cbc, name##_##width##_decrypt_cbc, name##_encrypt_cbc_to,     \
-        name##_##width##_decrypt_cbc_to                                                                               \
+        name##_##width##_decrypt_cbc_to, name##_##width##_encrypt_mode, name##_##width##_decrypt_mode,               \
+        name##_##width##_encrypt_stream, name##_##width##_decrypt_stream                                              \
   }
 #define DEFINE_WIDTH(width) DEFINE_FORCED(des, width) DEFINE_FORCED(tdes_ede2, width) DEFINE_FORCED(tdes_ede3, width)
 #if HAS_WIDE
@@ -153,12 +193,14 @@ struct cipher {
   int (*init)(union context *, const uint8_t *key, size_t length);
   int (*init_no_tables)(union context *, const uint8_t *key, size_t length);
   int (*check_value)(const uint8_t *key, size_t length, uint8_t *value);
+  next_bytes *encrypt_bits, *decrypt_bits;
   struct way ways[MOST_WAYS];
 };
 
 #define CIPHER(name, key_size)                                                                                        \
   {                                                                                                                   \
-    #name, key_size, sizeof(cukvashe_##name), name##_init, name##_init_no_tables, cukvashe_##name##_check_value, WAYS(name)\
+    #name, key_size, sizeof(cukvashe_##name), name##_init, name##_init_no_tables, cukvashe_##name##_check_value,      \
+        name##_encrypt_bits, name##_decrypt_bits, WAYS(name)                                                          \
   }
 
 enum { CIPHERS = 3, DES = 0, EDE2 = 1, EDE3 = 2 };

@@ -126,15 +126,15 @@ static int faulty_tdes_ede3_encrypt_mode(const bool *has) {
     blocks, (void *)rooms[0], 8 * count);
 }
 static int faulty_des_decrypt_mode(const bool *has) {
-  return cukvashe_des_decrypt_mode(has[0] ? (void *)no_bytes : (void *)contexts[0], has[1] ? 0 : CUKVASHE_CTR, blocks,
+  return cukvashe_des_decrypt_mode(has[0] ? (void *)no_bytes : (void *)contexts[0], has[1] ? 0 : CUKVASHE_CFB64, blocks,
     (void *)rooms[0], 8 * count);
 }
 static int faulty_tdes_ede2_decrypt_mode(const bool *has) {
-  return cukvashe_tdes_ede2_decrypt_mode(has[0] ? (void *)no_bytes : (void *)contexts[1], has[1] ? 0 : CUKVASHE_CTR,
+  return cukvashe_tdes_ede2_decrypt_mode(has[0] ? (void *)no_bytes : (void *)contexts[1], has[1] ? 0 : CUKVASHE_CFB64,
     blocks, (void *)rooms[0], 8 * count);
 }
 static int faulty_tdes_ede3_decrypt_mode(const bool *has) {
-  return cukvashe_tdes_ede3_decrypt_mode(has[0] ? (void *)no_bytes : (void *)contexts[2], has[1] ? 0 : CUKVASHE_CTR,
+  return cukvashe_tdes_ede3_decrypt_mode(has[0] ? (void *)no_bytes : (void *)contexts[2], has[1] ? 0 : CUKVASHE_CFB64,
     blocks, (void *)rooms[0], 8 * count);
 }
 static int faulty_stream_begin(const bool *has) {
@@ -154,15 +154,15 @@ static int faulty_tdes_ede3_encrypt_stream(const bool *has) {
 }
 static int faulty_des_decrypt_stream(const bool *has) {
   return cukvashe_des_decrypt_stream(has[0] ? (void *)no_bytes : (void *)contexts[0],
-    has[1] ? (void *)no_bytes : &streams[0], (void *)rooms[0], 8 * count);
+    has[1] ? (void *)no_bytes : &streams[2], (void *)rooms[0], 8 * count);
 }
 static int faulty_tdes_ede2_decrypt_stream(const bool *has) {
   return cukvashe_tdes_ede2_decrypt_stream(has[0] ? (void *)no_bytes : (void *)contexts[1],
-    has[1] ? (void *)no_bytes : &streams[0], (void *)rooms[0], 8 * count);
+    has[1] ? (void *)no_bytes : &streams[2], (void *)rooms[0], 8 * count);
 }
 static int faulty_tdes_ede3_decrypt_stream(const bool *has) {
   return cukvashe_tdes_ede3_decrypt_stream(has[0] ? (void *)no_bytes : (void *)contexts[2],
-    has[1] ? (void *)no_bytes : &streams[0], (void *)rooms[0], 8 * count);
+    has[1] ? (void *)no_bytes : &streams[2], (void *)rooms[0], 8 * count);
 }
 static int faulty_des_encrypt_stream_bits(const bool *has) {
   return cukvashe_des_encrypt_stream_bits(has[0] ? (void *)no_bytes : (void *)contexts[0],

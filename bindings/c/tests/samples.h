@@ -13,6 +13,7 @@ static const char pin_digits[] = "123456789012";
 static uint8_t sent[16]; /* PIN blocks of formats 0 and 1 that are encrypted under the key, so that they are translated */
 static const uint8_t serial[10] = {0xff, 0xff, 0x98, 0x76, 0x54, 0x32, 0x10, 0xef, 0xf8};
 static const uint8_t fill[10] = {10, 11, 12, 13, 14, 15, 10, 11, 12, 13};
+static cukvashe_stream streams[3]; /* of CTR, CFB1 and CFB64 */
 static cukvashe_dukpt_terminal terminal;
 static cukvashe_decimal_table table;
 static cukvashe_message messages[LIST];
@@ -37,6 +38,8 @@ static void make_samples(void) {
     messages[i].bytes = blocks;
     messages[i].length = 20;
   }
+  for (int i = 0; i < 3; i++)
+    CHECK(cukvashe_stream_begin(&streams[i], (const int[]){CUKVASHE_CTR, CUKVASHE_CFB1, CUKVASHE_CFB64}[i], key) == CUKVASHE_OK);
   CHECK(cukvashe_pin_encode_0("1234", 4, "4012345678909", 13, sent) == CUKVASHE_OK);
   CHECK(cukvashe_pin_encode_1("1234", 4, (const uint8_t[10]){0}, sent + 8) == CUKVASHE_OK);
   CHECK(cukvashe_decimal_table_init(&table, "0123456789012345", 16) == CUKVASHE_OK);
