@@ -1,13 +1,15 @@
 -- The shift register along the bits of a ciphertext.
-use Rattle.std.proofs.Common.{◌≡◌, ℕ, ◌*◌, ◌/◌, ◌%◌, ◌≤◌, Bool, List, [], ◌∷◌, ◌++◌, length, take, drop, ap, ap₂, sym, ◌∙◌, arith, append_assoc, length-append, length-drop}
+use Rattle.std.proofs.Common.{false, ◌≡◌, ℕ, ◌*◌, ◌/◌, ◌%◌, ◌≤◌, Bool, List, [], ◌∷◌, ◌++◌, length, take, drop, ap, ap₂, sym, ◌∙◌, arith, append_assoc, length-append, length-drop}
 use Rattle.std.proofs.Math.Nat.{div-one, mod-one}
 use Rattle.std.proofs.lemmas.List.{drop-drop, drop-append-le, take-append-le, take_all}
-use Rattle.des.specs.Bits.{bits_of_bytes}
+use Rattle.des.specs.Bits.{bits_of_bytes, xor}
 use Rattle.des.specs.Blocks.{block_of_bits}
 use Rattle.des.specs.Laws.BitLists.{length-bits_of_bytes}
 use Rattle.des_modes.specs.CfbBits.{block_bit, cfb_bits}
 use Rattle.des_modes.specs.CfbBitStates.{IsCfbBitsAt}
 use Rattle.des_modes.specs.declared.cfb_bits.BitRegister.{BitRegister}
+use Rattle.des_modes.proofs.Pieces.{ByText, GoesByFront}
+use Rattle.des_modes.proofs.XoredPieces.{Xors-single}
 
 -- the initialization vector has the register's width
 pub length-iv_bits : (iv : List ℕ) (c : List Bool) (state : BitRegister) → length state.register ≡ 8
@@ -35,7 +37,7 @@ length-shifted old new bit wide shifted =
     )
 
 -- a bit further on
-pub IsCfbBitsAt-next : (iv : List ℕ) (c : List Bool) (bit : Bool) (old new : BitRegister) → length old.register ≡ 8
+IsCfbBitsAt-next : (iv : List ℕ) (c : List Bool) (bit : Bool) (old new : BitRegister) → length old.register ≡ 8
     → IsCfbBitsAt iv c old → bits_of_bytes new.register ≡ drop 1 (bits_of_bytes old.register) ++ bit ∷ []
     → IsCfbBitsAt iv (c ++ bit ∷ []) new
 IsCfbBitsAt-next iv c bit old new wide is shifted =
@@ -65,15 +67,19 @@ window-front iv c more n wide within =
 single : (i : ℕ) → 1 * (i / 1) ≡ i
 single i = omega (arith, div-one i)
 
-pub cfb_bits-front : (encryption : List ℕ → List ℕ) (iv : List ℕ) (c more : List Bool) (i : ℕ)
+cfb_bits-before : (encryption : List ℕ → List ℕ) (iv : List ℕ) (c more : List Bool) (i : ℕ)
     → length (bits_of_bytes iv) ≡ 64 → i ≤ length c
     → cfb_bits 1 encryption iv (c ++ more) i ≡ cfb_bits 1 encryption iv c i
-cfb_bits-front encryption iv c more i wide within =
+cfb_bits-before encryption iv c more i wide within =
     ap (λ (xs : List Bool). block_bit (encryption (block_of_bits xs)) (i % 1))
     (window-front (bits_of_bytes iv) c more (1 * (i / 1)) wide (omega (arith, single i)))
 
+pub cfb_bits-front : (encryption : List ℕ → List ℕ) (iv : List ℕ) → length (bits_of_bytes iv) ≡ 64
+    → GoesByFront (cfb_bits 1 encryption iv)
+cfb_bits-front encryption iv wide t more i below = cfb_bits-before encryption iv t more i wide (omega arith)
+
 -- the bit that goes with the next one
-pub cfb_bits-next : (encryption : List ℕ → List ℕ) (iv : List ℕ) (c more : List Bool) (state : BitRegister)
+cfb_bits-next : (encryption : List ℕ → List ℕ) (iv : List ℕ) (c more : List Bool) (state : BitRegister)
     → length state.register ≡ 8 → IsCfbBitsAt iv c state
     → cfb_bits 1 encryption iv (c ++ more) (length c)
     ≡ block_bit (encryption (block_of_bits (bits_of_bytes state.register))) 0
@@ -82,7 +88,19 @@ cfb_bits-next encryption iv c more state wide is =
     let bits : List Bool = bits_of_bytes iv in
     let long : length (drop n (bits ++ c)) ≤ 64 =
     omega (arith, ap length is.register, length-bits_of_bytes state.register) in
-    cfb_bits-front encryption iv c more n (length-iv_bits iv c state wide is) (omega arith)
+    cfb_bits-before encryption iv c more n (length-iv_bits iv c state wide is) (omega arith)
     ∙ ap₂ (λ (m k : ℕ). block_bit (encryption (block_of_bits (take 64 (drop m (bits ++ c))))) k) (single n) (mod-one n)
     ∙ ap (λ (xs : List Bool). block_bit (encryption (block_of_bits xs)) 0)
     (take_all 64 (drop n (bits ++ c)) long ∙ sym is.register)
+
+-- a bit more
+pub ByText-bit : (encryption : List ℕ → List ℕ) (iv : List ℕ) (old new : BitRegister) (p c : Bool) → length old.register ≡ 8
+    → bits_of_bytes new.register ≡ drop 1 (bits_of_bytes old.register) ++ c ∷ []
+    → c ≡ xor p (block_bit (encryption (block_of_bits (bits_of_bytes old.register))) 0)
+    → ByText xor false (IsCfbBitsAt iv) (cfb_bits 1 encryption iv) old new (p ∷ []) (c ∷ [])
+ByText-bit encryption iv old new p c wide shifted is = record {
+  goes = λ t at. (
+    IsCfbBitsAt-next iv t c old new wide at shifted,
+    Xors-single (length t) _ p c (is ∙ ap (xor p) (sym (cfb_bits-next encryption iv t (c ∷ []) old wide at))),
+  );
+}

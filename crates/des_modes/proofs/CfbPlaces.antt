@@ -7,6 +7,7 @@ use Rattle.des_modes.specs.Streams.{XorsFrom}
 use Rattle.des_modes.specs.Cfb.{input_block, cfb_stream}
 use Rattle.des_modes.specs.CfbStates.{IsCfbAt}
 use Rattle.des_modes.specs.declared.cfb.Register.{Register}
+use Rattle.des_modes.proofs.Pieces.{GoesByFront}
 use Rattle.des_modes.proofs.Segments.{same_segment, same_segment-mod, between-div, between-mod, between-times, segment-lt}
 
 -- what stands behind n + m bytes of IV | C, where C goes on: what stands behind m of the register and
@@ -29,11 +30,11 @@ input_block-front s iv c more j wide begun =
     ∙ ap (take 8) (drop-append-le (s * j) (iv ++ c) more within)
     ∙ take-append-le 8 (drop (s * j) (iv ++ c)) more long
 
-pub cfb_stream-front : (s : ℕ) (encryption : List ℕ → List ℕ) (iv c more : List ℕ) (i : ℕ) → length iv ≡ 8
-    → i ≤ length c → cfb_stream s encryption iv (c ++ more) i ≡ cfb_stream s encryption iv c i
-cfb_stream-front s encryption iv c more i wide within =
+pub cfb_stream-front : (s : ℕ) (encryption : List ℕ → List ℕ) (iv : List ℕ) → length iv ≡ 8
+    → GoesByFront (cfb_stream s encryption iv)
+cfb_stream-front s encryption iv wide t more i below =
     ap (λ (block : List ℕ). get_or (encryption block) (i % s) 0)
-    (input_block-front s iv c more (i / s) wide (omega (arith, mul-div-le i s)))
+    (input_block-front s iv t more (i / s) wide (omega (arith, mul-div-le i s)))
 
 -- the initialization vector has the register's width
 pub length-iv : (s : ℕ) (encryption : List ℕ → List ℕ) (iv c : List ℕ) (state : Register)

@@ -1,10 +1,10 @@
 -- A segment more.
-use Rattle.std.proofs.Common.{◌≡◌, ℕ, ◌+◌, ◌-◌, ◌*◌, ◌/◌, ◌%◌, ◌≤◌, [], length, get_or, bit_xor, ap, ap₂, sym, ◌∙◌, arith, length-take-le}
+use Rattle.std.proofs.Common.{◌≡◌, ℕ, ◌+◌, ◌-◌, ◌*◌, ◌/◌, ◌%◌, ◌≤◌, [], length, get_or, bit_xor, ap, ap₂, sym, ◌∙◌, refl, arith, length-take-le}
 use Rattle.std.proofs.Math.Nat.{mul-add, mul-one, mul-zero}
 use borrow.Rule.Slice.PartMut.{mid_of}
 use Rattle.des_modes.proofs.Segments.{place-div, place-mod}
 use Rattle.des_modes.proofs.XoredPieces.{Xors-none, Xors-append}
-use Rattle.des_modes.proofs.Pieces.{InPlace-begins, InPlace-more, InPlace-all}
+use Rattle.des_modes.proofs.Pieces.{InPlace-more, InPlace-all}
 use Rattle.des_modes.proofs.xored.xor_segments.Goals as goal
 
 pub segments-init : goal.segments-init
@@ -12,7 +12,7 @@ segments-init c = record {
   within = omega arith;
   counted = omega arith;
   place = λ more. omega (arith, mul-zero c.args.segment);
-  so_far = InPlace-begins _ _ (Xors-none 0 _);
+  so_far = record { done = Xors-none 0 _; rest = refl };
 }
 
 pub segments-preserved : goal.segments-preserved
@@ -27,7 +27,7 @@ segments-preserved c =
       counted = omega (arith, c.min-count.ensures, c.requires.some);
       place = λ more. omega (arith, c.min-count.ensures, mul-add s j 1, mul-one s);
       so_far =
-          InPlace-more _ _ from c.min-count.result size c.args.bytes.now c.segments.bytes c.xor_from.new.bytes (omega arith)
+          InPlace-more _ (omega arith)
           (omega (arith, c.min-count.ensures)) c.xor_from.auto.bytes
           (λ done. Xors-append 0 from _ _ _ _ _ (omega (arith, length-take-le from c.args.bytes.now (omega arith))) done (record {
             count = c.xor_from.auto.bytes;
@@ -41,4 +41,4 @@ segments-preserved c =
     }
 
 pub returns : goal.returns
-returns c = InPlace-all _ c.segments.from c.args.bytes.now c.segments.bytes (omega arith) (omega arith) c.segments.invariant.so_far
+returns c = InPlace-all (omega arith) (omega arith) c.segments.invariant.so_far

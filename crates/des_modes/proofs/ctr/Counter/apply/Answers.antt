@@ -1,43 +1,36 @@
 -- A part more.
-use Rattle.std.proofs.Common.{◌≡◌, ℕ, ◌+◌, ◌-◌, List, length, arith}
+use Rattle.std.proofs.Common.{◌≡◌, ℕ, ◌+◌, ◌-◌, List, length, refl, arith}
 use borrow.Rule.Slice.PartMut.{mid_of}
-use Rattle.des_modes.specs.Ctr.{ctr_stream}
-use Rattle.des_modes.specs.CtrStates.{IsCtrAt}
 use Rattle.des_modes.proofs.XoredPieces.{Xors-append}
-use Rattle.des_modes.proofs.Pieces.{ByPlace-none, ByPlace-joined, InPlace-begins, InPlace-more, InPlace-all}
+use Rattle.des_modes.proofs.Pieces.{ByPlace-none, ByPlace-joined, InPlace-more, InPlace-all}
 use Rattle.des_modes.proofs.CtrPlaces.{XorsFrom-counter}
 use Rattle.des_modes.proofs.ctr.Counter.apply.Goals as goal
 
 pub parts-init : goal.parts-init
 parts-init g c = record {
   within = omega arith;
-  so_far = λ t. InPlace-begins _ _ (ByPlace-none (IsCtrAt t) _ c.args.self.now);
+  so_far = λ t. record { done = ByPlace-none c.args.self.now; rest = refl };
 }
 
 pub parts-preserved : goal.parts-preserved
 parts-preserved g c =
-    let E : List ℕ → List ℕ = g.C.BlockCipherEncrypt.encrypted c.args.cipher.now in
-    let count : ℕ = c.min-count.result in
     let from : ℕ = c.parts.from in
-    let now : List ℕ = c.parts.bytes in
-    let size : from + count - from ≡ count = omega arith in
-    let many : length (mid_of from (from + count - from) now) ≡ count = omega (arith, c.min-count.ensures) in record {
+    let count : ℕ = c.min-count.result in
+    let many : length (mid_of from (from + count - from) c.parts.bytes) ≡ count = omega (arith, c.min-count.ensures) in record {
       within = omega (arith, c.min-count.ensures);
       so_far = λ t.
-          InPlace-more _ _ from count (from + count - from) c.args.bytes.now now c.apply_part.new.bytes size
-          (omega (arith, c.min-count.ensures)) c.apply_part.auto.bytes
-          (λ done. ByPlace-joined (IsCtrAt t) (ctr_stream E t) _ c.parts.self _ _ _ _ _ done (record {
+          InPlace-more _ (omega arith) (omega (arith, c.min-count.ensures)) c.apply_part.auto.bytes
+          (λ done. ByPlace-joined done (record {
             goes = λ n at. (
               rw many (c.advanced.ensures t n at),
-              XorsFrom-counter E t n c.parts.self _ _ at c.apply_part.auto.bytes c.apply_part.ensures,
+              XorsFrom-counter (g.C.BlockCipherEncrypt.encrypted c.args.cipher.now) t n c.parts.self _ _ at c.apply_part.auto.bytes c.apply_part.ensures,
             );
           })) (c.parts.invariant.so_far t);
     }
 
 pub returns : goal.returns
 returns g c =
-    let made = λ (t : List ℕ). InPlace-all _ c.parts.from c.args.bytes.now c.parts.bytes (omega arith) (omega arith)
-    (c.parts.invariant.so_far t) in record {
+    let made = λ (t : List ℕ). InPlace-all (omega arith) (omega arith) (c.parts.invariant.so_far t) in record {
       after = λ t n at. ((made t).goes n at).0;
       applied = λ t n at. ((made t).goes n at).1;
       whole = λ t p d at begun. Xors-append 0 (length p) _ p d _ _ (omega arith) begun ((made t).goes (length p) at).1;
