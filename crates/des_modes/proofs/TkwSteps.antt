@@ -123,20 +123,6 @@ IsSemiblock-xor_blocks word other is is_other =
           (xor_lt 8 (get_or word k 0) (get_or other k 0) (is.1 k 0 inside) (is_other.1 k 0 (omega arith)))),
     )
 
--- a step makes semiblocks of semiblocks
-AreSemiblocks-tw_step : (E D : List ℕ → List ℕ) (t : ℕ) (words : List (List ℕ)) → Undoes E D → All IsSemiblock words
-    → All IsSemiblock (tw_step E t words)
-AreSemiblocks-tw_step E D t [] laws are = are
-AreSemiblocks-tw_step E D t (a ∷ []) laws are = are
-AreSemiblocks-tw_step E D t (a ∷ r ∷ rest) laws are =
-    let is_a = All-head IsSemiblock a (r ∷ rest) are in
-    let others = All-tail IsSemiblock a (r ∷ rest) are in
-    let is_block = laws.is_block (a ++ r) (IsBlock-joined a r is_a (All-head IsSemiblock r rest others)) in
-    All-cons IsSemiblock _ _
-    (IsSemiblock-xor_blocks (take 4 (E (a ++ r))) (to_be_bytes w32 t) (high_half (E (a ++ r)) is_block) (IsSemiblock-number t))
-    (All-append IsSemiblock rest (drop 4 (E (a ++ r)) ∷ []) (All-tail IsSemiblock r rest others)
-    (All-cons IsSemiblock (drop 4 (E (a ++ r))) [] (low_half (E (a ++ r)) is_block) (All-nil IsSemiblock)))
-
 length-tw_step : (E : List ℕ → List ℕ) (t : ℕ) (words : List (List ℕ)) → length (tw_step E t words) ≡ length words
 length-tw_step E t [] = refl
 length-tw_step E t (a ∷ []) = refl
@@ -147,64 +133,67 @@ pub length-tw_steps : (E : List ℕ → List ℕ) (t m : ℕ) (words : List (Lis
 length-tw_steps E t zero words = refl
 length-tw_steps E t (suc m) words = length-tw_steps E (suc t) m (tw_step E (suc t) words) ∙ length-tw_step E (suc t) words
 
--- different lists are answered by different ones
-tw_step-injective : (E D : List ℕ → List ℕ) (t : ℕ) (words others : List (List ℕ)) → Undoes E D
-    → All IsSemiblock words → All IsSemiblock others → length words ≡ length others
-    → tw_step E t words ≡ tw_step E t others → words ≡ others
-tw_step-injective E D t [] [] laws are too count same = refl
-tw_step-injective E D t [] (b ∷ others) laws are too count same = absurd (omega arith)
-tw_step-injective E D t (a ∷ words) [] laws are too count same = absurd (omega arith)
-tw_step-injective E D t (a ∷ []) (b ∷ []) laws are too count same = same
-tw_step-injective E D t (a ∷ []) (b ∷ s ∷ others) laws are too count same = absurd (omega arith)
-tw_step-injective E D t (a ∷ r ∷ words) (b ∷ []) laws are too count same = absurd (omega arith)
-tw_step-injective E D t (a ∷ r ∷ words) (b ∷ s ∷ others) laws are too count same =
-    let is_a = All-head IsSemiblock a (r ∷ words) are in
-    let is_b = All-head IsSemiblock b (s ∷ others) too in
-    let is_r = All-head IsSemiblock r words (All-tail IsSemiblock a (r ∷ words) are) in
-    let is_s = All-head IsSemiblock s others (All-tail IsSemiblock b (s ∷ others) too) in
-    let block : IsBlock (a ++ r) = IsBlock-joined a r is_a is_r in
-    let other : IsBlock (b ++ s) = IsBlock-joined b s is_b is_s in
-    let e : List ℕ = E (a ++ r) in
-    let f : List ℕ = E (b ++ s) in
-    let e_block : IsBlock e = laws.is_block (a ++ r) block in
-    let f_block : IsBlock f = laws.is_block (b ++ s) other in
-    let number : List ℕ = to_be_bytes w32 t in
-    let rest = last_same words others (drop 4 e) (drop 4 f) (omega arith) (ap (drop 1) same) in
-    let high : take 4 e ≡ take 4 f =
-    sym (xor_blocks-undone (take 4 e) number (high_half e e_block).0)
-    ∙ ap (λ (x : List ℕ). xor_blocks x number) (ap (λ (xs : List (List ℕ)). get_or xs 0 []) same)
-    ∙ xor_blocks-undone (take 4 f) number (high_half f f_block).0 in
-    let answers : e ≡ f = sym (take-append-drop 4 e) ∙ ap₂ ◌++◌ high rest.1 ∙ take-append-drop 4 f in
-    let joined : a ++ r ≡ b ++ s = sym (laws.undone (a ++ r) block) ∙ ap D answers ∙ laws.undone (b ++ s) other in
-    let first : a ≡ b = sym (take_at a r 4 is_a.0) ∙ ap (take 4) joined ∙ take_at b s 4 is_b.0 in
-    let second : r ≡ s = sym (drop_at a r 4 is_a.0) ∙ ap (drop 4) joined ∙ drop_at b s 4 is_b.0 in
-    ap₂ ◌∷◌ first (ap₂ ◌∷◌ second rest.0)
+module _ {E D : List ℕ → List ℕ} (laws : Undoes E D) where
+  -- a step makes semiblocks of semiblocks
+  AreSemiblocks-tw_step : (t : ℕ) (words : List (List ℕ)) → All IsSemiblock words → All IsSemiblock (tw_step E t words)
+  AreSemiblocks-tw_step t [] are = are
+  AreSemiblocks-tw_step t (a ∷ []) are = are
+  AreSemiblocks-tw_step t (a ∷ r ∷ rest) are =
+      let others = All-tail IsSemiblock a (r ∷ rest) are in
+      let is_block = laws.is_block (a ++ r)
+      (IsBlock-joined a r (All-head IsSemiblock a (r ∷ rest) are) (All-head IsSemiblock r rest others)) in
+      All-cons IsSemiblock _ _
+      (IsSemiblock-xor_blocks (take 4 (E (a ++ r))) (to_be_bytes w32 t) (high_half (E (a ++ r)) is_block) (IsSemiblock-number t))
+      (All-append IsSemiblock rest (drop 4 (E (a ++ r)) ∷ []) (All-tail IsSemiblock r rest others)
+      (All-cons IsSemiblock (drop 4 (E (a ++ r))) [] (low_half (E (a ++ r)) is_block) (All-nil IsSemiblock)))
 
-pub tw_steps-injective : (E D : List ℕ → List ℕ) (t m : ℕ) (words others : List (List ℕ)) → Undoes E D
-    → All IsSemiblock words → All IsSemiblock others → length words ≡ length others
-    → tw_steps E t m words ≡ tw_steps E t m others → words ≡ others
-tw_steps-injective E D t zero words others laws are too count same = same
-tw_steps-injective E D t (suc m) words others laws are too count same =
-    tw_step-injective E D (suc t) words others laws are too count
-    (tw_steps-injective E D (suc t) m (tw_step E (suc t) words) (tw_step E (suc t) others) laws
-    (AreSemiblocks-tw_step E D (suc t) words laws are) (AreSemiblocks-tw_step E D (suc t) others laws too)
-    (length-tw_step E (suc t) words ∙ count ∙ sym (length-tw_step E (suc t) others)) same)
+  -- different lists are answered by different ones
+  tw_step-injective : (t : ℕ) (words others : List (List ℕ)) → All IsSemiblock words → All IsSemiblock others
+      → length words ≡ length others → tw_step E t words ≡ tw_step E t others → words ≡ others
+  tw_step-injective t [] [] are too count same = refl
+  tw_step-injective t [] (b ∷ others) are too count same = absurd (omega arith)
+  tw_step-injective t (a ∷ words) [] are too count same = absurd (omega arith)
+  tw_step-injective t (a ∷ []) (b ∷ []) are too count same = same
+  tw_step-injective t (a ∷ []) (b ∷ s ∷ others) are too count same = absurd (omega arith)
+  tw_step-injective t (a ∷ r ∷ words) (b ∷ []) are too count same = absurd (omega arith)
+  tw_step-injective t (a ∷ r ∷ words) (b ∷ s ∷ others) are too count same =
+      let is_a = All-head IsSemiblock a (r ∷ words) are in
+      let is_b = All-head IsSemiblock b (s ∷ others) too in
+      let block = IsBlock-joined a r is_a (All-head IsSemiblock r words (All-tail IsSemiblock a (r ∷ words) are)) in
+      let other = IsBlock-joined b s is_b (All-head IsSemiblock s others (All-tail IsSemiblock b (s ∷ others) too)) in
+      let e : List ℕ = E (a ++ r) in
+      let f : List ℕ = E (b ++ s) in
+      let number : List ℕ = to_be_bytes w32 t in
+      let rest = last_same words others (drop 4 e) (drop 4 f) (omega arith) (ap (drop 1) same) in
+      let high : take 4 e ≡ take 4 f =
+      sym (xor_blocks-undone (take 4 e) number (high_half e (laws.is_block (a ++ r) block)).0)
+      ∙ ap (λ (xs : List (List ℕ)). xor_blocks (get_or xs 0 []) number) same
+      ∙ xor_blocks-undone (take 4 f) number (high_half f (laws.is_block (b ++ s) other)).0 in
+      let answers : e ≡ f = sym (take-append-drop 4 e) ∙ ap₂ ◌++◌ high rest.1 ∙ take-append-drop 4 f in
+      let joined : a ++ r ≡ b ++ s = sym (laws.undone (a ++ r) block) ∙ ap D answers ∙ laws.undone (b ++ s) other in
+      ap₂ ◌∷◌ (sym (take_at a r 4 is_a.0) ∙ ap (take 4) joined ∙ take_at b s 4 is_b.0)
+      (ap₂ ◌∷◌ (sym (drop_at a r 4 is_a.0) ∙ ap (drop 4) joined ∙ drop_at b s 4 is_b.0) rest.0)
 
--- what wraps a key wraps no other
-pub unwrapped-one : (E D : List ℕ → List ℕ) (first : List ℕ) (words other wrapped : List (List ℕ))
-    → ((block : List ℕ) → IsBlock block → D (E block) ≡ block) → ((block : List ℕ) → IsBlock block → IsBlock (E block))
-    → IsSemiblock first → All IsSemiblock words → All IsSemiblock other → length wrapped ≡ length words + 1
-    → tw E (first ∷ words) ≡ wrapped → tkw E other ≡ wrapped → first ∷ words ≡ icv3 ∷ other
-unwrapped-one E D first words other wrapped undone is_block is_first are too size same wraps =
-    let made : ℕ = 6 * (length (icv3 ∷ other) - 1) in
-    let count : length other ≡ length words =
-    omega (arith, ap length wraps, length-tw_steps E 0 made (icv3 ∷ other)) in
-    let steps : 6 * (length (first ∷ words) - 1) ≡ made = omega (arith, count) in
-    let is_icv3 : IsSemiblock icv3 = IsSemiblock-number 0xa6a6a6a6 in
-    let laws : Undoes E D = record { undone = undone; is_block = is_block } in
-    tw_steps-injective E D 0 made (first ∷ words) (icv3 ∷ other) laws (All-cons IsSemiblock first words is_first are)
-    (All-cons IsSemiblock icv3 other is_icv3 too) (omega (arith, count))
-    (ap (λ (n : ℕ). tw_steps E 0 n (first ∷ words)) (sym steps) ∙ same ∙ sym wraps)
+  tw_steps-injective : (t m : ℕ) (words others : List (List ℕ)) → All IsSemiblock words → All IsSemiblock others
+      → length words ≡ length others → tw_steps E t m words ≡ tw_steps E t m others → words ≡ others
+  tw_steps-injective t zero words others are too count same = same
+  tw_steps-injective t (suc m) words others are too count same =
+      tw_step-injective (suc t) words others are too count
+      (tw_steps-injective (suc t) m (tw_step E (suc t) words) (tw_step E (suc t) others)
+      (AreSemiblocks-tw_step (suc t) words are) (AreSemiblocks-tw_step (suc t) others too)
+      (length-tw_step E (suc t) words ∙ count ∙ sym (length-tw_step E (suc t) others)) same)
+
+  -- what wraps a key wraps no other
+  pub unwrapped-one : (first : List ℕ) (words other wrapped : List (List ℕ)) → IsSemiblock first → All IsSemiblock words
+      → All IsSemiblock other → length wrapped ≡ length words + 1 → tw E (first ∷ words) ≡ wrapped → tkw E other ≡ wrapped
+      → first ∷ words ≡ icv3 ∷ other
+  unwrapped-one first words other wrapped is_first are too size same wraps =
+      let made : ℕ = 6 * (length (icv3 ∷ other) - 1) in
+      let count : length other ≡ length words = omega (arith, ap length wraps, length-tw_steps E 0 made (icv3 ∷ other)) in
+      let steps : 6 * (length (first ∷ words) - 1) ≡ made = omega (arith, count) in
+      tw_steps-injective 0 made (first ∷ words) (icv3 ∷ other) (All-cons IsSemiblock first words is_first are)
+      (All-cons IsSemiblock icv3 other (IsSemiblock-number 0xa6a6a6a6) too) (omega (arith, count))
+      (ap (λ (n : ℕ). tw_steps E 0 n (first ∷ words)) (sym steps) ∙ same ∙ sym wraps)
 
 -- ---- by the relation of a cipher's key
 
@@ -221,7 +210,7 @@ module _ (E D other : List ℕ → List ℕ) (laws : Undoes E D)
   tw_steps-alike : (t m : ℕ) (words : List (List ℕ)) → All IsSemiblock words → tw_steps E t m words ≡ tw_steps other t m words
   tw_steps-alike t zero words are = refl
   tw_steps-alike t (suc m) words are =
-      tw_steps-alike (suc t) m (tw_step E (suc t) words) (AreSemiblocks-tw_step E D (suc t) words laws are)
+      tw_steps-alike (suc t) m (tw_step E (suc t) words) (AreSemiblocks-tw_step laws (suc t) words are)
       ∙ ap (tw_steps other (suc t) m) (tw_step-alike (suc t) words are)
 
 pub TkwUnder-from_tkw : (Answers : List ℕ → List ℕ → Type 0) (E : List ℕ → List ℕ) (key wrapped : List (List ℕ))

@@ -1,36 +1,36 @@
 use Rattle.std.proofs.Common.{◌≡◌, ◌≤◌, ◌-◌, ℕ, true, false, List, [], ◌∷◌, length, get_or, take, drop, refl, ap, sym, ◌∙◌, arith}
 use Rattle.std.proofs.lemmas.List.{take_all}
-use Rattle.des_modes.proofs.TkwSteps.{unwrapped-one}
+use Rattle.des_modes.proofs.TkwSteps.{Undoes, unwrapped-one}
+use Rattle.des_modes.proofs.tkw.unwrap.Given.{Over}
 use Rattle.des_modes.proofs.tkw.unwrap.Goals as goal
+
+laws : (g : Over) (cipher : g.row.C.Denot) → Undoes (g.C.BlockCipherEncrypt.encrypted cipher) (g.C.BlockCipherDecrypt.decrypted cipher)
+laws g cipher = record {
+  undone = g.met.C.BlockCipher.decrypts_encrypted cipher;
+  is_block = g.met.C.BlockCipher.encrypted_is_block cipher;
+}
 
 whole : (wrapped words : List (List ℕ)) → 1 ≤ length wrapped → words ≡ take (length wrapped - 1) (drop 1 wrapped)
     → get_or wrapped 0 [] ∷ words ≡ wrapped
 whole [] words some rest = absurd (omega arith)
 whole (first ∷ others) words some rest =
-    ap (λ (xs : List (List ℕ)). first ∷ xs)
-    (rest ∙ take_all (length (first ∷ others) - 1) others (omega arith))
+    ap (λ (xs : List (List ℕ)). first ∷ xs) (rest ∙ take_all (length (first ∷ others) - 1) others (omega arith))
 
 pub returns-then-are_equal-clause-accepted : goal.returns-then-are_equal-clause-accepted
 returns-then-are_equal-clause-accepted g c = λ other too wraps. (
   refl,
   ap (drop 1)
-      (unwrapped-one (g.C.BlockCipherEncrypt.encrypted c.args.cipher.now) (g.C.BlockCipherDecrypt.decrypted c.args.cipher.now)
-      c.transform_back.new.first c.transform_back.new.words other c.args.wrapped.now
-      (g.met.C.BlockCipher.decrypts_encrypted c.args.cipher.now) (g.met.C.BlockCipher.encrypted_is_block c.args.cipher.now)
-      (omega arith, c.are_bytes.ensures) c.are_semiblocks.ensures too (omega (arith, c.requires.room))
-      (c.transform_back.ensures ∙ whole c.args.wrapped.now c.copy_from_slice.new.self (omega (arith, c.requires.room))
-      c.copy_from_slice.ensures.after) wraps),
+      (unwrapped-one (laws g c.args.cipher.now) _ _ other _ (omega arith, c.are_bytes.ensures) c.are_semiblocks.ensures too
+      (omega (arith, c.requires.room))
+      (c.transform_back.ensures ∙ whole c.args.wrapped.now _ (omega (arith, c.requires.room)) c.copy_from_slice.ensures.after) wraps),
 )
 
 -- what wraps a key has its check value
 pub returns-clause-accepted : goal.returns-clause-accepted
 returns-clause-accepted g c = λ other too wraps.
     let same =
-    unwrapped-one (g.C.BlockCipherEncrypt.encrypted c.args.cipher.now) (g.C.BlockCipherDecrypt.decrypted c.args.cipher.now)
-    c.transform_back.new.first c.transform_back.new.words other c.args.wrapped.now
-    (g.met.C.BlockCipher.decrypts_encrypted c.args.cipher.now) (g.met.C.BlockCipher.encrypted_is_block c.args.cipher.now)
-    (omega arith, c.are_bytes.ensures) c.are_semiblocks.ensures too (omega (arith, c.requires.room))
-    (c.transform_back.ensures ∙ whole c.args.wrapped.now c.copy_from_slice.new.self (omega (arith, c.requires.room))
-    c.copy_from_slice.ensures.after) wraps in
+    unwrapped-one (laws g c.args.cipher.now) _ _ other _ (omega arith, c.are_bytes.ensures) c.are_semiblocks.ensures too
+    (omega (arith, c.requires.room))
+    (c.transform_back.ensures ∙ whole c.args.wrapped.now _ (omega (arith, c.requires.room)) c.copy_from_slice.ensures.after) wraps in
     let found : c.are_equal.result ≡ true = c.are_equal.ensures.1 (ap (λ (xs : List (List ℕ)). get_or xs 0 []) same) in
     let bad : false ≡ true = sym c.if-are_equal.false ∙ found in cc bad
