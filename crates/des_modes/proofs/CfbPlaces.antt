@@ -8,7 +8,7 @@ use Rattle.des_modes.specs.Cfb.{input_block, cfb_stream}
 use Rattle.des_modes.specs.CfbStates.{IsCfbAt}
 use Rattle.des_modes.specs.declared.cfb.Register.{Register}
 use Rattle.des_modes.proofs.Pieces.{GoesByFront}
-use Rattle.des_modes.proofs.Segments.{same_segment, same_segment-mod, between-div, between-mod, between-times, segment-lt}
+use Rattle.des_modes.proofs.Segments.{further-mod, same_segment, same_segment-mod, between-div, between-mod, between-times, segment-lt}
 
 -- what stands behind n + m bytes of IV | C, where C goes on: what stands behind m of the register and
 -- of what C goes on with
@@ -56,7 +56,27 @@ input_block-next s iv c wide between =
     ∙ take_all 8 (drop (length c) (iv ++ c))
     (omega (arith, length-drop (length c) (iv ++ c), length-append iv c))
 
--- bytes further on in a segment
+-- bytes further on
+IsCfbAt-further : (s : ℕ) (encryption : List ℕ → List ℕ) (iv c bytes : List ℕ) (old new : Register) → length iv ≡ 8
+    → IsCfbAt s encryption iv c old → new.segment ≡ old.segment
+    → new.register ≡ drop (length bytes) (old.register ++ bytes) → new.used ≡ (old.used + length bytes) % old.segment
+    → (1 ≤ new.used → new.output ≡ encryption (input_block s iv (c ++ bytes) ((length c + length bytes) / s)))
+    → IsCfbAt s encryption iv (c ++ bytes) new
+IsCfbAt-further s encryption iv c bytes old new wide is segment shifted used made =
+    let n : ℕ = length c in
+    let size : n + length bytes ≡ length (c ++ bytes) = sym (length-append c bytes) in record {
+      segment = segment ∙ is.segment;
+      register =
+          shifted ∙ ap (λ (xs : List ℕ). drop (length bytes) (xs ++ bytes)) is.register
+          ∙ sym (drop-further iv c bytes n (length bytes) (omega (arith, length-append iv c)))
+          ∙ ap (λ (m : ℕ). drop m (iv ++ (c ++ bytes))) size;
+      used =
+          used ∙ ap₂ (λ (m k : ℕ). (m + length bytes) % k) is.used is.segment ∙ sym (further-mod s n (length bytes))
+          ∙ ap (λ (m : ℕ). m % s) size;
+      output = λ some. made some ∙ ap (λ (m : ℕ). encryption (input_block s iv (c ++ bytes) (m / s))) size;
+    }
+
+-- in a segment
 pub IsCfbAt-within : (s : ℕ) (encryption : List ℕ → List ℕ) (iv c bytes output : List ℕ) (old new : Register)
     → length old.register ≡ 8 → old.used + length bytes ≤ s → IsCfbAt s encryption iv c old
     → output ≡ encryption (input_block s iv c (length c / s))
@@ -66,27 +86,16 @@ pub IsCfbAt-within : (s : ℕ) (encryption : List ℕ → List ℕ) (iv c bytes 
 IsCfbAt-within s encryption iv c bytes output old new wide within is made segment kept used shifted =
     let n : ℕ = length c in
     let iv_wide : length iv ≡ 8 = length-iv s encryption iv c old wide is in
-    let size : length (c ++ bytes) ≡ n + length bytes = length-append c bytes in
-    let same : old.used + length bytes ≡ n % s + length bytes = omega (arith, is.used) in
-    let place : new.used ≡ (n % s + length bytes) % s =
-    used ∙ ap₂ (λ (a b : ℕ). a % b) same is.segment in record {
-      segment = segment ∙ is.segment;
-      register =
-          shifted ∙ ap (λ (xs : List ℕ). drop (length bytes) (xs ++ bytes)) is.register
-          ∙ sym (drop-further iv c bytes n (length bytes) (omega (arith, length-append iv c)))
-          ∙ ap (λ (m : ℕ). drop m (iv ++ (c ++ bytes))) (sym size);
-      used = place ∙ mod-add-mod n s (length bytes) ∙ ap (λ (m : ℕ). m % s) (sym size);
-      output = λ some. elim (cases_lt (n % s + length bytes) s) [
-        | inl inside ↦
-            kept ∙ made
-            ∙ ap encryption (sym (input_block-front s iv c bytes (n / s) iv_wide (mul-div-le n s))
-            ∙ ap (input_block s iv (c ++ bytes))
-            (sym (ap (λ (m : ℕ). m / s) size ∙ same_segment s n (length bytes) inside)))
-        | inr full ↦
-            let end : n % s + length bytes ≡ s = omega arith in
-            let none : new.used ≡ 0 = place ∙ ap (λ (m : ℕ). m % s) end ∙ mod_self s in absurd (omega arith)
-      ];
-    }
+    IsCfbAt-further s encryption iv c bytes old new iv_wide is segment shifted used (λ some.
+    elim (cases_lt (n % s + length bytes) s) [
+      | inl inside ↦
+          kept ∙ made
+          ∙ ap encryption (sym (input_block-front s iv c bytes (n / s) iv_wide (mul-div-le n s))
+          ∙ ap (input_block s iv (c ++ bytes)) (sym (same_segment s n (length bytes) inside)))
+      | inr full ↦
+          let end : old.used + length bytes ≡ s = omega (arith, is.used) in
+          let none : new.used ≡ 0 = used ∙ ap₂ (λ (m k : ℕ). m % k) end is.segment ∙ mod_self s in absurd (omega arith)
+    ])
 
 -- bytes of a segment under its output block
 pub XorsFrom-within : (s : ℕ) (encryption : List ℕ → List ℕ) (iv c more output old new : List ℕ) (used : ℕ)
@@ -124,24 +133,14 @@ pub IsCfbAt-beyond : (s : ℕ) (encryption : List ℕ → List ℕ) (iv c bytes 
 IsCfbAt-beyond s encryption iv c bytes old new some wide between is segment shifted used made =
     let n : ℕ = length c in
     let iv_wide : length iv ≡ 8 = length-iv s encryption iv c old wide is in
-    let size : length (c ++ bytes) ≡ n + length bytes = length-append c bytes in
-    let begins : n % s ≡ 0 = sym is.used ∙ between in record {
-      segment = segment ∙ is.segment;
-      register =
-          shifted ∙ ap (λ (xs : List ℕ). drop (length bytes) (xs ++ bytes)) is.register
-          ∙ sym (drop-further iv c bytes n (length bytes) (omega (arith, length-append iv c)))
-          ∙ ap (λ (m : ℕ). drop m (iv ++ (c ++ bytes))) (sym size);
-      used =
-          used ∙ ap (λ (m : ℕ). length bytes % m) is.segment ∙ sym (between-mod s n (length bytes) begins)
-          ∙ ap (λ (m : ℕ). m % s) (sym size);
-      output = λ there.
-          made there
-          ∙ ap (λ (m : ℕ). encryption (take 8 (drop (m * (length bytes / m)) (old.register ++ bytes)))) is.segment
-          ∙ ap (λ (xs : List ℕ). encryption (take 8 (drop (s * (length bytes / s)) (xs ++ bytes)))) is.register
-          ∙ ap encryption (sym (input_block-beyond s iv c bytes (length bytes / s) iv_wide begins)
-          ∙ ap (input_block s iv (c ++ bytes))
-          (sym (ap (λ (m : ℕ). m / s) size ∙ between-div s n (length bytes) some begins)));
-    }
+    let begins : n % s ≡ 0 = sym is.used ∙ between in
+    let place : length bytes ≡ old.used + length bytes = omega arith in
+    IsCfbAt-further s encryption iv c bytes old new iv_wide is segment shifted
+    (used ∙ ap (λ (m : ℕ). m % old.segment) place) (λ there.
+    made there
+    ∙ ap₂ (λ (m : ℕ) (xs : List ℕ). encryption (take 8 (drop (m * (length bytes / m)) (xs ++ bytes)))) is.segment is.register
+    ∙ ap encryption (sym (input_block-beyond s iv c bytes (length bytes / s) iv_wide begins)
+    ∙ ap (input_block s iv (c ++ bytes)) (sym (between-div s n (length bytes) some begins))))
 
 pub XorsFrom-beyond : (s : ℕ) (encryption : List ℕ → List ℕ) (iv c bytes register new : List ℕ) (blocks : List (List ℕ))
     → 1 ≤ s → length iv ≡ 8 → length c % s ≡ 0 → register ≡ drop (length c) (iv ++ c)
