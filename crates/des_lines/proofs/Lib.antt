@@ -1,10 +1,8 @@
 pub mod Faults
 pub mod Verdicts
 pub mod Components
-pub mod CheckDigits
 pub mod KeyVerdicts
 pub mod OptionalLines
-pub mod ProtectionSizes
 pub mod WrapFaults
 pub mod UnwrapFaults
 pub mod Prefixes

@@ -1,12 +1,10 @@
 -- What is known of a block that holds a key, and how the lines of such a block fail.
-use Rattle.std.proofs.Common.{◌≡◌, ℕ, List, None, Result, Ok, Err, inr}
-use Rattle.std.specs.Prelude.{IsTrue}
+use Rattle.std.proofs.Common.{◌≡◌, ℕ, List, None, Result, Err, inr}
 use Rattle.std.specs.declared.vec.Vec.{Vec}
 use Rattle.std.specs.declared.alloc.Global.{Global}
 use Rattle.des_payment.specs.KeyBlocks.{HoldsKey}
-use Rattle.des_payment.specs.KeyLengths.{is_key}
 use Rattle.des_payment.specs.declared.key_block_header.Header.{Header}
-use Rattle.des_payment.proofs.KeyDataLengths.{key-data-lengths, key-data-sealed}
+use Rattle.des_payment.proofs.KeyDataLengths.{key-data-sealed}
 use Rattle.des_lines.specs.declared.fault.FaultKind.{FaultKind}
 use Rattle.des_lines.specs.declared.fault.FaultKind.TheVariants.{Memory}
 use Rattle.des_lines.specs.Texts.{bytes_of}
@@ -27,16 +25,9 @@ module _ (protection block : List ℕ) (header : Header) (key : List ℕ) (holds
         ),
       )
 
-  -- the key is one of DES or triple DES
-  pub held-key : IsTrue (is_key key)
-  held-key = (key-data-lengths key holds.1.0 holds.1.1.is_clear).is_key_there
-
 module _ (protection block : List ℕ) (header : Header) (key : List ℕ) (none : protection_fault protection ≡ None)
     (holds : HoldsKey (bytes_of protection) block header key) where
-  -- nothing is at fault: memory is refused, or the lines are given
+  -- nothing is at fault, and memory is refused
   pub unwrap-refuses-memory : (result : Result (Vec ℕ Global) FaultKind) (kind : FaultKind) → result ≡ Err kind → kind ≡ Memory
       → FailsAsUnwrapped protection block result
   unwrap-refuses-memory result kind was memory = rw none (inr (header, (key, (holds, rw was memory))))
-
-  pub unwrap-passes : (lines : Vec ℕ Global) → FailsAsUnwrapped protection block (Ok lines)
-  unwrap-passes lines = rw none (inr (header, (key, (holds, tt))))

@@ -1,5 +1,5 @@
--- How the line of a block is made of texts, or not.
-use Rattle.std.proofs.Common.{◌≡◌, ℕ, None, Result, List, IfOk, Ok, Err}
+-- How the line of a block fails.
+use Rattle.std.proofs.Common.{◌≡◌, ℕ, None, Result, List}
 use Rattle.std.specs.declared.vec.Vec.{Vec}
 use Rattle.std.specs.declared.alloc.Global.{Global}
 use Rattle.des_payment.specs.declared.key_block_header.Header.{Header}
@@ -7,7 +7,7 @@ use Rattle.des_lines.specs.declared.requests.Inputs.{Inputs}
 use Rattle.des_lines.specs.declared.requests.Wrapping.{Wrapping}
 use Rattle.des_lines.specs.declared.fault.FaultKind.{FaultKind}
 use Rattle.des_lines.specs.Texts.{bytes_of}
-use Rattle.des_lines.specs.KeyBlockLines.{IsHeaderOf, IsMadeLine, IsWrapped, FailsAsMade, FailsAsWrapped, texts_fault}
+use Rattle.des_lines.specs.KeyBlockLines.{IsHeaderOf, FailsAsMade, FailsAsWrapped, texts_fault}
 
 module _ (wrapping : Wrapping) (inputs : Inputs) (header : Header) (bytes optional key : List ℕ)
     (is_protection : bytes ≡ bytes_of inputs.key.now) (is_key : key ≡ bytes_of inputs.text.now)
@@ -18,10 +18,3 @@ module _ (wrapping : Wrapping) (inputs : Inputs) (header : Header) (bytes option
   wrap-fails result none fails =
       let made = rw (is_protection, is_key, is_optional) at fails in
       rw none (header, (fields, made))
-
-  pub wrap-made : (result : Result (Vec ℕ Global) FaultKind)
-      → IfOk result (λ line. IsMadeLine bytes header optional key inputs.random.now line.items)
-      → IfOk result (λ line. IsWrapped wrapping inputs line.items)
-  wrap-made (Ok line) made =
-      record { header = header; fields = fields; made = rw (is_protection, is_key, is_optional) at made }
-  wrap-made (Err kind) made = tt

@@ -1,8 +1,9 @@
 -- The faults of the program, as `docs/CUKVASHE.md` lists them: the form of the lines that tell them, and the statuses
 -- that it ends with.
-use Rattle.std.specs.Prelude.{◌≡◌, ℕ, ◌==◌, ◌⊎◌, ◌&&◌, ◌||◌, nat_le, Bool, if◌then◌else◌, List, [], ◌∷◌, ◌++◌, length, codes, Option, Some, None, Result, Err, IsOk, IfErr}
+use Rattle.std.specs.Prelude.{◌≡◌, ℕ, ◌==◌, ◌⊎◌, ◌&&◌, ◌||◌, nat_le, Bool, if◌then◌else◌, List, [], ◌∷◌, ◌++◌, length, codes, Option, Some, None, Result, Err, IfErr}
 use Rattle.std.specs.Char.{encode_utf8, is_control}
 use Rattle.std.specs.List.{concat, flat_map}
+use Rattle.std.specs.Result.{result_err}
 use Rattle.std.specs.Str.{chars}
 use Rattle.des_io.specs.declared.error.StreamError.{StreamError}
 use Rattle.des_io.specs.declared.error.StreamError.TheVariants.{Read as ReadError, Write as WriteError, Length as LengthError, Start as StartError, Padding as PaddingError}
@@ -73,8 +74,7 @@ FailsBy None result = IfErr result (λ kind. kind ≡ Memory)
 
 -- a call that takes no memory gives this fault, where there is one, and else does not fail
 abbrev pub FailsOnlyBy : {A : Type 0} → Option FaultKind → Result A FaultKind → Type 0
-FailsOnlyBy (Some kind) result = result ≡ Err kind
-FailsOnlyBy None result = IsOk result
+FailsOnlyBy fault result = result_err result ≡ fault
 
 -- a call gives this fault, where there is one, and else something else holds
 abbrev pub FailsOr : {A : Type 0} → Option FaultKind → Type 0 → Result A FaultKind → Type 0

@@ -42,17 +42,21 @@ IsTranslated from to fill inputs block =
     IsTranslation (bytes_of inputs.key.now) from (bytes_of inputs.to_key.now) to inputs.account.now (fill_for to fill)
     (bytes_of inputs.text.now) block
 
--- the first fault: of the digits of the key, of the outgoing key, of the block and of the fill digits, and then those of
--- the translation
-abbrev pub translated_fault : Format → Format → List ℕ → Inputs → Option FaultKind
-translated_fault from to fill inputs =
+-- the first fault of the digits of the key, of the outgoing key and of the block
+abbrev pub block_text_fault : Inputs → Option FaultKind
+block_text_fault inputs =
     option_or (any_key_fault (KeyLength None) KeyText inputs.key.now)
     (option_or (any_key_fault ToKeyLength ToKeyText inputs.to_key.now)
-    (option_or (digits_fault 8 BlockLength BlockText inputs.text.now)
+    (digits_fault 8 BlockLength BlockText inputs.text.now))
+
+-- the first fault: of those, of the fill digits, and then those of the translation
+abbrev pub translated_fault : Format → Format → List ℕ → Inputs → Option FaultKind
+translated_fault from to fill inputs =
+    option_or (block_text_fault inputs)
     (option_or (fill_text_fault to fill)
     (option_map TranslationFault
     (translation_fault (bytes_of inputs.key.now) from (bytes_of inputs.to_key.now) to inputs.account.now
-    (fill_for to fill) (bytes_of inputs.text.now))))))
+    (fill_for to fill) (bytes_of inputs.text.now))))
 
 -- the block of format 1 under the outgoing key, and the first fault in the same order
 abbrev pub rekeyed_by : Inputs → List ℕ
@@ -60,11 +64,9 @@ rekeyed_by inputs = rekeyed (bytes_of inputs.key.now) (bytes_of inputs.to_key.no
 
 abbrev pub rekeyed_fault : Inputs → Option FaultKind
 rekeyed_fault inputs =
-    option_or (any_key_fault (KeyLength None) KeyText inputs.key.now)
-    (option_or (any_key_fault ToKeyLength ToKeyText inputs.to_key.now)
-    (option_or (digits_fault 8 BlockLength BlockText inputs.text.now)
+    option_or (block_text_fault inputs)
     (option_map TranslationFault
-    (rekeying_fault (bytes_of inputs.key.now) (bytes_of inputs.to_key.now) (bytes_of inputs.text.now)))))
+    (rekeying_fault (bytes_of inputs.key.now) (bytes_of inputs.to_key.now) (bytes_of inputs.text.now)))
 
 -- ---- verdicts
 
@@ -108,11 +110,11 @@ abbrev pub least_variety : (takes_any_table : Bool) → ℕ
 least_variety true = 0
 least_variety false = 8
 
-abbrev pub table_text_fault : NaturalPins → Option FaultKind
-table_text_fault by = option_map VerificationFault (table_fault (least_variety by.takes_any_table) by.table.now)
-
-abbrev pub validation_fault : NaturalPins → Option FaultKind
-validation_fault by = digits_fault 8 Validation Validation by.validation.now
+-- the first fault of the validation data and of the table
+abbrev pub data_fault : NaturalPins → Option FaultKind
+data_fault by =
+    option_or (digits_fault 8 Validation Validation by.validation.now)
+    (option_map VerificationFault (table_fault (least_variety by.takes_any_table) by.table.now))
 
 -- the natural PIN of a number of digits
 abbrev pub natural_pin_by : NaturalPins → ℕ → List ℕ → List ℕ
@@ -122,8 +124,12 @@ natural_pin_by by count digits =
 abbrev pub natural_fault : NaturalPins → ℕ → List ℕ → Option FaultKind
 natural_fault by count digits =
     option_or (any_key_fault (KeyLength None) KeyText digits)
-    (option_or (validation_fault by)
-    (option_or (table_text_fault by) (option_map VerificationFault (count_fault (bytes_of digits) count))))
+    (option_or (data_fault by) (option_map VerificationFault (count_fault (bytes_of digits) count)))
+
+-- the first fault of the digits of the key and of the PIN
+abbrev pub key_and_pin_fault : Inputs → Option FaultKind
+key_and_pin_fault inputs =
+    option_or (any_key_fault (KeyLength None) KeyText inputs.key.now) (option_map PinFault (pin_fault inputs.text.now))
 
 -- the offset of a PIN
 abbrev pub offset_by : NaturalPins → Inputs → List ℕ
@@ -132,10 +138,8 @@ offset_by by inputs =
 
 abbrev pub offset_fault : NaturalPins → Inputs → Option FaultKind
 offset_fault by inputs =
-    option_or (any_key_fault (KeyLength None) KeyText inputs.key.now)
-    (option_or (option_map PinFault (pin_fault inputs.text.now))
-    (option_or (validation_fault by)
-    (option_or (table_text_fault by) (option_map VerificationFault (key_fault (bytes_of inputs.key.now))))))
+    option_or (key_and_pin_fault inputs)
+    (option_or (data_fault by) (option_map VerificationFault (key_fault (bytes_of inputs.key.now))))
 
 -- a PIN has this offset
 abbrev pub HasOffset : NaturalPins → List ℕ → Inputs → Type 0
@@ -144,12 +148,10 @@ HasOffset by offset inputs =
 
 abbrev pub offset_verdict_fault : NaturalPins → List ℕ → Inputs → Option FaultKind
 offset_verdict_fault by offset inputs =
-    option_or (any_key_fault (KeyLength None) KeyText inputs.key.now)
-    (option_or (option_map PinFault (pin_fault inputs.text.now))
-    (option_or (validation_fault by)
-    (option_or (table_text_fault by)
+    option_or (key_and_pin_fault inputs)
+    (option_or (data_fault by)
     (option_or (number_fault 4 12 Offset Offset offset)
-    (option_map VerificationFault (key_fault (bytes_of inputs.key.now)))))))
+    (option_map VerificationFault (key_fault (bytes_of inputs.key.now)))))
 
 -- ---- calculations
 

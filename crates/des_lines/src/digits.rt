@@ -46,6 +46,15 @@ pub fn bytes_of<const N: usize>(
     Ok(bytes)
 }
 
+/// The same of a text, by one fault.
+pub fn bytes_in<const N: usize>(text: &str, fault: FaultKind) -> Result<[u8; N], FaultKind>
+    requires { N ≤ 1000 }
+    ensures fault { FailsOnlyBy (digits_fault N fault fault text.now) result }
+    ensures bytes { IfOk result (λ bytes. bytes ≡ bytes_of_text text.now) }
+{
+    bytes_of::<N>(text.as_bytes(), fault, fault)
+}
+
 // The digits of bytes, of four bits each.
 fn halves(bytes: &[u8; 5]) -> [u8; 10]
     ensures { result ≡ digits_of bytes.now }

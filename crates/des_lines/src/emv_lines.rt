@@ -7,7 +7,7 @@ ghost use Rattle.des_lines.specs.Texts.{bytes_of as bytes_of_text, hex_line as h
 ghost use Rattle.des_lines.specs.Faults.{FailsBy, FailsOnlyBy};
 ghost use Rattle.des_lines.specs.EmvLines.{card_key_by, cryptogram_of, cryptogram_fault, issuer_data_fault, IsEmvLine, FailsAsEmv};
 
-use crate::digits::{Lines, bytes_of, decode, hex_line};
+use crate::digits::{Lines, bytes_in, decode, hex_line};
 use crate::fault::FaultKind;
 use crate::keys::pair_of;
 use crate::requests::{CardKeyOption, EmvCalculation, Inputs, LONGEST_INPUT};
@@ -31,35 +31,19 @@ pub fn emv_line(alloc: Global, calculation: EmvCalculation, inputs: Inputs) -> L
         }
         EmvCalculation::ApplicationKey { counter } => {
             let card = pair_of(inputs.text)?;
-            let counter = bytes_of::<2>(
-                counter.as_bytes(),
-                FaultKind::Counter,
-                FaultKind::Counter,
-            )?;
+            let counter = bytes_in::<2>(counter, FaultKind::Counter)?;
             Ok(hex_line(alloc, &emv::application_key(&card, &counter))?)
         }
         EmvCalculation::SessionKey { cryptogram } => {
             let card = pair_of(inputs.text)?;
-            let block = bytes_of::<8>(
-                cryptogram.as_bytes(),
-                FaultKind::Cryptogram,
-                FaultKind::Cryptogram,
-            )?;
+            let block = bytes_in::<8>(cryptogram, FaultKind::Cryptogram)?;
             Ok(hex_line(alloc, &emv::session_key(&card, &block))?)
         }
         EmvCalculation::Cryptogram => cryptogram_line(alloc, inputs),
         EmvCalculation::Response1 { cryptogram, code } => {
             let session = pair_of(inputs.text)?;
-            let block = bytes_of::<8>(
-                cryptogram.as_bytes(),
-                FaultKind::Cryptogram,
-                FaultKind::Cryptogram,
-            )?;
-            let code = bytes_of::<2>(
-                code.as_bytes(),
-                FaultKind::ResponseCode,
-                FaultKind::ResponseCode,
-            )?;
+            let block = bytes_in::<8>(cryptogram, FaultKind::Cryptogram)?;
+            let code = bytes_in::<2>(code, FaultKind::ResponseCode)?;
             Ok(hex_line(alloc, &emv::response_1(&session, &block, &code))?)
         }
         EmvCalculation::Response2 {
@@ -68,16 +52,8 @@ pub fn emv_line(alloc: Global, calculation: EmvCalculation, inputs: Inputs) -> L
             issued,
         } => {
             let session = pair_of(inputs.text)?;
-            let block = bytes_of::<8>(
-                cryptogram.as_bytes(),
-                FaultKind::Cryptogram,
-                FaultKind::Cryptogram,
-            )?;
-            let status = bytes_of::<4>(
-                status.as_bytes(),
-                FaultKind::CardStatus,
-                FaultKind::CardStatus,
-            )?;
+            let block = bytes_in::<8>(cryptogram, FaultKind::Cryptogram)?;
+            let status = bytes_in::<4>(status, FaultKind::CardStatus)?;
             let mut bytes = [0u8; 8];
             let size = read_data(issued, &mut bytes)?;
             let response = emv::response_2(&session, &block, &status, &bytes[..size])?;

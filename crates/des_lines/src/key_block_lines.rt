@@ -1,7 +1,7 @@
 //! The lines of calculations with key blocks: the fields of a header, what a block holds, and a block
 //! that is made.
 
-ghost use Rattle.std.specs.Prelude.{◌≡◌, ◌≤◌, ◌⊎◌, ◌++◌, List, ℕ, length, take, None, IsTrue, IfOk, OnOk};
+ghost use Rattle.std.specs.Prelude.{◌≡◌, ◌≤◌, ◌⊎◌, ◌++◌, List, ℕ, length, None, IsTrue, IfOk, OnOk};
 ghost use Rattle.std.specs.String.{string_bytes};
 ghost use Rattle.des_payment.specs.KeyLengths.{is_key};
 ghost use Rattle.des_lines.specs.Texts.{bytes_of as bytes_of_text};
@@ -13,7 +13,7 @@ ghost use Rattle.des_lines.specs.KeyBlockLines.{FailsAsKeyBlock, AnswersKeyBlock
 
 use crate::digits::{Lines, hex_line, line_of};
 use crate::fault::{FaultKind, Field};
-use crate::keys::read_key;
+use crate::keys::AnyKey;
 use crate::requests::{Inputs, KeyBlockCalculation, RANDOM, Wrapping};
 use des_payment::key_block_error::KeyBlockError;
 use des_payment::key_block_header::{
@@ -160,18 +160,17 @@ fn header_lines(alloc: Global, block: &[u8]) -> Lines
 
 // ---- what a block holds
 
-// Reads the digits of a key that protects blocks, of two parts or three, into the first bytes of a
-// buffer, and returns their number.
-fn read_protection(digits: &[u8], key: &mut [u8; 24]) -> Result<usize, FaultKind>
+// The key of two parts or three, which protects blocks, that digits write.
+fn protection_of(digits: &[u8]) -> Result<AnyKey, FaultKind>
     ensures fault { FailsOnlyBy (protection_fault digits.now) result }
-    ensures size { IfOk result (λ size. (size ≡ 16) ⊎ (size ≡ 24)) }
-    ensures key { IfOk result (λ size. take size key.new ≡ bytes_of_text digits.now) }
+    ensures size { IfOk result (λ key. (length key ≡ 16) ⊎ (length key ≡ 24)) }
+    ensures key { IfOk result (λ key. key ≡ bytes_of_text digits.now) }
 {
     let length_fault = FaultKind::KeyBlock(KeyBlockError::ProtectionKeyLength);
     if digits.len() == 16 {
         return Err(length_fault);
     }
-    read_key(digits, key, length_fault, FaultKind::KeyText)
+    AnyKey::read(digits, length_fault, FaultKind::KeyText)
 }
 
 // Adds the line of a key's check value, which keys of DES and triple DES have.
@@ -204,9 +203,8 @@ fn unwrap_lines(alloc: Global, shows_key: bool, protection: &[u8], block: &[u8])
     ensures lines { IfOk result (λ lines.
         TellsKey shows_key protection.now block.now lines.items) }
 {
-    let mut buffer = [0u8; 24];
-    let size = read_protection(protection, &mut buffer)?;
-    let (header, key) = key_blocks::unwrap(&buffer[..size], block)?;
+    let protection = protection_of(protection)?;
+    let (header, key) = key_blocks::unwrap(protection.bytes(), block)?;
     if shows_key {
         return Ok(hex_line(alloc, key.bytes())?);
     }
@@ -289,17 +287,10 @@ fn wrap_line(alloc: Global, wrapping: &Wrapping, inputs: Inputs) -> Lines
     ensures fault { FailsAsWrapped wrapping.now inputs.entry result }
     ensures line { IfOk result (λ line. IsWrapped wrapping.now inputs.entry line.items) }
 {
-    let mut buffer = [0u8; 24];
-    let size = read_protection(inputs.key, &mut buffer)?;
-    let mut key = [0u8; 24];
-    let key_size = read_key(
-        inputs.text,
-        &mut key,
-        FaultKind::ToKeyLength,
-        FaultKind::ToKeyText,
-    )?;
+    let protection = protection_of(inputs.key)?;
+    let key = AnyKey::read(inputs.text, FaultKind::ToKeyLength, FaultKind::ToKeyText)?;
     let header = header_of(wrapping)?;
     let optional = wrapping.optional.as_bytes();
-    let (protection, key) = (&buffer[..size], &key[..key_size]);
+    let (protection, key) = (protection.bytes(), key.bytes());
     block_line(alloc, protection, &header, optional, key, inputs.random)
 }

@@ -1,6 +1,6 @@
 //! Keys: their bytes, and whether they are weak.
 
-ghost use Rattle.std.specs.Prelude.{◌≡◌, ◌↔◌, length, take, IfOk, IfSome, IsTrue};
+ghost use Rattle.std.specs.Prelude.{◌≡◌, ◌↔◌, ◌*◌, List, ℕ, length, take, None, IfOk, IfSome, IsTrue};
 ghost use Rattle.des.specs.WeakKeys.{IsRefused};
 ghost use Rattle.des_lines.specs.Texts.{bytes_of as bytes_of_text};
 ghost use Rattle.des_lines.specs.Faults.{FailsBy, FailsOnlyBy};
@@ -12,6 +12,7 @@ use crate::fault::FaultKind;
 use des::tdes::key_part;
 use des::weak_key::{equal_but_parity, weak_key_test};
 use std::alloc::Global;
+use std::marker::Model;
 
 /// What is found of a key before it is used.
 #[derive(Clone, Copy)]
@@ -62,24 +63,56 @@ pub fn pair_of(digits: &[u8]) -> Result<[u8; 16], FaultKind>
     bytes_of::<16>(digits, FaultKind::KeyLength(Some(16)), FaultKind::KeyText)
 }
 
-/// Reads a key of 8, 16 or 24 bytes that hexadecimal digits write into the first bytes of a buffer,
-/// and returns their number. The faults are that of the length and that of the text.
-pub fn read_key(
-    digits: &[u8],
-    key: &mut [u8; 24],
-    length_fault: FaultKind,
-    text_fault: FaultKind,
-) -> Result<usize, FaultKind>
-    ensures fault { FailsOnlyBy (any_key_fault length_fault text_fault digits.now) result }
-    ensures size { IfOk result IsKeySize }
-    ensures key { IfOk result (λ size. take size key.new ≡ bytes_of_text digits.now) }
-{
-    if !is_key_length(digits.len(), None) {
-        return Err(length_fault);
+/// A key of 8, 16 or 24 bytes.
+#[derive(Drop)]
+pub struct AnyKey {
+    buffer: [u8; 24],
+    size: usize,
+}
+
+impl Model for AnyKey {
+    ghost Value = { List ℕ };
+
+    ghost view = { λ key. take key.size key.buffer };
+
+    ghost invariant = { λ key. IsKeySize key.size };
+}
+
+impl AnyKey {
+    /// The key that hexadecimal digits write. The faults are `KeyLength` and `KeyText`.
+    pub fn of_digits(digits: &[u8]) -> Result<AnyKey, FaultKind>
+        ensures fault { FailsOnlyBy (key_fault None digits.now) result }
+        ensures key { IfOk result (λ key. key ≡ bytes_of_text digits.now) }
+    {
+        AnyKey::read(digits, FaultKind::KeyLength(None), FaultKind::KeyText)
     }
-    let size = digits.len() / 2;
-    decode(digits, &mut key[..size], text_fault)?;
-    Ok(size)
+
+    /// The same, by the faults of the length and of the text.
+    pub fn read(
+        digits: &[u8],
+        length_fault: FaultKind,
+        text_fault: FaultKind,
+    ) -> Result<AnyKey, FaultKind>
+        ensures fault { FailsOnlyBy (any_key_fault length_fault text_fault digits.now) result }
+        ensures key { IfOk result (λ key. key ≡ bytes_of_text digits.now) }
+        ensures long { IfOk result (λ key. length digits.now ≡ 2 * length key) }
+    {
+        if !is_key_length(digits.len(), None) {
+            return Err(length_fault);
+        }
+        let size = digits.len() / 2;
+        let mut buffer = [0; 24];
+        decode(digits, &mut buffer[..size], text_fault)?;
+        Ok(AnyKey { buffer, size })
+    }
+
+    /// Its bytes.
+    pub fn bytes(&self) -> &[u8]
+        ensures value { result.now ≡ self.now }
+        ensures size { IsKeySize (length self.now) }
+    {
+        &self.buffer[..self.size]
+    }
 }
 
 /// Whether the weak key test refuses a key of 8, 16 or 24 bytes.

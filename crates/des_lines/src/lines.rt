@@ -13,7 +13,7 @@ use crate::digits::{Lines, bytes_of, decode, fill_of, hex_line, line_of};
 use crate::emv_lines::emv_line;
 use crate::fault::FaultKind;
 use crate::key_block_lines::key_block_lines;
-use crate::keys::{is_weak, key_of_digits, pair_of, read_key};
+use crate::keys::{AnyKey, is_weak, key_of_digits, pair_of};
 use crate::pin_lines::pin_line;
 use crate::requests::{Calculation, Inputs, LONGEST_INPUT, Purpose};
 use des_payment::translation::Format;
@@ -74,14 +74,8 @@ fn check_line(alloc: Global, bytes: u8, digits: &[u8]) -> Lines
     ensures fault { FailsBy (key_fault None digits.now) result }
     ensures line { IfOk result (λ line. line.items ≡ hex_line_of (check_value_of bytes digits.now)) }
 {
-    let mut key = [0u8; 24];
-    let size = read_key(
-        digits,
-        &mut key,
-        FaultKind::KeyLength(None),
-        FaultKind::KeyText,
-    )?;
-    let value = key_check_value(&key[..size]).unwrap();
+    let key = AnyKey::of_digits(digits)?;
+    let value = key_check_value(key.bytes()).unwrap();
     let count = std::cmp::min(bytes as usize, 3);
     Ok(hex_line(alloc, &value[..count])?)
 }
@@ -97,14 +91,8 @@ fn weak_line(alloc: Global, digits: &[u8]) -> Lines
     ensures fault { FailsBy (key_fault None digits.now) result }
     ensures line { IfOk result (λ line. IsWeakLine (bytes_of_text digits.now) line.items) }
 {
-    let mut key = [0u8; 24];
-    let size = read_key(
-        digits,
-        &mut key,
-        FaultKind::KeyLength(None),
-        FaultKind::KeyText,
-    )?;
-    let text = weak_text(&key[..size]);
+    let key = AnyKey::of_digits(digits)?;
+    let text = weak_text(key.bytes());
     Ok(Vec::from_slice(alloc, text.as_bytes())?)
 }
 

@@ -5,15 +5,15 @@ ghost use Rattle.std.specs.Prelude.{◌≡◌, IfOk};
 ghost use Rattle.des_payment.specs.Texts.{values, number_fault};
 ghost use Rattle.des_lines.specs.Texts.{bytes_of as bytes_of_text, hex_line as hex_line_of, text_line};
 ghost use Rattle.des_lines.specs.Faults.{FailsBy, FailsOnlyBy};
-ghost use Rattle.des_lines.specs.PinLines.{fill_for as fill_by, fill_text_fault, translated_fault, rekeyed_by, rekeyed_fault, table_text_fault};
+ghost use Rattle.des_lines.specs.PinLines.{fill_for as fill_by, fill_text_fault, block_text_fault, translated_fault, rekeyed_by, rekeyed_fault};
 ghost use Rattle.des_lines.specs.PinLines.{pvv_of, pvv_fault, HasPvv, pvv_verdict_fault, natural_pin_by, natural_fault};
-ghost use Rattle.des_lines.specs.PinLines.{offset_by, offset_fault, HasOffset, offset_verdict_fault, IsVerdictLine, TellsOutcome};
-ghost use Rattle.des_lines.specs.PinLines.{pin_line_fault, IsPinLine, validation_fault};
+ghost use Rattle.des_lines.specs.PinLines.{data_fault, key_and_pin_fault, offset_by, offset_fault, HasOffset, offset_verdict_fault};
+ghost use Rattle.des_lines.specs.PinLines.{IsVerdictLine, TellsOutcome, pin_line_fault, IsPinLine};
 
 use crate::check_digit::are_digits;
-use crate::digits::{Lines, bytes_of, fill_of, hex_line, line_of};
+use crate::digits::{Lines, bytes_in, bytes_of, fill_of, hex_line, line_of};
 use crate::fault::FaultKind;
-use crate::keys::{pair_of, read_key};
+use crate::keys::{AnyKey, pair_of};
 use crate::requests::{Inputs, NaturalPins, PinCalculation};
 use crate::tags::{RIGHT, WRONG};
 use des_payment::pin_verification::{natural_pin, pin_offset, pvv, verify_offset, verify_pvv};
@@ -53,36 +53,28 @@ fn fill_for(to: Format, fill: &str) -> Result<[u8; 10], FaultKind>
     }
 }
 
+// The key and the outgoing key of a translation, and the block.
+fn block_of(inputs: Inputs) -> Result<(AnyKey, AnyKey, [u8; 8]), FaultKind>
+    ensures fault { FailsOnlyBy (block_text_fault inputs.entry) result }
+    ensures key { IfOk result (λ read. read.0 ≡ bytes_of_text inputs.entry.key.now) }
+    ensures to_key { IfOk result (λ read. read.1 ≡ bytes_of_text inputs.entry.to_key.now) }
+    ensures block { IfOk result (λ read. read.2 ≡ bytes_of_text inputs.entry.text.now) }
+{
+    let key = AnyKey::of_digits(inputs.key)?;
+    let to_key = AnyKey::read(inputs.to_key, FaultKind::ToKeyLength, FaultKind::ToKeyText)?;
+    let block = bytes_of::<8>(inputs.text, FaultKind::BlockLength, FaultKind::BlockText)?;
+    Ok((key, to_key, block))
+}
+
 fn translated_line(alloc: Global, from: Format, to: Format, fill: &str, inputs: Inputs) -> Lines
     ensures fault { FailsBy (translated_fault from to fill.now inputs.entry) result }
     ensures line { IfOk result (λ line.
         IsPinLine (PinCalculation.Translate from to fill.entry) inputs.entry line.items) }
 {
-    let mut key = [0u8; 24];
-    let size = read_key(
-        inputs.key,
-        &mut key,
-        FaultKind::KeyLength(None),
-        FaultKind::KeyText,
-    )?;
-    let mut outgoing = [0u8; 24];
-    let to_size = read_key(
-        inputs.to_key,
-        &mut outgoing,
-        FaultKind::ToKeyLength,
-        FaultKind::ToKeyText,
-    )?;
-    let block = bytes_of::<8>(inputs.text, FaultKind::BlockLength, FaultKind::BlockText)?;
+    let (key, to_key, block) = block_of(inputs)?;
     let fill = fill_for(to, fill)?;
-    let answer = translate(
-        &key[..size],
-        from,
-        &outgoing[..to_size],
-        to,
-        inputs.account,
-        &fill,
-        &block,
-    )?;
+    let (key, to_key) = (key.bytes(), to_key.bytes());
+    let answer = translate(key, from, to_key, to, inputs.account, &fill, &block)?;
     Ok(hex_line(alloc, &answer)?)
 }
 
@@ -90,22 +82,8 @@ fn rekeyed_line(alloc: Global, inputs: Inputs) -> Lines
     ensures fault { FailsBy (rekeyed_fault inputs.entry) result }
     ensures line { IfOk result (λ line. line.items ≡ hex_line_of (rekeyed_by inputs.entry)) }
 {
-    let mut key = [0u8; 24];
-    let size = read_key(
-        inputs.key,
-        &mut key,
-        FaultKind::KeyLength(None),
-        FaultKind::KeyText,
-    )?;
-    let mut outgoing = [0u8; 24];
-    let to_size = read_key(
-        inputs.to_key,
-        &mut outgoing,
-        FaultKind::ToKeyLength,
-        FaultKind::ToKeyText,
-    )?;
-    let block = bytes_of::<8>(inputs.text, FaultKind::BlockLength, FaultKind::BlockText)?;
-    let answer = translate_format_1(&key[..size], &outgoing[..to_size], &block)?;
+    let (key, to_key, block) = block_of(inputs)?;
+    let answer = translate_format_1(key.bytes(), to_key.bytes(), &block)?;
     Ok(hex_line(alloc, &answer)?)
 }
 
@@ -156,30 +134,20 @@ fn pvv_verdict(alloc: Global, index: u8, value: &str, inputs: Inputs) -> Lines
 
 // ---- natural PINs and offsets
 
-// The validation data that digits write.
-fn validation_of(by: NaturalPins) -> Result<[u8; 8], FaultKind>
-    ensures fault { FailsOnlyBy (validation_fault by.entry) result }
-    ensures bytes { IfOk result (λ bytes. bytes ≡ bytes_of_text by.entry.validation.now) }
+// The validation data and the decimalization table that digits write.
+fn data_of(by: NaturalPins) -> Result<([u8; 8], DecimalTable), FaultKind>
+    ensures fault { FailsOnlyBy (data_fault by.entry) result }
+    ensures validation { IfOk result (λ found. found.0 ≡ bytes_of_text by.entry.validation.now) }
+    ensures table { IfOk result (λ found. found.1 ≡ values by.entry.table.now) }
 {
-    bytes_of::<8>(
-        by.validation.as_bytes(),
-        FaultKind::Validation,
-        FaultKind::Validation,
-    )
-}
-
-// The decimalization table of digits.
-fn table_of(by: NaturalPins) -> Result<DecimalTable, FaultKind>
-    ensures fault { FailsOnlyBy (table_text_fault by.entry) result }
-    ensures table { IfOk result (λ table. table ≡ values by.entry.table.now) }
-{
+    let validation = bytes_in::<8>(by.validation, FaultKind::Validation)?;
     let text = by.table.as_bytes();
     let table = if by.takes_any_table {
         DecimalTable::of_any_variety(text)?
     } else {
         DecimalTable::new(text)?
     };
-    Ok(table)
+    Ok((validation, table))
 }
 
 // The line of the natural PIN of `count` digits under the key that digits write.
@@ -188,34 +156,30 @@ fn natural_line(alloc: Global, by: NaturalPins, count: u8, digits: &[u8]) -> Lin
     ensures line { IfOk result (λ line.
         line.items ≡ text_line (natural_pin_by by.entry count digits.now)) }
 {
-    let mut key = [0u8; 24];
-    let size = read_key(
-        digits,
-        &mut key,
-        FaultKind::KeyLength(None),
-        FaultKind::KeyText,
-    )?;
-    let validation = validation_of(by)?;
-    let table = table_of(by)?;
-    let pin = natural_pin(&key[..size], &table, &validation, count as usize)?;
+    let key = AnyKey::of_digits(digits)?;
+    let (validation, table) = data_of(by)?;
+    let pin = natural_pin(key.bytes(), &table, &validation, count as usize)?;
     Ok(line_of(alloc, pin.text())?)
+}
+
+// The key and the PIN that digits write.
+fn key_and_pin(inputs: Inputs) -> Result<(AnyKey, Pin), FaultKind>
+    ensures fault { FailsOnlyBy (key_and_pin_fault inputs.entry) result }
+    ensures key { IfOk result (λ read. read.0 ≡ bytes_of_text inputs.entry.key.now) }
+    ensures pin { IfOk result (λ read. read.1 ≡ inputs.entry.text.now) }
+{
+    let key = AnyKey::of_digits(inputs.key)?;
+    let pin = Pin::new(inputs.text)?;
+    Ok((key, pin))
 }
 
 fn offset_line(alloc: Global, by: NaturalPins, inputs: Inputs) -> Lines
     ensures fault { FailsBy (offset_fault by.entry inputs.entry) result }
     ensures line { IfOk result (λ line. line.items ≡ text_line (offset_by by.entry inputs.entry)) }
 {
-    let mut key = [0u8; 24];
-    let size = read_key(
-        inputs.key,
-        &mut key,
-        FaultKind::KeyLength(None),
-        FaultKind::KeyText,
-    )?;
-    let pin = Pin::new(inputs.text)?;
-    let validation = validation_of(by)?;
-    let table = table_of(by)?;
-    let offset = pin_offset(&key[..size], &table, &validation, &pin)?;
+    let (key, pin) = key_and_pin(inputs)?;
+    let (validation, table) = data_of(by)?;
+    let offset = pin_offset(key.bytes(), &table, &validation, &pin)?;
     Ok(line_of(alloc, offset.text())?)
 }
 
@@ -232,17 +196,9 @@ fn offset_verdict(alloc: Global, by: NaturalPins, offset: &str, inputs: Inputs) 
     ensures line { IfOk result (λ line.
         IsVerdictLine (HasOffset by.entry offset.now inputs.entry) line.items) }
 {
-    let mut key = [0u8; 24];
-    let size = read_key(
-        inputs.key,
-        &mut key,
-        FaultKind::KeyLength(None),
-        FaultKind::KeyText,
-    )?;
-    let pin = Pin::new(inputs.text)?;
-    let validation = validation_of(by)?;
-    let table = table_of(by)?;
+    let (key, pin) = key_and_pin(inputs)?;
+    let (validation, table) = data_of(by)?;
     let offset = given_offset(offset)?;
-    let outcome = verify_offset(&key[..size], &table, &validation, &pin, &offset);
+    let outcome = verify_offset(key.bytes(), &table, &validation, &pin, &offset);
     verdict(alloc, outcome)
 }

@@ -23,11 +23,6 @@ pub returns-in_err-header-clause-only : goal.returns-in_err-header-clause-only
 returns-in_err-header-clause-only c = λ header blocks readable.
     absurd (c.in_err-header.ensures.only header blocks readable.0 readable.1.0 readable.1.1.0 readable.1.1.1)
 
-pub returns-in_err-context-clause-fault : goal.returns-in_err-context-clause-fault
-returns-in_err-context-clause-fault c =
-    let found = c.in_ok-header.ensures.found in
-    absurd (c.in_err-context.ensures.found (layout-of c.in_ok-header.header found.0 c.args.block.now found.1))
-
 pub returns-in_err-context-clause-only : goal.returns-in_err-context-clause-only
 returns-in_err-context-clause-only c = λ header blocks readable.
     absurd (c.in_err-context.ensures.found (layout-of header blocks c.args.block.now readable))
