@@ -18,7 +18,7 @@ about_of kind name = name
 
 -- ---- lines
 
--- what a line tells: a name, what it is about, where that is not empty, and words
+-- what a line tells: a name, what it is about, if that is not empty, and words
 abbrev pub line_start : List ℕ → List ℕ
 line_start name = concat (codes "cukvashe: " ∷ name ∷ codes ": " ∷ [])
 
@@ -67,22 +67,22 @@ IsOfStream (LengthError past) kind = kind ≡ Length
 IsOfStream StartError kind = kind ≡ Start
 IsOfStream PaddingError kind = kind ≡ Padding
 
--- a call gives this fault, where there is one, and else fails only if memory is refused
+-- a call gives this fault, if there is one, and else fails only if memory is refused
 abbrev pub FailsBy : {A : Type 0} → Option FaultKind → Result A FaultKind → Type 0
 FailsBy (Some kind) result = result ≡ Err kind
 FailsBy None result = IfErr result (λ kind. kind ≡ Memory)
 
--- a call that takes no memory gives this fault, where there is one, and else does not fail
+-- a call that takes no memory gives this fault, if there is one, and else does not fail
 abbrev pub FailsOnlyBy : {A : Type 0} → Option FaultKind → Result A FaultKind → Type 0
 FailsOnlyBy fault result = result_err result ≡ fault
 
--- a call gives this fault, where there is one, and else something else holds
+-- a call gives this fault, if there is one, and else something else holds
 abbrev pub FailsOr : {A : Type 0} → Option FaultKind → Type 0 → Result A FaultKind → Type 0
 FailsOr (Some kind) Else result = result ≡ Err kind
 FailsOr None Else result = Else
 
--- a call gives this fault, where there is one. Else it fails as `WeakKey` where the key is refused,
--- and only if memory is refused where it is not
+-- a call gives this fault, if there is one. Else it fails as `WeakKey` if the key is refused, and if it
+-- is not, only if memory is refused
 abbrev pub FailsOrRefuses : {A : Type 0} → Option FaultKind → Type 0 → Result A FaultKind → Type 0
 FailsOrRefuses (Some kind) Refused result = result ≡ Err kind
 FailsOrRefuses None Refused result =

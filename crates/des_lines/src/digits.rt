@@ -46,7 +46,7 @@ pub fn bytes_of<const N: usize>(
     Ok(bytes)
 }
 
-/// The same of a text, by one fault.
+/// The same of a text, by one fault of its length and its characters.
 pub fn bytes_in<const N: usize>(text: &str, fault: FaultKind) -> Result<[u8; N], FaultKind>
     requires { N ≤ 1000 }
     ensures fault { FailsOnlyBy (digits_fault N fault fault text.now) result }
