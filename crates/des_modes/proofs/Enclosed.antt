@@ -61,37 +61,38 @@ All-reversed blocks are =
 
 -- ---- what was enclosed
 
-Cbc-one : (E D : List ℕ → List ℕ) (iv : List ℕ) (p other q : List (List ℕ)) → IsBlock iv → Undoes E D → All IsBlock p
-    → All IsBlock other → Cbc E iv p q → Cbc E iv other q → p ≡ other
-Cbc-one E D iv p other q is_iv laws are too first second =
-    unchained-from D iv q p (Unchains-from_Cbc E D iv p q is_iv are laws.is_block laws.undone first)
-    ∙ sym (unchained-from D iv q other (Unchains-from_Cbc E D iv other q is_iv too laws.is_block laws.undone second))
+module _ {E D : List ℕ → List ℕ} (laws : Undoes E D) where
+  Cbc-one : (iv : List ℕ) (p other q : List (List ℕ)) → IsBlock iv → All IsBlock p → All IsBlock other → Cbc E iv p q
+      → Cbc E iv other q → p ≡ other
+  Cbc-one iv p other q is_iv are too first second =
+      unchained-from D iv q p (Unchains-from_Cbc E D iv p q is_iv are laws.is_block laws.undone first)
+      ∙ sym (unchained-from D iv q other (Unchains-from_Cbc E D iv other q is_iv too laws.is_block laws.undone second))
 
-Encloses-one : (E D : List ℕ → List ℕ) (iv vector : List ℕ) (p other enclosed : List (List ℕ)) → IsBlock iv
-    → IsBlock vector → Undoes E D → Encloses (λ block answer. answer ≡ E block) iv p enclosed
-    → Encloses (λ block answer. answer ≡ E block) vector other enclosed → p ≡ other
-Encloses-one E D iv vector p other enclosed is_iv is_vector laws first second =
-    let same : iv ∷ first.temp1 ≡ vector ∷ second.temp1 =
-    sym (reversed-reversed (iv ∷ first.temp1))
-    ∙ ap reversed (Cbc-one E D second_iv (reversed (iv ∷ first.temp1)) (reversed (vector ∷ second.temp1)) enclosed is_second_iv laws
-    (All-reversed (iv ∷ first.temp1) (All-cons IsBlock iv first.temp1 is_iv first.are_blocks.1))
-    (All-reversed (vector ∷ second.temp1) (All-cons IsBlock vector second.temp1 is_vector second.are_blocks.1)) first.second second.second)
-    ∙ reversed-reversed (vector ∷ second.temp1) in
-    let P : List (List ℕ) → Type 0 = λ blocks. Cbc E (get_or blocks 0 []) other (drop 1 blocks) in
-    Cbc-one E D iv p other first.temp1 is_iv laws first.are_blocks.0 second.are_blocks.0 first.first
-    (subst P (sym same) second.first)
+  Encloses-one : (iv vector : List ℕ) (p other enclosed : List (List ℕ)) → IsBlock iv → IsBlock vector
+      → Encloses (λ block answer. answer ≡ E block) iv p enclosed
+      → Encloses (λ block answer. answer ≡ E block) vector other enclosed → p ≡ other
+  Encloses-one iv vector p other enclosed is_iv is_vector first second =
+      let same : iv ∷ first.temp1 ≡ vector ∷ second.temp1 =
+      sym (reversed-reversed (iv ∷ first.temp1))
+      ∙ ap reversed (Cbc-one second_iv _ _ enclosed is_second_iv
+      (All-reversed (iv ∷ first.temp1) (All-cons IsBlock iv first.temp1 is_iv first.are_blocks.1))
+      (All-reversed (vector ∷ second.temp1) (All-cons IsBlock vector second.temp1 is_vector second.are_blocks.1)) first.second
+      second.second)
+      ∙ reversed-reversed (vector ∷ second.temp1) in
+      let P : List (List ℕ) → Type 0 = λ blocks. Cbc E (get_or blocks 0 []) other (drop 1 blocks) in
+      Cbc-one iv p other first.temp1 is_iv first.are_blocks.0 second.are_blocks.0 first.first (subst P (sym same) second.first)
 
--- what wraps a key wraps no other, and has its checksum
-pub Wraps-one : (E D : List ℕ → List ℕ) (iv vector check : List ℕ) (key other wrapped : List (List ℕ)) → IsBlock iv
-    → IsBlock vector → Undoes E D → Encloses (λ block answer. answer ≡ E block) iv (key ++ check ∷ []) wrapped
-    → Wraps E vector other wrapped → (key ≡ other) × (checksum key ≡ check)
-Wraps-one E D iv vector check key other wrapped is_iv is_vector laws opened wraps =
-    let same : key ++ check ∷ [] ≡ other ++ checksum other ∷ [] =
-    Encloses-one E D iv vector (key ++ check ∷ []) (other ++ checksum other ∷ []) wrapped is_iv is_vector laws opened wraps in
-    let count : length key ≡ length other =
-    omega (arith, ap length same, length-append key (check ∷ []), length-append other (checksum other ∷ [])) in
-    let parts = last_same key other check (checksum other) count same in
-    (parts.0, ap checksum parts.0 ∙ sym parts.1)
+  -- what wraps a key wraps no other, and has its checksum
+  pub Wraps-one : (iv vector check : List ℕ) (key other wrapped : List (List ℕ)) → IsBlock iv → IsBlock vector
+      → Encloses (λ block answer. answer ≡ E block) iv (key ++ check ∷ []) wrapped → Wraps E vector other wrapped
+      → (key ≡ other) × (checksum key ≡ check)
+  Wraps-one iv vector check key other wrapped is_iv is_vector opened wraps =
+      let same : key ++ check ∷ [] ≡ other ++ checksum other ∷ [] =
+      Encloses-one iv vector (key ++ check ∷ []) (other ++ checksum other ∷ []) wrapped is_iv is_vector opened wraps in
+      let count : length key ≡ length other =
+      omega (arith, ap length same, length-append key (check ∷ []), length-append other (checksum other ∷ [])) in
+      let parts = last_same key other check (checksum other) count same in
+      (parts.0, ap checksum parts.0 ∙ sym parts.1)
 
 -- ---- what opens it
 

@@ -70,40 +70,27 @@ in_cfb_64 =
 in_cfb_8 : List ℕ
 in_cfb_8 = 0xf3 ∷ 0x1f ∷ 0xda ∷ 0x07 ∷ 0x01 ∷ 0x14 ∷ 0x62 ∷ 0xee ∷ []
 
-known_ofb : Ofb encryption vector text in_ofb
-unfolding encryption vector text in_ofb bits_of bits_of_bytes block_of_bits select substitute_by box_entry number_of
-    cipher_function xor_bits round_key c_half d_half rotate shifts_through key_schedule after_rounds through_rounds key
-known_ofb = Xors-xored bit_xor 0 _ text in_ofb refl
-
-known_cfb_64 : Cfb 8 encryption vector text in_cfb_64
-unfolding encryption vector text in_cfb_64 bits_of bits_of_bytes block_of_bits select substitute_by box_entry number_of
-    cipher_function xor_bits round_key c_half d_half rotate shifts_through key_schedule after_rounds through_rounds key
-known_cfb_64 = Xors-xored bit_xor 0 _ text in_cfb_64 refl
-
 -- in segments of 48 bits (OpenSSL's test/destest.c)
 in_cfb_48 : List ℕ
 in_cfb_48 =
     0xf3 ∷ 0x09 ∷ 0x62 ∷ 0x49 ∷ 0xc7 ∷ 0xf4 ∷ 0x30 ∷ 0xb5 ∷ 0x15 ∷ 0xec ∷ 0xbb ∷ 0x85 ∷
     0x97 ∷ 0x5a ∷ 0x13 ∷ 0x8c ∷ 0x68 ∷ 0x60 ∷ 0xe2 ∷ 0x38 ∷ 0x34 ∷ 0x3c ∷ 0xdc ∷ 0x1f ∷ []
 
-known_cfb_48 : Cfb 6 encryption vector text in_cfb_48
-unfolding encryption vector text in_cfb_48 bits_of bits_of_bytes block_of_bits select substitute_by box_entry number_of
-    cipher_function xor_bits round_key c_half d_half rotate shifts_through key_schedule after_rounds through_rounds key
-known_cfb_48 = Xors-xored bit_xor 0 _ text in_cfb_48 refl
-
--- the first eight bytes
-known_cfb_8 : Cfb 1 encryption vector (take 8 text) in_cfb_8
-unfolding encryption vector text in_cfb_8 bits_of bits_of_bytes block_of_bits select substitute_by box_entry number_of
-    cipher_function xor_bits round_key c_half d_half rotate shifts_through key_schedule after_rounds through_rounds key
-known_cfb_8 = Xors-xored bit_xor 0 _ (take 8 text) in_cfb_8 refl
-
--- the bits of the first byte
-known_cfb_1 : Cfb1 encryption vector (bits_of_bytes (0x4e ∷ [])) (bits_of_bytes (0xcd ∷ []))
-unfolding encryption vector bits_of bits_of_bytes block_of_bits select substitute_by box_entry number_of cipher_function
-    xor_bits round_key c_half d_half rotate shifts_through key_schedule after_rounds through_rounds key
-known_cfb_1 =
-    Xors-xored xor false (cfb_bits 1 encryption vector (bits_of_bytes (0xcd ∷ []))) (bits_of_bytes (0x4e ∷ []))
-    (bits_of_bytes (0xcd ∷ [])) refl
+-- of CFB-8 the first eight bytes, and of CFB-1 the bits of the first
+known_streams : Ofb encryption vector text in_ofb × Cfb 8 encryption vector text in_cfb_64
+    × Cfb 6 encryption vector text in_cfb_48 × Cfb 1 encryption vector (take 8 text) in_cfb_8
+    × Cfb1 encryption vector (bits_of_bytes (0x4e ∷ [])) (bits_of_bytes (0xcd ∷ []))
+unfolding encryption vector text in_ofb in_cfb_64 in_cfb_48 in_cfb_8 bits_of bits_of_bytes block_of_bits select
+    substitute_by box_entry number_of cipher_function xor_bits round_key c_half d_half rotate shifts_through key_schedule
+    after_rounds through_rounds key
+known_streams = (
+  Xors-xored bit_xor 0 _ text in_ofb refl,
+  Xors-xored bit_xor 0 _ text in_cfb_64 refl,
+  Xors-xored bit_xor 0 _ text in_cfb_48 refl,
+  Xors-xored bit_xor 0 _ (take 8 text) in_cfb_8 refl,
+  Xors-xored xor false (cfb_bits 1 encryption vector (bits_of_bytes (0xcd ∷ []))) (bits_of_bytes (0x4e ∷ []))
+      (bits_of_bytes (0xcd ∷ [])) refl,
+)
 
 known_counter : counter_block (0xff ∷ 0xff ∷ 0xff ∷ 0xff ∷ 0xff ∷ 0xff ∷ 0xff ∷ 0xfe ∷ []) 3
     ≡ 0x00 ∷ 0x00 ∷ 0x00 ∷ 0x00 ∷ 0x00 ∷ 0x00 ∷ 0x00 ∷ 0x01 ∷ []

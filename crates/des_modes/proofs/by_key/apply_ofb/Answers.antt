@@ -4,6 +4,6 @@ use Rattle.des_modes.proofs.by_key.apply_ofb.Goals as goal
 
 pub returns : goal.returns
 returns g c = λ key made.
-    OfbUnder-from_Ofb _ (g.C.BlockCipherEncrypt.encrypted c.args.cipher.now) c.args.iv.now c.args.bytes.now
-    c.apply.new.bytes (g.met.C.Relating.encrypts_by_relation c.args.cipher.now key made) (omega arith, c.are_bytes.ensures)
+    OfbUnder-from_Ofb _ (g.C.BlockCipherEncrypt.encrypted c.args.cipher.now) c.args.iv.now _ _
+    (g.met.C.Relating.encrypts_by_relation c.args.cipher.now key made) (omega arith, c.are_bytes.ensures)
     (g.met.C.BlockCipher.encrypted_is_block c.args.cipher.now) (rw c.new.ensures at c.apply.ensures.applied)

@@ -1,5 +1,4 @@
 use Rattle.std.proofs.Common.{◌*◌, refl, arith}
-use Rattle.des.specs.Bits.{bits_of_bytes}
 use Rattle.des_modes.proofs.BitSegments.{XorsBitsFrom-from_Cfb}
 use Rattle.des_modes.proofs.RelatedStreams.{CfbBits-from_bits}
 use Rattle.des_modes.proofs.by_key.decrypt_cfb.Goals as goal
@@ -7,8 +6,7 @@ use Rattle.des_modes.proofs.by_key.decrypt_cfb.Goals as goal
 pub returns : goal.returns
 returns g c = λ key made.
     let E = g.C.BlockCipherEncrypt.encrypted c.args.cipher.now in
-    CfbBits-from_bits _ E (8 * c.args.segment) c.args.iv.now (bits_of_bytes c.decrypt.new.bytes) (bits_of_bytes c.args.bytes.now)
-    (g.met.C.Relating.encrypts_by_relation c.args.cipher.now key made)
+    CfbBits-from_bits _ E (8 * c.args.segment) c.args.iv.now _ _ (g.met.C.Relating.encrypts_by_relation c.args.cipher.now key made)
     (XorsBitsFrom-from_Cfb c.args.segment (8 * c.args.segment) E c.args.iv.now c.decrypt.new.bytes c.args.bytes.now c.requires.some refl
     (omega arith, c.are_bytes.ensures) c.are_bytes-2.ensures (g.met.C.BlockCipher.encrypted_is_block c.args.cipher.now)
     c.requires.short (rw c.new.ensures at c.decrypt.ensures.decrypted))
