@@ -22,7 +22,7 @@ use Rattle.des_modes.specs.declared.stream.Place.{Place}
 use Rattle.des_modes.specs.declared.stream.Stream.{Stream}
 use Rattle.des_modes.specs.declared.stream.TheConstants.{MARK}
 use Rattle.des_modes.proofs.BitPlaces.{bits-append}
-use Rattle.des_modes.proofs.XoredPieces.{XorsFrom-none}
+use Rattle.des_modes.proofs.XoredPieces.{Xors-none}
 
 -- what holds of each mode holds of that of a number
 pub mode_by-each : (P : Mode → Type 0) (number : ℕ) → IsMode number → P Counter → P OutputFeedback → P BitFeedback
@@ -39,10 +39,10 @@ mode_by-each P number (inr (inr within)) counter output bit cipher = elim (eqb_t
 
 InMode-none : (mode : Mode) (encryption : List ℕ → List ℕ) (iv : List ℕ) → InMode mode encryption iv [] []
 unfolding bits_of_bytes
-InMode-none Counter encryption iv = XorsFrom-none 0 _
-InMode-none OutputFeedback encryption iv = XorsFrom-none 0 _
+InMode-none Counter encryption iv = Xors-none 0 _
+InMode-none OutputFeedback encryption iv = Xors-none 0 _
 InMode-none BitFeedback encryption iv = record { count = refl; xored = λ i below. absurd (omega arith) }
-InMode-none (CipherFeedback s) encryption iv = XorsFrom-none 0 _
+InMode-none (CipherFeedback s) encryption iv = Xors-none 0 _
 
 plus-none : (n : ℕ) → n < 2 ^ 64 → n ≡ (n + 0 / 8) % 2 ^ 64
 plus-none n below = omega arith

@@ -17,7 +17,7 @@ use Rattle.des_modes.specs.declared.stream.Stream.{Stream}
 use Rattle.des_modes.proofs.BitSegments.{XorsBitsFrom-from_Cfb}
 use Rattle.des_modes.proofs.RelatedStreams.{CfbBits-from_bits, CtrUnder-from_Ctr, IsBlock-input_block, IsBlock-output_block, OfbUnder-from_Ofb}
 use Rattle.des_modes.proofs.StreamPlaces.{mode_by-each}
-use Rattle.des_modes.proofs.XoredPieces.{XorsFrom-other}
+use Rattle.des_modes.proofs.XoredPieces.{Xors-other}
 
 module _ (e f : List ℕ → List ℕ) (alike : AnswerAlike e f) where
   Cfb1-alike : (iv : List ℕ) (p c : List Bool) → Cfb1 e iv p c → Cfb1 f iv p c
@@ -57,14 +57,14 @@ module _ (e f : List ℕ → List ℕ) (alike : AnswerAlike e f) where
 
     pub InMode-alike : (mode : Mode) (p : List ℕ) → InMode mode e iv p c → InMode mode f iv p c
     InMode-alike Counter p made =
-        XorsFrom-other 0 _ _ p c
+        Xors-other 0 _ _ p c
         (λ i below. ap (λ (block : List ℕ). byte_at block ((0 + i) % 8)) (alike _ (IsBlock-to_be_bytes _))) made
     InMode-alike OutputFeedback p made =
-        XorsFrom-other 0 _ _ p c
+        Xors-other 0 _ _ p c
         (λ i below. ap (λ (block : List ℕ). byte_at block ((0 + i) % 8)) (output_block-alike _)) made
     InMode-alike BitFeedback p made = Cfb1-alike iv (bits_of_bytes p) (bits_of_bytes c) made
     InMode-alike (CipherFeedback s) p made =
-        XorsFrom-other 0 _ _ p c (λ i below.
+        Xors-other 0 _ _ p c (λ i below.
         let begun : s * ((0 + i) / s) ≤ length c = omega (arith, mul-div-le (0 + i) s, made.count) in
         ap (λ (block : List ℕ). byte_at block ((0 + i) % s)) (alike _ (IsBlock-input_block s iv c _ is_iv bytes begun)))
         made

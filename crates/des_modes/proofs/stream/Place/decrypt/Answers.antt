@@ -1,17 +1,17 @@
 use Rattle.des.specs.Bits.{bits_of_bytes}
 use Rattle.des_modes.proofs.BitPlaces.{bits-append}
-use Rattle.des_modes.proofs.XoredPieces.{XorsFrom-back}
+use Rattle.des_modes.proofs.XoredPieces.{Xors-back, bytes_undone}
 use Rattle.des_modes.proofs.stream.Place.decrypt.Goals as goal
 
 pub returns-in-Counter-clause-made : goal.returns-in-Counter-clause-made
 returns-in-Counter-clause-made g c =
     rw c.in-Counter.is (λ iv p d at made.
-    XorsFrom-back 0 _ _ _ (c.apply_ctr.ensures.whole iv d p at (XorsFrom-back 0 _ p d made)))
+    Xors-back 0 _ _ _ bytes_undone (c.apply_ctr.ensures.whole iv d p at (Xors-back 0 _ p d bytes_undone made)))
 
 pub returns-in-OutputFeedback-clause-made : goal.returns-in-OutputFeedback-clause-made
 returns-in-OutputFeedback-clause-made g c =
     rw c.in-OutputFeedback.is (λ iv p d at made.
-    XorsFrom-back 0 _ _ _ (c.apply_ofb.ensures.whole iv d p at (XorsFrom-back 0 _ p d made)))
+    Xors-back 0 _ _ _ bytes_undone (c.apply_ofb.ensures.whole iv d p at (Xors-back 0 _ p d bytes_undone made)))
 
 pub returns-in-BitFeedback-clause-after : goal.returns-in-BitFeedback-clause-after
 returns-in-BitFeedback-clause-after g c =
