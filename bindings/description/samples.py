@@ -10,7 +10,7 @@ from .c import filled
 # The arguments that a call reads, where any bytes won't do, and its numbers; what it writes goes to room of the test's. `count` is the length
 # of a list.
 BY_NAME = {
-    "account": '"4012345678909"', "account_length": "13", "base": "key", "bits": "8 * count - 3", "block": "sent", "blocks": "1",
+    "account": '"4012345678909"', "account_length": "13", "base": "key", "bits": "8 * count", "block": "sent", "blocks": "1",
     "buffer": "blocks", "bytes": "salted",
     "capacity": "sizeof blocks", "card": "key", "count": "count", "counts": "ones", "digits": '"0123456789012345"',
     "expiry": '"8701"', "expiry_length": "4", "fill": "fill", "first": "key", "hash": "CUKVASHE_SHA256", "index": "1",

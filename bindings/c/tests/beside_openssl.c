@@ -39,6 +39,48 @@ static void chain(int cipher, struct schedules *by, const uint8_t *iv, uint8_t *
     DES_ede3_cbc_encrypt(blocks, blocks, (long)(8 * count), &by->part[0], &by->part[1], &by->part[2], &vector, DES_ENCRYPT);
 }
 
+/* Bit `i` of bytes, and the same bit made another's. */
+static uint8_t bit_at(const uint8_t *bytes, size_t i) { return (uint8_t)(bytes[i / 8] << i % 8 & 0x80); }
+
+static void put_bit(uint8_t *bytes, size_t i, uint8_t bit) {
+  bytes[i / 8] = (uint8_t)((bytes[i / 8] & ~(0x80 >> i % 8)) | bit >> i % 8);
+}
+
+/* What OpenSSL encrypts a segment of so many bits to, or as many segments as are in `size` bytes. */
+static void feed_back(int cipher, struct schedules *by, DES_cblock *vector, int bits, const uint8_t *in, uint8_t *out, size_t size) {
+  if (cipher == DES) DES_cfb_encrypt(in, out, bits, (long)size, &by->part[0], vector, DES_ENCRYPT);
+  else DES_ede3_cfb_encrypt(in, out, bits, (long)size, &by->part[0], &by->part[1], &by->part[2], vector, DES_ENCRYPT);
+}
+
+/* What it encrypts bytes to in a mode. It has no CTR of DES: there each counter block is encrypted by itself. Room is for 8 bytes more. */
+static void encrypt_in_mode(int cipher, struct schedules *by, int mode, const uint8_t *iv, const uint8_t *in, uint8_t *out, size_t length) {
+  DES_cblock vector;
+  int used = 0;
+  memcpy(vector, iv, 8);
+  if (mode == CUKVASHE_OFB && cipher == DES) {
+    DES_ofb64_encrypt(in, out, (long)length, &by->part[0], &vector, &used);
+  } else if (mode == CUKVASHE_OFB) {
+    DES_ede3_ofb64_encrypt(in, out, (long)length, &by->part[0], &by->part[1], &by->part[2], &vector, &used);
+  } else if (mode == CUKVASHE_CTR) {
+    for (size_t i = 0; i < length; i++) {
+      uint8_t block[8];
+      memcpy(block, vector, 8);
+      answer(cipher, by, block, DES_ENCRYPT);
+      out[i] = in[i] ^ block[i % 8];
+      for (int at = 7; i % 8 == 7 && at >= 0 && ++vector[at] == 0; at--) continue;
+    }
+  } else if (mode == CUKVASHE_CFB1) {
+    for (size_t i = 0; i < 8 * length; i++) {
+      uint8_t bit = bit_at(in, i), encrypted = 0;
+      feed_back(cipher, by, &vector, 1, &bit, &encrypted, 1);
+      put_bit(out, i, encrypted & 0x80);
+    }
+  } else {
+    const size_t segment = (size_t)(mode - CUKVASHE_CFB1);
+    feed_back(cipher, by, &vector, (int)(8 * segment), in, out, (length + segment - 1) / segment * segment);
+  }
+}
+
 /* Lists of up to 40 blocks mostly, and sometimes of up to 600: no batch, a part of one, several. */
 static size_t random_count(void) {
   uint64_t word = random_word();
@@ -127,6 +169,46 @@ static void list_under(int n, const uint8_t *key, const uint8_t *iv, const uint8
   }
 }
 
+/* Bytes in a mode, both ways, whole and in three pieces. */
+static void is_in_mode(const struct way *way, const union context *context, int mode, const uint8_t *iv, const uint8_t *plain,
+                       const uint8_t *wanted, size_t length) {
+  static uint8_t bytes[8 * MOST];
+  const size_t cut = (size_t)(random_word() % (length + 1)), next = cut + (size_t)(random_word() % (length - cut + 1));
+  for (int n = 0; n < 2; n++) {
+    next_bytes *const call = n == 0 ? way->encrypt_stream : way->decrypt_stream;
+    const uint8_t *before = n == 0 ? plain : wanted, *after = n == 0 ? wanted : plain;
+    cukvashe_stream stream;
+    memcpy(bytes, before, length);
+    CHECK((n == 0 ? way->encrypt_mode : way->decrypt_mode)(context, mode, iv, bytes, length) == CUKVASHE_OK);
+    CHECK(memcmp(bytes, after, length) == 0);
+    memcpy(bytes, before, length);
+    CHECK(cukvashe_stream_begin(&stream, mode, iv) == CUKVASHE_OK);
+    CHECK(call(context, &stream, bytes, cut) == CUKVASHE_OK);
+    CHECK(call(context, &stream, bytes + cut, next - cut) == CUKVASHE_OK);
+    CHECK(call(context, &stream, bytes + next, length - next) == CUKVASHE_OK);
+    CHECK(memcmp(bytes, after, length) == 0);
+  }
+}
+
+/* Random bytes in each mode under a random key. */
+static void random_modes(int n) {
+  static uint8_t plain[8 * MOST + 8], wanted[8 * MOST + 8];
+  const struct cipher *cipher = &ciphers[n];
+  uint8_t key[24], iv[8];
+  union context context;
+  random_bytes(key, sizeof key);
+  random_bytes(iv, sizeof iv);
+  CHECK(cipher->init(&context, key, cipher->key_size) == CUKVASHE_OK);
+  struct schedules by = schedules_of(n, key);
+  for (int mode = CUKVASHE_CTR; mode <= CUKVASHE_CFB64; mode++) {
+    const size_t count = random_count(), length = count == 0 ? 0 : 8 * count - (size_t)(random_word() % 8);
+    if (mode > CUKVASHE_OFB && mode < CUKVASHE_CFB1) continue;
+    random_bytes(plain, sizeof plain);
+    encrypt_in_mode(n, &by, mode, iv, plain, wanted, length);
+    for (int way = 0; way < count_of_ways(); way++) is_in_mode(&cipher->ways[way], &context, mode, iv, plain, wanted, length);
+  }
+}
+
 /* A random list of `count` blocks under a random key, and the key's check value. */
 static void random_list(int cipher, size_t count) {
   static const uint8_t zeros[8] = {0};
@@ -160,6 +242,8 @@ int main(int count, char **words) {
   int keys = atoi(words[1]);
   for (int n = 0; n < keys; n++)
     for (int cipher = 0; cipher < CIPHERS; cipher++) random_list(cipher, random_count());
+  for (int n = 0; n < keys / 10; n++)
+    for (int cipher = 0; cipher < CIPHERS; cipher++) random_modes(cipher);
   int cases = each_case(words[2], blocks_in_turn);
   size_t longest = count > 3 ? (size_t)atoi(words[3]) : 0;
   CHECK(longest <= LONG);
@@ -168,7 +252,8 @@ int main(int count, char **words) {
     for (size_t length = 0; longest > 0 && length <= BATCHES; length++) random_list(cipher, length);
     if (longest > 0) random_list(cipher, longest);
   }
-  printf("beside OpenSSL: %d keys for each of %d ciphers, %d keys of known answers, lists of up to %zu blocks, by %d of %d ways\n",
-         keys, (int)CIPHERS, cases, longest > MOST ? longest : (size_t)MOST, count_of_ways(), (int)MOST_WAYS);
+  printf("beside OpenSSL: %d keys for each of %d ciphers, %d of them in each mode without padding, %d keys of known answers, lists of up to "
+         "%zu blocks, by %d of %d ways\n",
+         keys, (int)CIPHERS, keys / 10, cases, longest > MOST ? longest : (size_t)MOST, count_of_ways(), (int)MOST_WAYS);
   return 0;
 }

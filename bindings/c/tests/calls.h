@@ -88,17 +88,17 @@ static void call_tdes_ede3_encrypt_stream(void) { returned = cukvashe_tdes_ede3_
 static void call_tdes_ede3_decrypt_stream(void) { returned = cukvashe_tdes_ede3_decrypt_stream((void *)contexts[2],
     &streams[2], (void *)rooms[0], 8 * count); }
 static void call_des_encrypt_stream_bits(void) { returned = cukvashe_des_encrypt_stream_bits((void *)contexts[0],
-    &streams[1], (void *)rooms[0], 8 * count - 3); }
+    &streams[1], (void *)rooms[0], 8 * count); }
 static void call_des_decrypt_stream_bits(void) { returned = cukvashe_des_decrypt_stream_bits((void *)contexts[0],
-    &streams[1], (void *)rooms[0], 8 * count - 3); }
+    &streams[1], (void *)rooms[0], 8 * count); }
 static void call_tdes_ede2_encrypt_stream_bits(void) { returned = cukvashe_tdes_ede2_encrypt_stream_bits((void *)contexts[1],
-    &streams[1], (void *)rooms[0], 8 * count - 3); }
+    &streams[1], (void *)rooms[0], 8 * count); }
 static void call_tdes_ede2_decrypt_stream_bits(void) { returned = cukvashe_tdes_ede2_decrypt_stream_bits((void *)contexts[1],
-    &streams[1], (void *)rooms[0], 8 * count - 3); }
+    &streams[1], (void *)rooms[0], 8 * count); }
 static void call_tdes_ede3_encrypt_stream_bits(void) { returned = cukvashe_tdes_ede3_encrypt_stream_bits((void *)contexts[2],
-    &streams[1], (void *)rooms[0], 8 * count - 3); }
+    &streams[1], (void *)rooms[0], 8 * count); }
 static void call_tdes_ede3_decrypt_stream_bits(void) { returned = cukvashe_tdes_ede3_decrypt_stream_bits((void *)contexts[2],
-    &streams[1], (void *)rooms[0], 8 * count - 3); }
+    &streams[1], (void *)rooms[0], 8 * count); }
 static void call_stream_position(void) { cukvashe_stream_position(&streams[0], (void *)rooms[0], (void *)rooms[1]); }
 static void call_des_encrypt_each(void) { returned = cukvashe_des_encrypt_each(keys, count, (void *)rooms[0],
     8 * count); }

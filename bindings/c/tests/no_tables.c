@@ -19,6 +19,8 @@ static void put(void) {
   memcpy(no_tables_bytes, plain, sizeof plain);
 }
 
+static const int modes[] = {CUKVASHE_CTR, CUKVASHE_OFB, CUKVASHE_CFB8, CUKVASHE_CFB64};
+
 static void lists_alike(const struct way *way, const union context *with_tables, const union context *no_tables, size_t length) {
   in_place *const in[] = {way->encrypt_ecb, way->decrypt_ecb};
   to_other *const to[] = {way->encrypt_ecb_to, way->decrypt_ecb_to};
@@ -39,6 +41,13 @@ static void lists_alike(const struct way *way, const union context *with_tables,
     put();
     CHECK(in[n](no_tables, no_tables_bytes, length + 1) == CUKVASHE_ERR_BLOCKS && same(0));
     CHECK(in_cbc[n](no_tables, no_tables_iv, no_tables_bytes, length + 1) == CUKVASHE_ERR_BLOCKS && same(0));
+    for (int mode = 0; mode < 4; mode++) {
+      whole_text *const in_mode = n == 0 ? way->encrypt_mode : way->decrypt_mode;
+      const size_t bytes = length - length / 16;
+      put();
+      CHECK(in_mode(with_tables, modes[mode], with_tables_iv, with_tables_bytes, bytes) == CUKVASHE_OK);
+      CHECK(in_mode(no_tables, modes[mode], no_tables_iv, no_tables_bytes, bytes) == CUKVASHE_OK && same(bytes));
+    }
   }
 }
 

@@ -166,27 +166,27 @@ static int faulty_tdes_ede3_decrypt_stream(const bool *has) {
 }
 static int faulty_des_encrypt_stream_bits(const bool *has) {
   return cukvashe_des_encrypt_stream_bits(has[0] ? (void *)no_bytes : (void *)contexts[0],
-    has[1] ? (void *)no_bytes : has[2] ? &streams[0] : &streams[1], (void *)rooms[0], 8 * count - 3);
+    has[1] ? (void *)no_bytes : has[2] ? &streams[0] : &streams[1], (void *)rooms[0], 8 * count);
 }
 static int faulty_tdes_ede2_encrypt_stream_bits(const bool *has) {
   return cukvashe_tdes_ede2_encrypt_stream_bits(has[0] ? (void *)no_bytes : (void *)contexts[1],
-    has[1] ? (void *)no_bytes : has[2] ? &streams[0] : &streams[1], (void *)rooms[0], 8 * count - 3);
+    has[1] ? (void *)no_bytes : has[2] ? &streams[0] : &streams[1], (void *)rooms[0], 8 * count);
 }
 static int faulty_tdes_ede3_encrypt_stream_bits(const bool *has) {
   return cukvashe_tdes_ede3_encrypt_stream_bits(has[0] ? (void *)no_bytes : (void *)contexts[2],
-    has[1] ? (void *)no_bytes : has[2] ? &streams[0] : &streams[1], (void *)rooms[0], 8 * count - 3);
+    has[1] ? (void *)no_bytes : has[2] ? &streams[0] : &streams[1], (void *)rooms[0], 8 * count);
 }
 static int faulty_des_decrypt_stream_bits(const bool *has) {
   return cukvashe_des_decrypt_stream_bits(has[0] ? (void *)no_bytes : (void *)contexts[0],
-    has[1] ? (void *)no_bytes : has[2] ? &streams[0] : &streams[1], (void *)rooms[0], 8 * count - 3);
+    has[1] ? (void *)no_bytes : has[2] ? &streams[0] : &streams[1], (void *)rooms[0], 8 * count);
 }
 static int faulty_tdes_ede2_decrypt_stream_bits(const bool *has) {
   return cukvashe_tdes_ede2_decrypt_stream_bits(has[0] ? (void *)no_bytes : (void *)contexts[1],
-    has[1] ? (void *)no_bytes : has[2] ? &streams[0] : &streams[1], (void *)rooms[0], 8 * count - 3);
+    has[1] ? (void *)no_bytes : has[2] ? &streams[0] : &streams[1], (void *)rooms[0], 8 * count);
 }
 static int faulty_tdes_ede3_decrypt_stream_bits(const bool *has) {
   return cukvashe_tdes_ede3_decrypt_stream_bits(has[0] ? (void *)no_bytes : (void *)contexts[2],
-    has[1] ? (void *)no_bytes : has[2] ? &streams[0] : &streams[1], (void *)rooms[0], 8 * count - 3);
+    has[1] ? (void *)no_bytes : has[2] ? &streams[0] : &streams[1], (void *)rooms[0], 8 * count);
 }
 static int faulty_des_encrypt_each(const bool *has) {
   return cukvashe_des_encrypt_each(keys, has[1] ? count + 1 : count, (void *)rooms[0],

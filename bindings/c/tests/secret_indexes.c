@@ -32,6 +32,8 @@ static void lists_by(const struct way *way, const union context *context) {
     CHECK(way->decrypt_ecb_to(context, other, data, length) == CUKVASHE_OK);
     CHECK(way->decrypt_cbc(context, iv, data, length) == CUKVASHE_OK);
     CHECK(way->decrypt_cbc_to(context, iv, data, other, length) == CUKVASHE_OK);
+    CHECK(way->encrypt_mode(context, CUKVASHE_CTR, iv, data, length) == CUKVASHE_OK);
+    CHECK(way->decrypt_mode(context, CUKVASHE_CFB64, iv, data, length) == CUKVASHE_OK);
   }
 }
 
@@ -69,6 +71,22 @@ static void verifies(const struct mac *mac) {
   CHECK(is_status(mac->is_tag(&context, tag, sizeof tag), false));
 }
 
+/* Bytes in pieces by each mode, and some bits. What mode it is, and how many bytes, is no secret. */
+static void streams_without_tables(const struct cipher *cipher, const struct way *way, const union context *context, size_t length) {
+  static const int modes[] = {CUKVASHE_CTR, CUKVASHE_OFB, CUKVASHE_CFB1, CUKVASHE_CFB8, CUKVASHE_CFB1 + 5, CUKVASHE_CFB64};
+  for (size_t i = 0; i < sizeof modes / sizeof *modes; i++) {
+    cukvashe_stream stream;
+    CHECK(cukvashe_stream_begin(&stream, modes[i], iv) == CUKVASHE_OK);
+    CHECK(way->encrypt_stream(context, &stream, data, length) == CUKVASHE_OK);
+    CHECK(way->decrypt_stream(context, &stream, data, length) == CUKVASHE_OK);
+    CHECK(way->encrypt_mode(context, modes[i], iv, data, length) == CUKVASHE_OK);
+    CHECK(way->decrypt_mode(context, modes[i], iv, data, length) == CUKVASHE_OK);
+    if (modes[i] != CUKVASHE_CFB1) continue;
+    CHECK(cipher->encrypt_bits(context, &stream, data, 13) == CUKVASHE_OK);
+    CHECK(cipher->decrypt_bits(context, &stream, data, 13) == CUKVASHE_OK);
+  }
+}
+
 /* Every call of contexts without tables, of lists of any length. */
 static void calls_without_tables_of(const struct cipher *cipher) {
   static const size_t few[] = {1, 2, 3, 4, 5, 6, 7, 8, 9, 10, 11, 12, 20, 40, 257};
@@ -89,6 +107,7 @@ static void calls_without_tables_of(const struct cipher *cipher) {
       CHECK(way->decrypt_cbc(&context, iv, data, length) == CUKVASHE_OK);
       CHECK(way->encrypt_cbc_to(&context, iv, data, other, length) == CUKVASHE_OK);
       CHECK(way->decrypt_cbc_to(&context, iv, data, other, length) == CUKVASHE_OK);
+      streams_without_tables(cipher, way, &context, length - 3);
     }
   }
 }
