@@ -8,3 +8,4 @@ pub mod DecryptedPrefixes
 pub mod DecryptedEnds
 pub mod SkippedBlocks
 pub mod DecryptedParts
+pub mod AppliedPieces

@@ -1,7 +1,8 @@
 //! Bytes that go from a reader to a writer through a cipher: in a mode of operation (ECB or CBC)
-//! and with a padding (PKCS#7, ISO/IEC 7816-4, zeros or none), a buffer at a time, over any cipher
-//! with the trait `ManyBlocks` of `des_fast`. The reader, the writer and the buffer are the
-//! caller's: no call takes memory, however much goes through.
+//! and with a padding (PKCS#7, ISO/IEC 7816-4, zeros or none), or in a mode that makes a stream cipher
+//! (CFB, OFB or CTR), which takes any number of bytes. They go a buffer at a time, over any cipher with
+//! the trait `ManyBlocks` of `des_fast`. The reader, the writer and the buffer are the caller's: no
+//! call takes memory, however much goes through.
 //!
 //! What is written is the ciphertext or the plaintext of all that was read; after an error it is a
 //! prefix of it. Nothing is authenticated: a changed ciphertext decrypts to something, mostly with no
@@ -20,6 +21,7 @@ pub mod mode;
 pub mod padding;
 pub mod part;
 pub mod pieces;
+pub mod stream_cipher;
 pub mod transformation;
 
 pub use decryption::decrypt_stream;
@@ -28,4 +30,5 @@ pub use error::StreamError;
 pub use mode::Mode;
 pub use padding::Padding;
 pub use part::{decrypt_part, skip_blocks};
+pub use stream_cipher::{StreamCipher, apply_stream};
 pub use transformation::Transformation;

@@ -1,0 +1,99 @@
+-- Bytes that go through a stream cipher, piece after piece.
+use Rattle.std.proofs.Common.{◌≡◌, ℕ, ◌+◌, ◌≤◌, List, [], ◌++◌, Option, length, take, drop, refl, subst, arith, append_assoc, append-nil, take-append-drop, take_all, length-append}
+use Rattle.std.specs.Io.KnownBytes.{Consumes, Appends}
+use Rattle.std.proofs.KnownBytes.{Consumes-trans, Appends-trans, Consumes-nil, Appends-nil}
+use Rattle.des_io.specs.Streams.{Passage, passage_of}
+use Rattle.des_io.specs.StreamCiphers.{AreOfOneMode, Becomes, AppliesPrefix}
+use Rattle.des_io.specs.declared.stream_cipher.StreamCipher.{StreamCipher}
+use Rattle.des_io.specs.declared.stream_cipher.StreamCipher.TheVariants.{Ctr as CtrAt, Ofb as OfbAt, EncryptCfb, DecryptCfb}
+
+AreOfOneMode-refl : (state : StreamCipher) → AreOfOneMode state state
+AreOfOneMode-refl (CtrAt state) = (state, refl)
+AreOfOneMode-refl (OfbAt state) = (state, refl)
+AreOfOneMode-refl (EncryptCfb state) = (state, refl)
+AreOfOneMode-refl (DecryptCfb state) = (state, refl)
+
+AreOfOneMode-trans : (state next last : StreamCipher) → AreOfOneMode state next → AreOfOneMode next last
+    → AreOfOneMode state last
+AreOfOneMode-trans (CtrAt state) next last first second = rw first.1 at second
+AreOfOneMode-trans (OfbAt state) next last first second = rw first.1 at second
+AreOfOneMode-trans (EncryptCfb state) next last first second = rw first.1 at second
+AreOfOneMode-trans (DecryptCfb state) next last first second = rw first.1 at second
+
+Becomes-append : {E : List ℕ → List ℕ} {state : StreamCipher} {next last : StreamCipher} {p c more answers : List ℕ}
+    → Becomes E state p c next → Becomes E next more answers last → Becomes E state (p ++ more) (c ++ answers) last
+Becomes-append {E} {state} {next} {last} {p} {c} {more} {answers} first second = record {
+  mode = AreOfOneMode-trans state next last first.mode second.mode;
+  goes_on = λ s iv before made behind.
+      rw (← append_assoc before p more, ← append_assoc made c answers)
+      (second.goes_on s iv (before ++ p) (made ++ c) (first.goes_on s iv before made behind));
+}
+
+-- `count` bytes were read, and what they become was written
+pub record AppliesAll (encryption : List ℕ → List ℕ) (state next : StreamCipher) (count : ℕ) (passage : Passage)
+    : Type 0 where
+  pub from : List ℕ
+  pub to : List ℕ
+  pub read : Consumes passage.read_from passage.read_to from
+  pub became : Becomes encryption state from to next
+  pub written : Appends passage.written_from passage.written_to to
+  pub size : length from ≡ count
+
+pub AppliesAll-none : (E : List ℕ → List ℕ) (state : StreamCipher) (r u : Option (List ℕ))
+    → AppliesAll E state state 0 (passage_of r r u u)
+AppliesAll-none E state r u = record {
+  from = [];
+  to = [];
+  read = Consumes-nil r;
+  became = record { mode = AreOfOneMode-refl state; goes_on = λ s iv p c behind. simp append-nil behind };
+  written = Appends-nil u;
+  size = refl;
+}
+
+-- n bytes more
+pub AppliesAll-more : {E : List ℕ → List ℕ} {state next : StreamCipher} {count : ℕ} {r s t u v w : Option (List ℕ)}
+    (bytes answers : List ℕ) (last : StreamCipher) (n k : ℕ) → AppliesAll E state next count (passage_of r s u v)
+    → Consumes s t bytes → length bytes ≡ n → Becomes E next bytes answers last → Appends v w (take k answers)
+    → k ≡ length answers → AppliesAll E state last (count + n) (passage_of r t u w)
+AppliesAll-more {r = r} {s} {t} {u} {v} {w} bytes answers last n k so_far read size became written all = record {
+  from = so_far.from ++ bytes;
+  to = so_far.to ++ answers;
+  read = Consumes-trans r s t _ _ so_far.read read;
+  became = Becomes-append so_far.became became;
+  written = Appends-trans u v w _ _ so_far.written (subst (Appends v w) (take_all k answers (omega (arith, all))) written);
+  size = omega (arith, length-append so_far.from bytes, so_far.size, size);
+}
+
+-- after bytes that were read and not written
+pub AppliesPrefix-read : {E : List ℕ → List ℕ} {state next : StreamCipher} {count limit : ℕ}
+    {r s t u v : Option (List ℕ)} (bytes : List ℕ) → AppliesAll E state next count (passage_of r s u v)
+    → Consumes s t bytes → count ≤ limit → AppliesPrefix E state limit (passage_of r t u v)
+AppliesPrefix-read {next = next} {r = r} {s} {t} bytes so_far read within = record {
+  from = so_far.from;
+  rest = bytes;
+  put = so_far.to;
+  missing = [];
+  next = next;
+  read = Consumes-trans r s t _ _ so_far.read read;
+  became = rw append-nil so_far.became;
+  written = so_far.written;
+  within = omega (arith, so_far.size, within);
+}
+
+-- after a piece that was written, perhaps not the whole of it
+pub AppliesPrefix-written : {E : List ℕ → List ℕ} {state next : StreamCipher} {count limit : ℕ}
+    {r s t u v w : Option (List ℕ)} (bytes answers : List ℕ) (last : StreamCipher) (n k : ℕ)
+    → AppliesAll E state next count (passage_of r s u v) → Consumes s t bytes → length bytes ≡ n
+    → Becomes E next bytes answers last → Appends v w (take k answers) → count + n ≤ limit
+    → AppliesPrefix E state limit (passage_of r t u w)
+AppliesPrefix-written {r = r} {s} {t} {u} {v} {w} bytes answers last n k so_far read size became written within = record {
+  from = so_far.from ++ bytes;
+  rest = [];
+  put = so_far.to ++ take k answers;
+  missing = drop k answers;
+  next = last;
+  read = rw append-nil (Consumes-trans r s t _ _ so_far.read read);
+  became = rw (append_assoc, take-append-drop) (Becomes-append so_far.became became);
+  written = Appends-trans u v w _ _ so_far.written written;
+  within = omega (arith, length-append so_far.from bytes, so_far.size, size, within);
+}

@@ -1,0 +1,64 @@
+-- Bytes that go from a reader through a mode that makes a stream cipher of a block cipher, to a writer.
+use Rattle.std.specs.Prelude.{◌≡◌, ◌⊎◌, ℕ, ◌≤◌, List, ◌++◌, length}
+use Rattle.std.specs.Io.KnownBytes.{Consumes, Appends, IsAtEnd}
+use Rattle.des_modes.specs.Ctr.{Ctr}
+use Rattle.des_modes.specs.Ofb.{Ofb}
+use Rattle.des_modes.specs.Cfb.{Cfb}
+use Rattle.des_modes.specs.CtrStates.{IsCtrAt}
+use Rattle.des_modes.specs.OfbStates.{IsOfbAt}
+use Rattle.des_modes.specs.CfbStates.{IsCfbAt}
+use Rattle.des_modes.specs.declared.ctr.Counter.{Counter}
+use Rattle.des_modes.specs.declared.ofb.Feedback.{Feedback}
+use Rattle.des_modes.specs.declared.cfb.Register.{Register}
+use Rattle.des_io.specs.Streams.{Passage}
+use Rattle.des_io.specs.declared.stream_cipher.StreamCipher.{StreamCipher}
+use Rattle.des_io.specs.declared.stream_cipher.StreamCipher.TheVariants.{Ctr as CtrAt, Ofb as OfbAt, EncryptCfb, DecryptCfb}
+
+-- the state stands behind bytes, which became others, of the stream of an initialization vector or of a first counter
+-- block; the segments of cipher feedback have s bytes
+abbrev pub IsBehind : (encryption : List ℕ → List ℕ) (s : ℕ) (iv from to : List ℕ) (state : StreamCipher) → Type 0
+IsBehind encryption s t from to (CtrAt state) = IsCtrAt t (length from) state × Ctr encryption t from to
+IsBehind encryption s iv from to (OfbAt state) = IsOfbAt encryption iv (length from) state × Ofb encryption iv from to
+IsBehind encryption s iv from to (EncryptCfb state) = IsCfbAt s encryption iv to state × Cfb s encryption iv from to
+IsBehind encryption s iv from to (DecryptCfb state) = IsCfbAt s encryption iv from state × Cfb s encryption iv to from
+
+-- the states are of one mode
+abbrev pub AreOfOneMode : (state next : StreamCipher) → Type 0
+AreOfOneMode (CtrAt state) next = (after : Counter) × (next ≡ CtrAt after)
+AreOfOneMode (OfbAt state) next = (after : Feedback) × (next ≡ OfbAt after)
+AreOfOneMode (EncryptCfb state) next = (after : Register) × (next ≡ EncryptCfb after)
+AreOfOneMode (DecryptCfb state) next = (after : Register) × (next ≡ DecryptCfb after)
+
+-- the bytes that come next, `from`, become `to`: behind all that is behind the state, they and what they become are of the
+-- same stream, and the state goes on to `next`
+pub record Becomes (encryption : List ℕ → List ℕ) (state : StreamCipher) (from to : List ℕ) (next : StreamCipher)
+    : Type 0 where
+  pub mode : AreOfOneMode state next
+  pub goes_on : (s : ℕ) (iv p c : List ℕ) → IsBehind encryption s iv p c state
+      → IsBehind encryption s iv (p ++ from) (c ++ to) next
+
+-- `count` bytes were read, up to the end of the input or to a limit, and what they become was written
+pub record Applies (encryption : List ℕ → List ℕ) (state : StreamCipher) (limit count : ℕ) (passage : Passage)
+    : Type 0 where
+  pub from : List ℕ
+  pub to : List ℕ
+  pub next : StreamCipher
+  pub read : Consumes passage.read_from passage.read_to from
+  pub became : Becomes encryption state from to next
+  pub written : Appends passage.written_from passage.written_to to
+  pub size : length from ≡ count
+  pub ends : IsAtEnd passage.read_to ⊎ (count ≡ limit)
+  pub within : count ≤ limit
+
+-- what was written begins what bytes that were read become: those before `rest` become `put` and `missing`
+pub record AppliesPrefix (encryption : List ℕ → List ℕ) (state : StreamCipher) (limit : ℕ) (passage : Passage)
+    : Type 0 where
+  pub from : List ℕ
+  pub rest : List ℕ
+  pub put : List ℕ
+  pub missing : List ℕ
+  pub next : StreamCipher
+  pub read : Consumes passage.read_from passage.read_to (from ++ rest)
+  pub became : Becomes encryption state from (put ++ missing) next
+  pub written : Appends passage.written_from passage.written_to put
+  pub within : length from ≤ limit
