@@ -13,8 +13,8 @@ ghost use Rattle.des_context.specs.Contexts.{HasCipherType, HasMark, IsContextOf
 ghost use Rattle.des_context.specs.CipherTypes.{relation_of};
 ghost use Rattle.des_context.specs.declared.contexts.TheConstants.{NO_MAC};
 
-use crate::ciphers::{ContextCipher, dispatch_cipher};
-use crate::contexts::{NO_MAC, has_mark, has_no_tables};
+use crate::ciphers::{CipherType, ContextCipher, dispatch_cipher};
+use crate::contexts::{NO_MAC, opened};
 use crate::status::{ERR_BLOCKS, ERR_CONTEXT, OK};
 use des::cbc::next_vector;
 use des_fast::box_lookup::Tables;
@@ -22,48 +22,39 @@ use des_fast::many::{ManyBlocks, Slice};
 
 // Encrypts each block by itself, by a cipher.
 #[inline(never)]
-fn encrypt_by<C: ContextCipher + ManyBlocks, S: Slice>(context: &[u64], blocks: &mut [[u8; 8]])
+fn encrypt_by<C: ContextCipher + ManyBlocks, S: Slice>(
+    context: &[u64],
+    no_tables: bool,
+    blocks: &mut [[u8; 8]],
+)
     requires cipher_type { HasCipherType C.CIPHER_TYPE context.now }
     requires made { (key : List ℕ) × IsContextOf context.now key }
     ensures { (key : List ℕ) → IsContextOf context.now key
         → IsTheOne (λ answers. AnswersEach (relation_of key) blocks.old answers) blocks.new }
 {
-    C::of(context).encrypt_list_by::<S>(has_no_tables(NO_MAC, context), blocks);
-}
-
-// Encrypts each block by itself.
-fn encrypt<S: Slice>(context: &[u64], blocks: &mut [[u8; 8]])
-    requires { (key : List ℕ) × IsContextOf context.now key }
-    ensures { (key : List ℕ) → IsContextOf context.now key
-        → IsTheOne (λ answers. AnswersEach (relation_of key) blocks.old answers) blocks.new }
-{
-    dispatch_cipher!(encrypt_by::<Tables, S>(context, blocks));
+    C::of(context).encrypt_list_by::<S>(no_tables, blocks);
 }
 
 // Decrypts each block by itself, by a cipher.
 #[inline(never)]
-fn decrypt_by<C: ContextCipher + ManyBlocks, S: Slice>(context: &[u64], blocks: &mut [[u8; 8]])
+fn decrypt_by<C: ContextCipher + ManyBlocks, S: Slice>(
+    context: &[u64],
+    no_tables: bool,
+    blocks: &mut [[u8; 8]],
+)
     requires cipher_type { HasCipherType C.CIPHER_TYPE context.now }
     requires made { (key : List ℕ) × IsContextOf context.now key }
     ensures { (key : List ℕ) → IsContextOf context.now key
         → IsTheOne (λ answers. AnswersEach (relation_of key) answers blocks.old) blocks.new }
 {
-    C::of(context).decrypt_list_by::<S>(has_no_tables(NO_MAC, context), blocks);
-}
-
-// Decrypts each block by itself.
-fn decrypt<S: Slice>(context: &[u64], blocks: &mut [[u8; 8]])
-    requires { (key : List ℕ) × IsContextOf context.now key }
-    ensures { (key : List ℕ) → IsContextOf context.now key
-        → IsTheOne (λ answers. AnswersEach (relation_of key) answers blocks.old) blocks.new }
-{
-    dispatch_cipher!(decrypt_by::<Tables, S>(context, blocks));
+    C::of(context).decrypt_list_by::<S>(no_tables, blocks);
 }
 
 // Encrypts blocks by CBC from the vector, which becomes the last ciphertext block, by a cipher.
 #[inline(never)]
 fn encrypt_cbc_by<C: ContextCipher + ManyBlocks>(
     context: &[u64],
+    no_tables: bool,
     iv: &mut [u8; 8],
     blocks: &mut [[u8; 8]],
 )
@@ -73,24 +64,15 @@ fn encrypt_cbc_by<C: ContextCipher + ManyBlocks>(
         → Chains (relation_of key) iv.old blocks.old blocks.new }
     ensures goes_on { iv.new ≡ next_vector iv.old blocks.new }
 {
-    C::of(context).encrypt_cbc_list(has_no_tables(NO_MAC, context), iv, blocks);
+    C::of(context).encrypt_cbc_list(no_tables, iv, blocks);
     *iv = next_vector(iv, blocks);
-}
-
-// Encrypts blocks by CBC from the vector, which becomes the last ciphertext block.
-fn encrypt_cbc_blocks(context: &[u64], iv: &mut [u8; 8], blocks: &mut [[u8; 8]])
-    requires { (key : List ℕ) × IsContextOf context.now key }
-    ensures chained { (key : List ℕ) → IsContextOf context.now key
-        → Chains (relation_of key) iv.old blocks.old blocks.new }
-    ensures goes_on { iv.new ≡ next_vector iv.old blocks.new }
-{
-    dispatch_cipher!(encrypt_cbc_by::<Tables>(context, iv, blocks));
 }
 
 // Decrypts blocks that CBC chained from the vector, by a cipher.
 #[inline(never)]
 fn decrypt_cbc_by<C: ContextCipher + ManyBlocks, S: Slice>(
     context: &[u64],
+    no_tables: bool,
     iv: &[u8; 8],
     blocks: &mut [[u8; 8]],
 )
@@ -99,16 +81,26 @@ fn decrypt_cbc_by<C: ContextCipher + ManyBlocks, S: Slice>(
     ensures { (key : List ℕ) → IsContextOf context.now key
         → Chains (relation_of key) iv.now blocks.new blocks.old }
 {
-    C::of(context).decrypt_cbc_list_by::<S>(has_no_tables(NO_MAC, context), iv, blocks);
+    C::of(context).decrypt_cbc_list_by::<S>(no_tables, iv, blocks);
 }
 
 /// Decrypts blocks that CBC chained from the vector.
-pub(crate) fn decrypt_cbc_blocks<S: Slice>(context: &[u64], iv: &[u8; 8], blocks: &mut [[u8; 8]])
-    requires { (key : List ℕ) × IsContextOf context.now key }
+pub(crate) fn decrypt_cbc_blocks<S: Slice>(
+    cipher_type: CipherType,
+    no_tables: bool,
+    context: &[u64],
+    iv: &[u8; 8],
+    blocks: &mut [[u8; 8]],
+)
+    requires cipher_type { HasCipherType cipher_type context.now }
+    requires made { (key : List ℕ) × IsContextOf context.now key }
     ensures { (key : List ℕ) → IsContextOf context.now key
         → Chains (relation_of key) iv.now blocks.new blocks.old }
 {
-    dispatch_cipher!(decrypt_cbc_by::<Tables, S>(context, iv, blocks))
+    dispatch_cipher!(
+        cipher_type,
+        decrypt_cbc_by::<Tables, S>(context, no_tables, iv, blocks)
+    )
 }
 
 /// Whether so many bytes are these blocks, and nothing beside.
@@ -130,13 +122,16 @@ pub fn encrypt_ecb<S: Slice>(context: &[u64], blocks: &mut [[u8; 8]], size: usiz
         → IsTheOne (λ answers. AnswersEach (relation_of key) blocks.old answers) blocks.new }
     ensures kept { result ≢ OK → blocks.new ≡ blocks.old }
 {
-    if !has_mark(NO_MAC, context) {
+    let Some((cipher_type, no_tables)) = opened(NO_MAC, context) else {
         return ERR_CONTEXT;
-    }
+    };
     if !are_bytes_of(blocks, size) {
         return ERR_BLOCKS;
     }
-    encrypt::<S>(context, blocks);
+    dispatch_cipher!(
+        cipher_type,
+        encrypt_by::<Tables, S>(context, no_tables, blocks)
+    );
     OK
 }
 
@@ -151,13 +146,16 @@ pub fn decrypt_ecb<S: Slice>(context: &[u64], blocks: &mut [[u8; 8]], size: usiz
         → IsTheOne (λ answers. AnswersEach (relation_of key) answers blocks.old) blocks.new }
     ensures kept { result ≢ OK → blocks.new ≡ blocks.old }
 {
-    if !has_mark(NO_MAC, context) {
+    let Some((cipher_type, no_tables)) = opened(NO_MAC, context) else {
         return ERR_CONTEXT;
-    }
+    };
     if !are_bytes_of(blocks, size) {
         return ERR_BLOCKS;
     }
-    decrypt::<S>(context, blocks);
+    dispatch_cipher!(
+        cipher_type,
+        decrypt_by::<Tables, S>(context, no_tables, blocks)
+    );
     OK
 }
 
@@ -175,13 +173,16 @@ pub fn encrypt_cbc(context: &[u64], iv: &mut [u8; 8], blocks: &mut [[u8; 8]], si
     ensures goes_on { result ≡ OK → iv.new ≡ next_vector iv.old blocks.new }
     ensures kept { result ≢ OK → (blocks.new ≡ blocks.old) × (iv.new ≡ iv.old) }
 {
-    if !has_mark(NO_MAC, context) {
+    let Some((cipher_type, no_tables)) = opened(NO_MAC, context) else {
         return ERR_CONTEXT;
-    }
+    };
     if !are_bytes_of(blocks, size) {
         return ERR_BLOCKS;
     }
-    encrypt_cbc_blocks(context, iv, blocks);
+    dispatch_cipher!(
+        cipher_type,
+        encrypt_cbc_by::<Tables>(context, no_tables, iv, blocks)
+    );
     OK
 }
 
@@ -203,14 +204,14 @@ pub fn decrypt_cbc<S: Slice>(
     ensures goes_on { result ≡ OK → iv.new ≡ next_vector iv.old blocks.old }
     ensures kept { result ≢ OK → (blocks.new ≡ blocks.old) × (iv.new ≡ iv.old) }
 {
-    if !has_mark(NO_MAC, context) {
+    let Some((cipher_type, no_tables)) = opened(NO_MAC, context) else {
         return ERR_CONTEXT;
-    }
+    };
     if !are_bytes_of(blocks, size) {
         return ERR_BLOCKS;
     }
     let next = next_vector(iv, blocks);
-    decrypt_cbc_blocks::<S>(context, iv, blocks);
+    decrypt_cbc_blocks::<S>(cipher_type, no_tables, context, iv, blocks);
     *iv = next;
     OK
 }
@@ -227,7 +228,7 @@ pub fn copy_whole(context: &[u64], input: &[[u8; 8]], output: &mut [[u8; 8]], si
     ensures made { result ≡ OK → output.new ≡ input.now }
     ensures kept { result ≢ OK → output.new ≡ output.old }
 {
-    if !has_mark(NO_MAC, context) {
+    if opened(NO_MAC, context).is_none() {
         return ERR_CONTEXT;
     }
     if input.len() != output.len() || !are_bytes_of(input, size) {

@@ -113,19 +113,19 @@ impl<W: BoxLookup> ContextCipher for Ede3<Des<W>> {
     }
 }
 
-/// Calls a generic function with the cipher type that the words of a context say, over a way. What
-/// it calls is not inlined: else each call would take the stack of the largest cipher.
+/// Calls a generic function with the cipher of a type, over a way. What it calls is not inlined: else
+/// each call would take the stack of the largest cipher.
 macro_rules! dispatch_cipher {
-    ($call:ident::<$way:ident $(, $slice:ident)?>($context:expr $(, $argument:expr)*)) => {
-        match $crate::contexts::cipher_type($context) {
+    ($cipher_type:expr, $call:ident::<$way:ident $(, $slice:ident)?>($($argument:expr),*)) => {
+        match $cipher_type {
             $crate::ciphers::CipherType::Des => {
-                $call::<des_fast::single::Des<$way> $(, $slice)?>($context $(, $argument)*)
+                $call::<des_fast::single::Des<$way> $(, $slice)?>($($argument),*)
             }
             $crate::ciphers::CipherType::Ede2 => {
-                $call::<des::tdes::Ede2<des_fast::single::Des<$way>> $(, $slice)?>($context $(, $argument)*)
+                $call::<des::tdes::Ede2<des_fast::single::Des<$way>> $(, $slice)?>($($argument),*)
             }
             $crate::ciphers::CipherType::Ede3 => {
-                $call::<des::tdes::Ede3<des_fast::single::Des<$way>> $(, $slice)?>($context $(, $argument)*)
+                $call::<des::tdes::Ede3<des_fast::single::Des<$way>> $(, $slice)?>($($argument),*)
             }
         }
     };

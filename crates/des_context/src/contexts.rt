@@ -4,7 +4,7 @@
 //! words is as good. Calls refuse words that do not end with their mark: those that no init made, or
 //! that of another type.
 
-ghost use Rattle.std.specs.Prelude.{◌≡◌, ◌≢◌, ◌↔◌, ◌≤◌, ◌<◌, ◌+◌, ◌*◌, ℕ, List, length, IsTrue, true};
+ghost use Rattle.std.specs.Prelude.{◌≡◌, ◌≢◌, ◌↔◌, ◌≤◌, ◌<◌, ◌+◌, ◌*◌, ℕ, List, length, IsSome, IfSome};
 ghost use Rattle.des.specs.Blocks.{part};
 ghost use Rattle.des_fast.specs.Words.{AreRoundKeysOf};
 ghost use Rattle.des_context.specs.Contexts.{HasSomeCipherType, HasCipherType, HasMark, IsContextOf, IsMarked, mark_of, words_of_part};
@@ -85,39 +85,31 @@ pub fn init(context: &mut [u64], key: &[u8], no_tables: bool) -> i32
     init_for(NO_MAC, context, key, no_tables)
 }
 
-// Whether the last word is this mark.
-fn is_marked(algorithm: u32, no_tables: bool, context: &[u64]) -> bool
-    ensures { IsTrue result ↔ IsMarked algorithm no_tables context.now }
-{
-    match context.last() {
-        Some(word) => *word == mark(algorithm, no_tables, context.len()),
-        None => false,
-    }
-}
-
-/// Whether the calls of a context of an algorithm are to read no table.
-pub(crate) fn has_no_tables(algorithm: u32, context: &[u64]) -> bool
-    ensures { IsTrue result ↔ IsMarked algorithm true context.now }
-{
-    is_marked(algorithm, true, context)
-}
-
-/// Whether the last word is a mark of the algorithm.
-pub(crate) fn has_mark(algorithm: u32, context: &[u64]) -> bool
-    ensures { IsTrue result ↔ HasMark algorithm context.now }
-{
-    is_marked(algorithm, true, context) || is_marked(algorithm, false, context)
-}
-
 // The type of the cipher of a context, by the number of its words.
 #[inline(always)]
 pub(crate) fn cipher_type(context: &[u64]) -> CipherType
-    requires { (key : List ℕ) × IsContextOf context.now key }
-    ensures { HasCipherType result context.now }
+    ensures { (key : List ℕ) → IsContextOf context.now key → HasCipherType result context.now }
 {
     match context.len() {
         17 => CipherType::Des,
         33 => CipherType::Ede2,
         _ => CipherType::Ede3,
+    }
+}
+
+/// How the calls of words that end with a mark of the algorithm go: by the cipher of this type, and
+/// whether they are to read no table. `None` if the words have no such mark.
+pub(crate) fn opened(algorithm: u32, context: &[u64]) -> Option<(CipherType, bool)>
+    ensures marked { IsSome result ↔ HasMark algorithm context.now }
+    ensures cipher_type { IfSome result (λ opened. (key : List ℕ) → IsContextOf context.now key
+        → HasCipherType opened.0 context.now) }
+    ensures no_tables { IfSome result (λ opened. IsMarked algorithm opened.1 context.now) }
+{
+    let last = *context.last()?;
+    let no_tables = last == mark(algorithm, true, context.len());
+    if no_tables || last == mark(algorithm, false, context.len()) {
+        Some((cipher_type(context), no_tables))
+    } else {
+        None
     }
 }

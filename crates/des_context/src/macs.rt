@@ -14,8 +14,8 @@ ghost use Rattle.des_context.specs.MacAlgorithms.{IsAlgorithm, mac_by};
 ghost use Rattle.des_context.specs.MacContexts.{AreMacWordsOf, HasMacCipherType, HasMacMark, IsAMac, IsMacOf, IsSoundMacIfMarked, key_size_of, words_of_chain};
 ghost use Rattle.des_context.specs.PaddingMethods.{padding_by, status_of};
 
-use crate::ciphers::{ContextCipher, dispatch_cipher};
-use crate::contexts::{has_mark, has_no_tables, init_for};
+use crate::ciphers::{CipherType, ContextCipher, dispatch_cipher};
+use crate::contexts::{cipher_type, init_for, opened};
 use crate::status::{ERR_CONTEXT, ERR_KEY_LENGTH, ERR_PADDING_METHOD, ERR_TAG, OK};
 use des::cipher::KeyedCipher;
 use des_fast::box_lookup::{BoxLookup, NoTables, Tables};
@@ -62,8 +62,15 @@ fn extend<C: ContextCipher>(context: &[u64], message: &mut MessageState, bytes: 
     message.progress = mac.progress();
 }
 
-// Adds bytes by a cipher that reads tables or not, as the way has it.
-fn extend_by<W: BoxLookup>(context: &[u64], message: &mut MessageState, bytes: &[u8])
+// Adds bytes by the cipher of a context, which reads tables or none.
+fn extend_by(
+    cipher_type: CipherType,
+    no_tables: bool,
+    context: &[u64],
+    message: &mut MessageState,
+    bytes: &[u8],
+)
+    requires cipher_type { HasCipherType cipher_type context.now }
     requires made { (key : List ℕ) × IsContextOf context.now key }
     requires progress { HoldsOneBlock message.old.progress }
     ensures progress { (key m : List ℕ) → IsContextOf context.now key
@@ -71,22 +78,10 @@ fn extend_by<W: BoxLookup>(context: &[u64], message: &mut MessageState, bytes: &
         → IsProgressOf (encryption_of key) message.new.progress (m ++ bytes.now) }
     ensures padding { message.new.padding ≡ message.old.padding }
 {
-    dispatch_cipher!(extend::<W>(context, message, bytes));
-}
-
-// Adds bytes by a cipher that reads tables or, if the context is quiet, by one that reads none.
-fn extend_by_context(algorithm: u32, context: &[u64], message: &mut MessageState, bytes: &[u8])
-    requires made { (key : List ℕ) × IsContextOf context.now key }
-    requires progress { HoldsOneBlock message.old.progress }
-    ensures progress { (key m : List ℕ) → IsContextOf context.now key
-        → IsProgressOf (encryption_of key) message.old.progress m
-        → IsProgressOf (encryption_of key) message.new.progress (m ++ bytes.now) }
-    ensures padding { message.new.padding ≡ message.old.padding }
-{
-    if has_no_tables(algorithm, context) {
-        extend_by::<NoTables>(context, message, bytes);
+    if no_tables {
+        dispatch_cipher!(cipher_type, extend::<NoTables>(context, message, bytes));
     } else {
-        extend_by::<Tables>(context, message, bytes);
+        dispatch_cipher!(cipher_type, extend::<Tables>(context, message, bytes));
     }
 }
 
@@ -153,14 +148,6 @@ fn chain_words(algorithm: u32, context: &[u64]) -> &[u64]
     }
 }
 
-// Whether the words of the chain end with a mark of the algorithm.
-fn has_mac_mark(algorithm: u32, context: &[u64]) -> bool
-    requires { HasMacCipherType algorithm context.now }
-    ensures { IsTrue result ↔ HasMacMark algorithm context.now }
-{
-    has_mark(algorithm, chain_words(algorithm, context))
-}
-
 /// Adds bytes to the message, after those that it has. The status of words that `init` did not make
 /// for the algorithm is `ERR_CONTEXT`; the message is then unchanged.
 pub fn update(algorithm: u32, context: &[u64], message: &mut MessageState, bytes: &[u8]) -> i32
@@ -173,10 +160,11 @@ pub fn update(algorithm: u32, context: &[u64], message: &mut MessageState, bytes
         → IsMacOf algorithm context.now message.new padding key (m ++ bytes.now) }
     ensures kept { result ≢ OK → message.new ≡ message.old }
 {
-    if !has_mac_mark(algorithm, context) {
+    let chain = chain_words(algorithm, context);
+    let Some((cipher_type, no_tables)) = opened(algorithm, chain) else {
         return ERR_CONTEXT;
-    }
-    extend_by_context(algorithm, chain_words(algorithm, context), message, bytes);
+    };
+    extend_by(cipher_type, no_tables, chain, message, bytes);
     OK
 }
 
@@ -218,7 +206,10 @@ fn one_cipher_tag_by<W: BoxLookup>(
         → IsProgressOf (encryption_of key) message.now.progress m
         → result ≡ mac_by algorithm message.now.padding key m }
 {
-    dispatch_cipher!(one_cipher_tag::<W>(context, algorithm, message))
+    dispatch_cipher!(
+        cipher_type(context),
+        one_cipher_tag::<W>(context, algorithm, message)
+    )
 }
 
 // The tag of the retail MAC of a message, under two ciphers.
@@ -254,14 +245,13 @@ fn tag_by<W: BoxLookup>(algorithm: u32, context: &[u64], message: &MessageState)
 }
 
 // The tag of the message.
-fn tag(algorithm: u32, context: &[u64], message: &MessageState) -> [u8; 8]
-    requires cipher_type { HasMacCipherType algorithm context.now }
-    requires made { IsAMac algorithm context.now message.now }
+fn tag(algorithm: u32, no_tables: bool, context: &[u64], message: &MessageState) -> [u8; 8]
+    requires { IsAMac algorithm context.now message.now }
     ensures { (padding : ℕ) (key m : List ℕ)
         → IsMacOf algorithm context.now message.now padding key m
         → result ≡ mac_by algorithm padding key m }
 {
-    if has_no_tables(algorithm, chain_words(algorithm, context)) {
+    if no_tables {
         tag_by::<NoTables>(algorithm, context, message)
     } else {
         tag_by::<Tables>(algorithm, context, message)
@@ -280,10 +270,10 @@ pub fn write_tag(algorithm: u32, context: &[u64], message: &MessageState, room: 
         → room.new ≡ mac_by algorithm padding key m }
     ensures kept { result ≢ OK → room.new ≡ room.old }
 {
-    if !has_mac_mark(algorithm, context) {
+    let Some((_, no_tables)) = opened(algorithm, chain_words(algorithm, context)) else {
         return ERR_CONTEXT;
-    }
-    *room = tag(algorithm, context, message);
+    };
+    *room = tag(algorithm, no_tables, context, message);
     OK
 }
 
@@ -302,10 +292,10 @@ pub fn verify(algorithm: u32, context: &[u64], message: &MessageState, tag_bytes
         → (result ≡ ERR_TAG) ↔ (HasMacMark algorithm context.now
         × ¬ (IsTruncated tag_bytes.now (mac_by algorithm padding key m))) }
 {
-    if !has_mac_mark(algorithm, context) {
+    let Some((_, no_tables)) = opened(algorithm, chain_words(algorithm, context)) else {
         return ERR_CONTEXT;
-    }
-    match verify_truncated_left(tag_bytes, &tag(algorithm, context, message)) {
+    };
+    match verify_truncated_left(tag_bytes, &tag(algorithm, no_tables, context, message)) {
         Ok(()) => OK,
         Err(_) => ERR_TAG,
     }

@@ -10,7 +10,7 @@ ghost use Rattle.des_context.specs.Records.{AreSizesOf, ChainsEach};
 
 use crate::block_modes::are_bytes_of;
 use crate::ciphers::{ContextCipher, dispatch_cipher};
-use crate::contexts::{NO_MAC, has_mark};
+use crate::contexts::{NO_MAC, opened};
 use crate::status::{ERR_BLOCKS, ERR_CONTEXT, ERR_COUNTS, OK};
 use des_fast::box_lookup::Tables;
 use des_fast::many::{Slice, SpreadOnce};
@@ -90,13 +90,16 @@ pub fn encrypt_cbc_records<S: Slice>(
         × (length blocks.new ≡ length blocks.old) }
     ensures kept { result ≢ OK → (vectors.new ≡ vectors.old) × (blocks.new ≡ blocks.old) }
 {
-    if !has_mark(NO_MAC, context) {
+    let Some((cipher_type, _)) = opened(NO_MAC, context) else {
         return ERR_CONTEXT;
-    }
+    };
     if !are_bytes_of(blocks, size) {
         return ERR_BLOCKS;
     }
-    dispatch_cipher!(encrypt_records::<Tables, S>(context, vectors, sizes, blocks))
+    dispatch_cipher!(
+        cipher_type,
+        encrypt_records::<Tables, S>(context, vectors, sizes, blocks)
+    )
 }
 
 /// Decrypts records in place that CBC chained, as `encrypt_cbc_records` does. The status is as of
@@ -123,11 +126,14 @@ pub fn decrypt_cbc_records<S: Slice>(
         × (length blocks.new ≡ length blocks.old) }
     ensures kept { result ≢ OK → (vectors.new ≡ vectors.old) × (blocks.new ≡ blocks.old) }
 {
-    if !has_mark(NO_MAC, context) {
+    let Some((cipher_type, _)) = opened(NO_MAC, context) else {
         return ERR_CONTEXT;
-    }
+    };
     if !are_bytes_of(blocks, size) {
         return ERR_BLOCKS;
     }
-    dispatch_cipher!(decrypt_records::<Tables, S>(context, vectors, sizes, blocks))
+    dispatch_cipher!(
+        cipher_type,
+        decrypt_records::<Tables, S>(context, vectors, sizes, blocks)
+    )
 }

@@ -8,7 +8,7 @@ ghost use Rattle.des_context.specs.Keys.{IsKeyLength};
 ghost use Rattle.des_context.specs.Salted.{EndsWith, HoldsPlain, IsOpened, IsOpeningFault, IsPartsFault, IsPlainOf, IsSaltedFault, IsUnder, Opens};
 
 use crate::block_modes::decrypt_cbc_blocks;
-use crate::contexts::init;
+use crate::contexts::{cipher_type, init};
 use crate::status::{
     ERR_BLOCKS, ERR_CAPACITY, ERR_HASH, ERR_ITERATIONS, ERR_NOT_SALTED, ERR_PADDING,
     ERR_SALT_LENGTH, OK,
@@ -33,7 +33,7 @@ fn write_piece(context: &[u64], vector: &[u8; 8], blocks: &[[u8; 8]], room: &mut
     let mut piece = [[0; 8]; PIECE];
     let piece = &mut piece[..blocks.len()];
     piece.copy_from_slice(blocks);
-    decrypt_cbc_blocks::<u64x2>(context, vector, piece);
+    decrypt_cbc_blocks::<u64x2>(cipher_type(context), true, context, vector, piece);
     room.copy_from_slice(piece.as_flattened());
 }
 

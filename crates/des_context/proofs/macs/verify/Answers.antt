@@ -1,5 +1,5 @@
 use Rattle.std.proofs.Common.{rules}
 use Rattle.des_context.proofs.macs.verify.Goals as goal
 
-pub tag-requires-clause-made : goal.tag-requires-clause-made
-tag-requires-clause-made c = c.requires.sound (c.if-not-has_mac_mark.ensures.0 (search rules))
+pub tag-requires : goal.tag-requires
+tag-requires c = c.requires.sound (rw c.chain_words.ensures at (c.opened.ensures.marked.0 (search rules)))
