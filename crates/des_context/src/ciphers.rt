@@ -6,8 +6,8 @@ ghost use Rattle.des_fast.specs.Des.{IsDesMadeFrom};
 ghost use Rattle.des_context.specs.declared.ciphers.CipherType.{CipherType as CipherTypeOfKeys};
 ghost use Rattle.des_context.specs.declared.ciphers.CipherType.TheVariants as cipher_types;
 ghost use Rattle.des_context.specs.Contexts.{HasCipherType, IsContextOf};
-ghost use Rattle.des_context.specs.CipherTypes.{decryption_of, encryption_of};
-ghost use Rattle.des_context.specs.Keys.{keys_of};
+ghost use Rattle.des_context.specs.CipherTypes.{cipher_type_of_length, decryption_of, encryption_of, parts_of};
+ghost use Rattle.des_context.specs.Keys.{IsKeyLength, keys_of};
 ghost use Rattle.des_context.specs.CipherTypeLaws.{AnswersByLength, AnswersByLength-cipher_type, by_length-cipher_type};
 
 use des::cipher::Relating;
@@ -25,6 +25,21 @@ pub enum CipherType {
     Ede2,
     /// Triple DES in the EDE form, with a key of 24 bytes, three parts.
     Ede3,
+}
+
+impl CipherType {
+    /// The type of cipher of a key of so many bytes, 8, 16 or 24.
+    #[inline(always)]
+    pub(crate) fn of_key_size(bytes: usize) -> CipherType
+        ensures by_length { result ≡ cipher_type_of_length bytes }
+        ensures size { IsKeyLength bytes → bytes ≡ 8 * parts_of result }
+    {
+        match bytes {
+            8 => CipherType::Des,
+            16 => CipherType::Ede2,
+            _ => CipherType::Ede3,
+        }
+    }
 }
 
 /// A cipher that the contexts of its type make.

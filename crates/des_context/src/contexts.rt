@@ -90,11 +90,7 @@ pub fn init(context: &mut [u64], key: &[u8], no_tables: bool) -> i32
 pub(crate) fn cipher_type(context: &[u64]) -> CipherType
     ensures { (key : List ℕ) → IsContextOf context.now key → HasCipherType result context.now }
 {
-    match context.len() {
-        17 => CipherType::Des,
-        33 => CipherType::Ede2,
-        _ => CipherType::Ede3,
-    }
+    CipherType::of_key_size(context.len() / 2)
 }
 
 /// How the calls of words that end with a mark of the algorithm go: by the cipher of this type, and

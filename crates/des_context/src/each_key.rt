@@ -6,10 +6,10 @@ ghost use Rattle.std.specs.Simd.Lanes.{zip2};
 ghost use Rattle.des_context.specs.CipherTypes.{decryption_of, encryption_of};
 ghost use Rattle.des_context.specs.Keys.{IsKeyLength, keys_of};
 
-use crate::ciphers::ContextCipher;
+use crate::ciphers::{CipherType, ContextCipher, dispatch_cipher};
 use crate::status::{ERR_COUNTS, OK};
+use des_fast::box_lookup::Tables;
 use des_fast::many::{KeyForEach, Slice};
-use des_fast::{Des, TdesEde2, TdesEde3};
 
 // Encrypts the blocks by a cipher.
 #[inline(never)]
@@ -39,11 +39,10 @@ pub fn encrypt_each<S: Slice>(key_size: usize, keys: &[u8], blocks: &mut [[u8; 8
         → blocks.new ≡ zip2 encryption_of (keys_of key_size keys.now) blocks.old }
     ensures kept { result ≢ OK → blocks.new ≡ blocks.old }
 {
-    match key_size {
-        8 => encrypt_by::<Des, S>(keys, blocks),
-        16 => encrypt_by::<TdesEde2, S>(keys, blocks),
-        _ => encrypt_by::<TdesEde3, S>(keys, blocks),
-    }
+    dispatch_cipher!(
+        CipherType::of_key_size(key_size),
+        encrypt_by::<Tables, S>(keys, blocks)
+    )
 }
 
 // Decrypts the blocks by a cipher.
@@ -73,9 +72,8 @@ pub fn decrypt_each<S: Slice>(key_size: usize, keys: &[u8], blocks: &mut [[u8; 8
         → blocks.new ≡ zip2 decryption_of (keys_of key_size keys.now) blocks.old }
     ensures kept { result ≢ OK → blocks.new ≡ blocks.old }
 {
-    match key_size {
-        8 => decrypt_by::<Des, S>(keys, blocks),
-        16 => decrypt_by::<TdesEde2, S>(keys, blocks),
-        _ => decrypt_by::<TdesEde3, S>(keys, blocks),
-    }
+    dispatch_cipher!(
+        CipherType::of_key_size(key_size),
+        decrypt_by::<Tables, S>(keys, blocks)
+    )
 }

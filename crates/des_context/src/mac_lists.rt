@@ -13,12 +13,13 @@ ghost use Rattle.des_context.specs.Keys.{keys_of};
 ghost use Rattle.des_context.specs.MacAlgorithms.{IsMacKeyLength, mac_by};
 ghost use Rattle.des_context.specs.PaddingMethods.{padding_by, status_of_each, status_of_lists};
 
-use crate::ciphers::ContextCipher;
+use crate::ciphers::{CipherType, ContextCipher, dispatch_cipher};
 use crate::status::{ERR_COUNTS, ERR_PADDING_METHOD, OK};
 use des::cipher::{KeyBytes, NotEqualError};
 use des::tdes::key_part;
+use des_fast::Des;
+use des_fast::box_lookup::Tables;
 use des_fast::many::{KeyForEach, Slice};
-use des_fast::{Des, TdesEde2, TdesEde3};
 use des_mac::{Method1, Method2, many};
 
 // The tags of CBC-MAC (algorithm 1, by padding method 1 or 2), or of CMAC (5), under one key.
@@ -203,15 +204,14 @@ fn macs_by<S: Slice>(
         (tags.new ≡ map (mac_by algorithm padding key.now) (texts messages.now)) }
     ensures kept { OnErr result (tags.new ≡ tags.old) }
 {
-    match (algorithm, key.len()) {
-        (3, _) => {
-            let (first, second) = (key_part(key, 1), key_part(key, 2));
-            retail_macs_by::<S>(&first, &second, padding, messages, tags)
-        }
-        (_, 8) => one_cipher_macs_by::<Des, S>(algorithm, padding, key, messages, tags),
-        (_, 16) => one_cipher_macs_by::<TdesEde2, S>(algorithm, padding, key, messages, tags),
-        _ => one_cipher_macs_by::<TdesEde3, S>(algorithm, padding, key, messages, tags),
+    if algorithm == 3 {
+        let (first, second) = (key_part(key, 1), key_part(key, 2));
+        return retail_macs_by::<S>(&first, &second, padding, messages, tags);
     }
+    dispatch_cipher!(
+        CipherType::of_key_size(key.len()),
+        one_cipher_macs_by::<Tables, S>(algorithm, padding, key, messages, tags)
+    )
 }
 
 /// Writes the tag of each message at its place, with padding method 1 or 2, which plays no part in
@@ -255,12 +255,13 @@ fn macs_each_by<S: Slice>(
         (keys_of key_size keys.now) (texts messages.now)) }
     ensures kept { OnErr result (tags.new ≡ tags.old) }
 {
-    match (algorithm, key_size) {
-        (3, _) => write_retail_macs::<S>(keys.as_chunks().0, padding, messages, tags),
-        (_, 8) => one_cipher_macs_each_by::<Des, S>(algorithm, padding, keys, messages, tags),
-        (_, 16) => one_cipher_macs_each_by::<TdesEde2, S>(algorithm, padding, keys, messages, tags),
-        _ => one_cipher_macs_each_by::<TdesEde3, S>(algorithm, padding, keys, messages, tags),
+    if algorithm == 3 {
+        return write_retail_macs::<S>(keys.as_chunks().0, padding, messages, tags);
     }
+    dispatch_cipher!(
+        CipherType::of_key_size(key_size),
+        one_cipher_macs_each_by::<Tables, S>(algorithm, padding, keys, messages, tags)
+    )
 }
 
 /// Writes the tag of each message under the key at its place: `keys` are keys of `key_size` bytes,
