@@ -17,7 +17,6 @@ use crate::ciphers::{CipherType, ContextCipher, dispatch_cipher};
 use crate::contexts::{NO_MAC, opened};
 use crate::status::{ERR_BLOCKS, ERR_CONTEXT, OK};
 use des::cbc::next_vector;
-use des_fast::box_lookup::Tables;
 use des_fast::many::{ManyBlocks, Slice};
 
 // Encrypts each block by itself, by a cipher.
@@ -86,21 +85,18 @@ fn decrypt_cbc_by<C: ContextCipher + ManyBlocks, S: Slice>(
 
 /// Decrypts blocks that CBC chained from the vector.
 pub(crate) fn decrypt_cbc_blocks<S: Slice>(
-    cipher_type: CipherType,
+    cipher: CipherType,
     no_tables: bool,
     context: &[u64],
     iv: &[u8; 8],
     blocks: &mut [[u8; 8]],
 )
-    requires cipher_type { HasCipherType cipher_type context.now }
+    requires cipher_type { HasCipherType cipher context.now }
     requires made { (key : List ℕ) × IsContextOf context.now key }
     ensures { (key : List ℕ) → IsContextOf context.now key
         → Chains (relation_of key) iv.now blocks.new blocks.old }
 {
-    dispatch_cipher!(
-        cipher_type,
-        decrypt_cbc_by::<Tables, S>(context, no_tables, iv, blocks)
-    )
+    dispatch_cipher!(cipher, decrypt_cbc_by::<S>(context, no_tables, iv, blocks))
 }
 
 /// Whether so many bytes are these blocks, and nothing beside.
@@ -118,20 +114,17 @@ pub fn encrypt_ecb<S: Slice>(context: &[u64], blocks: &mut [[u8; 8]], size: usiz
     ensures accepted { (result ≡ OK) ↔ (HasMark NO_MAC context.now × AreBytesOf blocks.old size) }
     ensures refused { (result ≡ ERR_BLOCKS)
         ↔ (HasMark NO_MAC context.now × ¬ (AreBytesOf blocks.old size)) }
-    ensures processed { result ≡ OK → (key : List ℕ) → IsContextOf context.now key
+    ensures encrypted { result ≡ OK → (key : List ℕ) → IsContextOf context.now key
         → IsTheOne (λ answers. AnswersEach (relation_of key) blocks.old answers) blocks.new }
     ensures kept { result ≢ OK → blocks.new ≡ blocks.old }
 {
-    let Some((cipher_type, no_tables)) = opened(NO_MAC, context) else {
+    let Some((cipher, no_tables)) = opened(NO_MAC, context) else {
         return ERR_CONTEXT;
     };
     if !are_bytes_of(blocks, size) {
         return ERR_BLOCKS;
     }
-    dispatch_cipher!(
-        cipher_type,
-        encrypt_by::<Tables, S>(context, no_tables, blocks)
-    );
+    dispatch_cipher!(cipher, encrypt_by::<S>(context, no_tables, blocks));
     OK
 }
 
@@ -142,20 +135,17 @@ pub fn decrypt_ecb<S: Slice>(context: &[u64], blocks: &mut [[u8; 8]], size: usiz
     ensures accepted { (result ≡ OK) ↔ (HasMark NO_MAC context.now × AreBytesOf blocks.old size) }
     ensures refused { (result ≡ ERR_BLOCKS)
         ↔ (HasMark NO_MAC context.now × ¬ (AreBytesOf blocks.old size)) }
-    ensures processed { result ≡ OK → (key : List ℕ) → IsContextOf context.now key
+    ensures decrypted { result ≡ OK → (key : List ℕ) → IsContextOf context.now key
         → IsTheOne (λ answers. AnswersEach (relation_of key) answers blocks.old) blocks.new }
     ensures kept { result ≢ OK → blocks.new ≡ blocks.old }
 {
-    let Some((cipher_type, no_tables)) = opened(NO_MAC, context) else {
+    let Some((cipher, no_tables)) = opened(NO_MAC, context) else {
         return ERR_CONTEXT;
     };
     if !are_bytes_of(blocks, size) {
         return ERR_BLOCKS;
     }
-    dispatch_cipher!(
-        cipher_type,
-        decrypt_by::<Tables, S>(context, no_tables, blocks)
-    );
+    dispatch_cipher!(cipher, decrypt_by::<S>(context, no_tables, blocks));
     OK
 }
 
@@ -173,16 +163,13 @@ pub fn encrypt_cbc(context: &[u64], iv: &mut [u8; 8], blocks: &mut [[u8; 8]], si
     ensures goes_on { result ≡ OK → iv.new ≡ next_vector iv.old blocks.new }
     ensures kept { result ≢ OK → (blocks.new ≡ blocks.old) × (iv.new ≡ iv.old) }
 {
-    let Some((cipher_type, no_tables)) = opened(NO_MAC, context) else {
+    let Some((cipher, no_tables)) = opened(NO_MAC, context) else {
         return ERR_CONTEXT;
     };
     if !are_bytes_of(blocks, size) {
         return ERR_BLOCKS;
     }
-    dispatch_cipher!(
-        cipher_type,
-        encrypt_cbc_by::<Tables>(context, no_tables, iv, blocks)
-    );
+    dispatch_cipher!(cipher, encrypt_cbc_by(context, no_tables, iv, blocks));
     OK
 }
 
@@ -204,14 +191,14 @@ pub fn decrypt_cbc<S: Slice>(
     ensures goes_on { result ≡ OK → iv.new ≡ next_vector iv.old blocks.old }
     ensures kept { result ≢ OK → (blocks.new ≡ blocks.old) × (iv.new ≡ iv.old) }
 {
-    let Some((cipher_type, no_tables)) = opened(NO_MAC, context) else {
+    let Some((cipher, no_tables)) = opened(NO_MAC, context) else {
         return ERR_CONTEXT;
     };
     if !are_bytes_of(blocks, size) {
         return ERR_BLOCKS;
     }
     let next = next_vector(iv, blocks);
-    decrypt_cbc_blocks::<S>(cipher_type, no_tables, context, iv, blocks);
+    decrypt_cbc_blocks::<S>(cipher, no_tables, context, iv, blocks);
     *iv = next;
     OK
 }

@@ -128,19 +128,24 @@ impl<W: BoxLookup> ContextCipher for Ede3<Des<W>> {
     }
 }
 
-/// Calls a generic function with the cipher of a type, over a way. What it calls is not inlined: else
-/// each call would take the stack of the largest cipher.
+/// Calls a generic function with the cipher of a type, which reads tables, or goes the way that is
+/// named. What it calls is not inlined: else each call would take the stack of the largest cipher.
 macro_rules! dispatch_cipher {
-    ($cipher_type:expr, $call:ident::<$way:ident $(, $slice:ident)?>($($argument:expr),*)) => {
-        match $cipher_type {
+    ($cipher:expr, $call:ident $(::<$slice:ident>)?($($argument:expr),*)) => {
+        $crate::ciphers::dispatch_cipher!(
+            $cipher, des_fast::box_lookup::Tables, $call $(::<$slice>)?($($argument),*)
+        )
+    };
+    ($cipher:expr, $($way:ident)::+, $call:ident $(::<$slice:ident>)?($($argument:expr),*)) => {
+        match $cipher {
             $crate::ciphers::CipherType::Des => {
-                $call::<des_fast::single::Des<$way> $(, $slice)?>($($argument),*)
+                $call::<des_fast::single::Des<$($way)::+> $(, $slice)?>($($argument),*)
             }
             $crate::ciphers::CipherType::Ede2 => {
-                $call::<des::tdes::Ede2<des_fast::single::Des<$way>> $(, $slice)?>($($argument),*)
+                $call::<des::tdes::Ede2<des_fast::single::Des<$($way)::+>> $(, $slice)?>($($argument),*)
             }
             $crate::ciphers::CipherType::Ede3 => {
-                $call::<des::tdes::Ede3<des_fast::single::Des<$way>> $(, $slice)?>($($argument),*)
+                $call::<des::tdes::Ede3<des_fast::single::Des<$($way)::+>> $(, $slice)?>($($argument),*)
             }
         }
     };

@@ -8,7 +8,6 @@ ghost use Rattle.des_context.specs.Keys.{IsKeyLength, keys_of};
 
 use crate::ciphers::{CipherType, ContextCipher, dispatch_cipher};
 use crate::status::{ERR_COUNTS, OK};
-use des_fast::box_lookup::Tables;
 use des_fast::many::{KeyForEach, Slice};
 
 // Encrypts the blocks by a cipher.
@@ -17,7 +16,7 @@ fn encrypt_by<C: ContextCipher + KeyForEach, S: Slice>(keys: &[u8], blocks: &mut
     ensures accepted { (result ≡ OK) ↔ (length (keys_of C.KEY_SIZE keys.now) ≡ length blocks.old) }
     ensures refused { (result ≡ ERR_COUNTS)
         ↔ (length (keys_of C.KEY_SIZE keys.now) ≢ length blocks.old) }
-    ensures processed { result ≡ OK
+    ensures encrypted { result ≡ OK
         → blocks.new ≡ zip2 encryption_of (keys_of C.KEY_SIZE keys.now) blocks.old }
     ensures kept { result ≢ OK → blocks.new ≡ blocks.old }
 {
@@ -35,14 +34,12 @@ pub fn encrypt_each<S: Slice>(key_size: usize, keys: &[u8], blocks: &mut [[u8; 8
     ensures accepted { (result ≡ OK) ↔ (length (keys_of key_size keys.now) ≡ length blocks.old) }
     ensures refused { (result ≡ ERR_COUNTS)
         ↔ (length (keys_of key_size keys.now) ≢ length blocks.old) }
-    ensures processed { result ≡ OK
+    ensures encrypted { result ≡ OK
         → blocks.new ≡ zip2 encryption_of (keys_of key_size keys.now) blocks.old }
     ensures kept { result ≢ OK → blocks.new ≡ blocks.old }
 {
-    dispatch_cipher!(
-        CipherType::of_key_size(key_size),
-        encrypt_by::<Tables, S>(keys, blocks)
-    )
+    let cipher = CipherType::of_key_size(key_size);
+    dispatch_cipher!(cipher, encrypt_by::<S>(keys, blocks))
 }
 
 // Decrypts the blocks by a cipher.
@@ -51,7 +48,7 @@ fn decrypt_by<C: ContextCipher + KeyForEach, S: Slice>(keys: &[u8], blocks: &mut
     ensures accepted { (result ≡ OK) ↔ (length (keys_of C.KEY_SIZE keys.now) ≡ length blocks.old) }
     ensures refused { (result ≡ ERR_COUNTS)
         ↔ (length (keys_of C.KEY_SIZE keys.now) ≢ length blocks.old) }
-    ensures processed { result ≡ OK
+    ensures decrypted { result ≡ OK
         → blocks.new ≡ zip2 decryption_of (keys_of C.KEY_SIZE keys.now) blocks.old }
     ensures kept { result ≢ OK → blocks.new ≡ blocks.old }
 {
@@ -68,12 +65,10 @@ pub fn decrypt_each<S: Slice>(key_size: usize, keys: &[u8], blocks: &mut [[u8; 8
     ensures accepted { (result ≡ OK) ↔ (length (keys_of key_size keys.now) ≡ length blocks.old) }
     ensures refused { (result ≡ ERR_COUNTS)
         ↔ (length (keys_of key_size keys.now) ≢ length blocks.old) }
-    ensures processed { result ≡ OK
+    ensures decrypted { result ≡ OK
         → blocks.new ≡ zip2 decryption_of (keys_of key_size keys.now) blocks.old }
     ensures kept { result ≢ OK → blocks.new ≡ blocks.old }
 {
-    dispatch_cipher!(
-        CipherType::of_key_size(key_size),
-        decrypt_by::<Tables, S>(keys, blocks)
-    )
+    let cipher = CipherType::of_key_size(key_size);
+    dispatch_cipher!(cipher, decrypt_by::<S>(keys, blocks))
 }

@@ -18,7 +18,6 @@ use crate::status::{ERR_COUNTS, ERR_PADDING_METHOD, OK};
 use des::cipher::{KeyBytes, NotEqualError};
 use des::tdes::key_part;
 use des_fast::Des;
-use des_fast::box_lookup::Tables;
 use des_fast::many::{KeyForEach, Slice};
 use des_mac::{Method1, Method2, many};
 
@@ -210,7 +209,7 @@ fn macs_by<S: Slice>(
     }
     dispatch_cipher!(
         CipherType::of_key_size(key.len()),
-        one_cipher_macs_by::<Tables, S>(algorithm, padding, key, messages, tags)
+        one_cipher_macs_by::<S>(algorithm, padding, key, messages, tags)
     )
 }
 
@@ -260,7 +259,7 @@ fn macs_each_by<S: Slice>(
     }
     dispatch_cipher!(
         CipherType::of_key_size(key_size),
-        one_cipher_macs_each_by::<Tables, S>(algorithm, padding, keys, messages, tags)
+        one_cipher_macs_each_by::<S>(algorithm, padding, keys, messages, tags)
     )
 }
 

@@ -64,13 +64,13 @@ fn extend<C: ContextCipher>(context: &[u64], message: &mut MessageState, bytes: 
 
 // Adds bytes by the cipher of a context, which reads tables or none.
 fn extend_by(
-    cipher_type: CipherType,
+    cipher: CipherType,
     no_tables: bool,
     context: &[u64],
     message: &mut MessageState,
     bytes: &[u8],
 )
-    requires cipher_type { HasCipherType cipher_type context.now }
+    requires cipher_type { HasCipherType cipher context.now }
     requires made { (key : List ℕ) × IsContextOf context.now key }
     requires progress { HoldsOneBlock message.old.progress }
     ensures progress { (key m : List ℕ) → IsContextOf context.now key
@@ -79,9 +79,9 @@ fn extend_by(
     ensures padding { message.new.padding ≡ message.old.padding }
 {
     if no_tables {
-        dispatch_cipher!(cipher_type, extend::<NoTables>(context, message, bytes));
+        dispatch_cipher!(cipher, NoTables, extend(context, message, bytes));
     } else {
-        dispatch_cipher!(cipher_type, extend::<Tables>(context, message, bytes));
+        dispatch_cipher!(cipher, extend(context, message, bytes));
     }
 }
 
@@ -161,10 +161,10 @@ pub fn update(algorithm: u32, context: &[u64], message: &mut MessageState, bytes
     ensures kept { result ≢ OK → message.new ≡ message.old }
 {
     let chain = chain_words(algorithm, context);
-    let Some((cipher_type, no_tables)) = opened(algorithm, chain) else {
+    let Some((cipher, no_tables)) = opened(algorithm, chain) else {
         return ERR_CONTEXT;
     };
-    extend_by(cipher_type, no_tables, chain, message, bytes);
+    extend_by(cipher, no_tables, chain, message, bytes);
     OK
 }
 
@@ -206,10 +206,8 @@ fn one_cipher_tag_by<W: BoxLookup>(
         → IsProgressOf (encryption_of key) message.now.progress m
         → result ≡ mac_by algorithm message.now.padding key m }
 {
-    dispatch_cipher!(
-        cipher_type(context),
-        one_cipher_tag::<W>(context, algorithm, message)
-    )
+    let cipher = cipher_type(context);
+    dispatch_cipher!(cipher, W, one_cipher_tag(context, algorithm, message))
 }
 
 // The tag of the retail MAC of a message, under two ciphers.

@@ -8,7 +8,6 @@ ghost use Rattle.des_context.specs.Keys.{IsKeyLength, keys_of};
 
 use crate::ciphers::{CipherType, ContextCipher, dispatch_cipher};
 use crate::status::{ERR_COUNTS, OK};
-use des_fast::box_lookup::Tables;
 use des_fast::many::{KeyForEach, Slice};
 use des_payment::check_value_lists::check_values_by;
 use des_payment::transaction_lists::transaction_keys_by;
@@ -41,10 +40,8 @@ pub fn check_values<S: Slice>(key_size: usize, keys: &[u8], values: &mut [[u8; 3
         ≡ map (λ key. take 3 (encryption_of key (replicate 8 0))) (keys_of key_size keys.now) }
     ensures kept { result ≢ OK → values.new ≡ values.old }
 {
-    dispatch_cipher!(
-        CipherType::of_key_size(key_size),
-        values_by::<Tables, S>(keys, values)
-    )
+    let cipher = CipherType::of_key_size(key_size);
+    dispatch_cipher!(cipher, values_by::<S>(keys, values))
 }
 
 /// The key of the transaction of each key serial number at its place, from the base derivation key.

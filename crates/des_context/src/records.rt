@@ -12,7 +12,6 @@ use crate::block_modes::are_bytes_of;
 use crate::ciphers::{ContextCipher, dispatch_cipher};
 use crate::contexts::{NO_MAC, opened};
 use crate::status::{ERR_BLOCKS, ERR_CONTEXT, ERR_COUNTS, OK};
-use des_fast::box_lookup::Tables;
 use des_fast::many::{Slice, SpreadOnce};
 
 // Encrypts records in place by CBC.
@@ -90,15 +89,15 @@ pub fn encrypt_cbc_records<S: Slice>(
         × (length blocks.new ≡ length blocks.old) }
     ensures kept { result ≢ OK → (vectors.new ≡ vectors.old) × (blocks.new ≡ blocks.old) }
 {
-    let Some((cipher_type, _)) = opened(NO_MAC, context) else {
+    let Some((cipher, _)) = opened(NO_MAC, context) else {
         return ERR_CONTEXT;
     };
     if !are_bytes_of(blocks, size) {
         return ERR_BLOCKS;
     }
     dispatch_cipher!(
-        cipher_type,
-        encrypt_records::<Tables, S>(context, vectors, sizes, blocks)
+        cipher,
+        encrypt_records::<S>(context, vectors, sizes, blocks)
     )
 }
 
@@ -126,14 +125,14 @@ pub fn decrypt_cbc_records<S: Slice>(
         × (length blocks.new ≡ length blocks.old) }
     ensures kept { result ≢ OK → (vectors.new ≡ vectors.old) × (blocks.new ≡ blocks.old) }
 {
-    let Some((cipher_type, _)) = opened(NO_MAC, context) else {
+    let Some((cipher, _)) = opened(NO_MAC, context) else {
         return ERR_CONTEXT;
     };
     if !are_bytes_of(blocks, size) {
         return ERR_BLOCKS;
     }
     dispatch_cipher!(
-        cipher_type,
-        decrypt_records::<Tables, S>(context, vectors, sizes, blocks)
+        cipher,
+        decrypt_records::<S>(context, vectors, sizes, blocks)
     )
 }

@@ -26,7 +26,7 @@ pub extern "C" fn cukvashe_internal_encrypt_ecb(
     ensures accepted { (result ≡ OK) ↔ (HasMark NO_MAC context.now × AreBytesOf blocks.old size) }
     ensures refused { (result ≡ ERR_BLOCKS)
         ↔ (HasMark NO_MAC context.now × ¬ (AreBytesOf blocks.old size)) }
-    ensures processed { result ≡ OK → (key : List ℕ) → IsContextOf context.now key
+    ensures encrypted { result ≡ OK → (key : List ℕ) → IsContextOf context.now key
         → IsTheOne (λ answers. AnswersEach (relation_of key) blocks.old answers) blocks.new }
     ensures kept { result ≢ OK → blocks.new ≡ blocks.old }
 {
@@ -46,7 +46,7 @@ pub extern "C" fn cukvashe_internal_decrypt_ecb(
     ensures accepted { (result ≡ OK) ↔ (HasMark NO_MAC context.now × AreBytesOf blocks.old size) }
     ensures refused { (result ≡ ERR_BLOCKS)
         ↔ (HasMark NO_MAC context.now × ¬ (AreBytesOf blocks.old size)) }
-    ensures processed { result ≡ OK → (key : List ℕ) → IsContextOf context.now key
+    ensures decrypted { result ≡ OK → (key : List ℕ) → IsContextOf context.now key
         → IsTheOne (λ answers. AnswersEach (relation_of key) answers blocks.old) blocks.new }
     ensures kept { result ≢ OK → blocks.new ≡ blocks.old }
 {
@@ -69,7 +69,7 @@ pub extern "C" fn cukvashe_internal_encrypt_ecb_to(
         ↔ (HasMark NO_MAC context.now × FitInto output.old input.now size) }
     ensures refused { (result ≡ ERR_BLOCKS)
         ↔ (HasMark NO_MAC context.now × ¬ (FitInto output.old input.now size)) }
-    ensures processed { result ≡ OK → (key : List ℕ) → IsContextOf context.now key
+    ensures encrypted { result ≡ OK → (key : List ℕ) → IsContextOf context.now key
         → IsTheOne (λ answers. AnswersEach (relation_of key) input.now answers) output.new }
     ensures kept { result ≢ OK → output.new ≡ output.old }
 {
@@ -94,7 +94,7 @@ pub extern "C" fn cukvashe_internal_decrypt_ecb_to(
         ↔ (HasMark NO_MAC context.now × FitInto output.old input.now size) }
     ensures refused { (result ≡ ERR_BLOCKS)
         ↔ (HasMark NO_MAC context.now × ¬ (FitInto output.old input.now size)) }
-    ensures processed { result ≡ OK → (key : List ℕ) → IsContextOf context.now key
+    ensures decrypted { result ≡ OK → (key : List ℕ) → IsContextOf context.now key
         → IsTheOne (λ answers. AnswersEach (relation_of key) answers input.now) output.new }
     ensures kept { result ≢ OK → output.new ≡ output.old }
 {

@@ -22,7 +22,7 @@ pub extern "C" fn cukvashe_internal_encrypt_each(
     ensures accepted { (result ≡ OK) ↔ (length (keys_of key_size keys.now) ≡ length blocks.old) }
     ensures refused { (result ≡ ERR_COUNTS)
         ↔ (length (keys_of key_size keys.now) ≢ length blocks.old) }
-    ensures processed { result ≡ OK
+    ensures encrypted { result ≡ OK
         → blocks.new ≡ zip2 encryption_of (keys_of key_size keys.now) blocks.old }
     ensures kept { result ≢ OK → blocks.new ≡ blocks.old }
 {
@@ -40,7 +40,7 @@ pub extern "C" fn cukvashe_internal_decrypt_each(
     ensures accepted { (result ≡ OK) ↔ (length (keys_of key_size keys.now) ≡ length blocks.old) }
     ensures refused { (result ≡ ERR_COUNTS)
         ↔ (length (keys_of key_size keys.now) ≢ length blocks.old) }
-    ensures processed { result ≡ OK
+    ensures decrypted { result ≡ OK
         → blocks.new ≡ zip2 decryption_of (keys_of key_size keys.now) blocks.old }
     ensures kept { result ≢ OK → blocks.new ≡ blocks.old }
 {

@@ -3,8 +3,8 @@ use Rattle.des_context.specs.CipherTypes.{encryption_of}
 use Rattle.des_context.proofs.KeysOfBytes.{zipped-same}
 use Rattle.des_context.proofs.each_key.encrypt_by.Goals as goal
 
-pub returns-in-Ok-clause-processed : goal.returns-in-Ok-clause-processed
-returns-in-Ok-clause-processed g c done =
+pub returns-in-Ok-clause-encrypted : goal.returns-in-Ok-clause-encrypted
+returns-in-Ok-clause-encrypted g c done =
     rw c.keys_in.ensures at c.in-Ok.ensures.ok
     ∙ zipped-same _ _ encryption_of (λ key size block. ap (λ by. by block) (g.met.C.ContextCipher.by_length key size).0)
     c.args.keys.now c.args.blocks.now
