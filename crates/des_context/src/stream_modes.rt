@@ -16,9 +16,8 @@ ghost use Rattle.des_context.specs.Contexts.{HasCipherType, HasMark, IsContextOf
 ghost use Rattle.des_context.specs.declared.contexts.TheConstants.{NO_MAC};
 
 use crate::ciphers::{ContextCipher, dispatch_cipher};
-use crate::contexts::{NO_MAC, has_mark, has_no_tables};
+use crate::contexts::{NO_MAC, opened};
 use crate::status::{ERR_CONTEXT, ERR_MODE, ERR_STREAM, OK};
-use des_fast::box_lookup::Tables;
 use des_fast::many::{ManyBlocks, Slice};
 use des_modes::lists::ByLists;
 use des_modes::modes::{CFB1, Mode};
@@ -29,6 +28,7 @@ use std::simd::prelude::*;
 #[inline(never)]
 fn encrypt_by<C: ContextCipher + ManyBlocks, S: Slice>(
     context: &[u64],
+    no_tables: bool,
     mode: Mode,
     stream: &mut Stream,
     bytes: &mut [u8],
@@ -48,7 +48,7 @@ fn encrypt_by<C: ContextCipher + ManyBlocks, S: Slice>(
         (p ++ bits_of_bytes bytes.old) (c ++ bits_of_bytes bytes.new) stream.new }
 {
     let cipher = C::of(context);
-    let cipher = ByLists::<C, S>::new(&cipher, has_no_tables(NO_MAC, context));
+    let cipher = ByLists::<C, S>::new(&cipher, no_tables);
     stream.encrypt(mode, &cipher, bytes);
 }
 
@@ -56,6 +56,7 @@ fn encrypt_by<C: ContextCipher + ManyBlocks, S: Slice>(
 #[inline(never)]
 fn decrypt_by<C: ContextCipher + ManyBlocks, S: Slice>(
     context: &[u64],
+    no_tables: bool,
     mode: Mode,
     stream: &mut Stream,
     bytes: &mut [u8],
@@ -75,7 +76,7 @@ fn decrypt_by<C: ContextCipher + ManyBlocks, S: Slice>(
         (p ++ bits_of_bytes bytes.new) (c ++ bits_of_bytes bytes.old) stream.new }
 {
     let cipher = C::of(context);
-    let cipher = ByLists::<C, S>::new(&cipher, has_no_tables(NO_MAC, context));
+    let cipher = ByLists::<C, S>::new(&cipher, no_tables);
     stream.decrypt(mode, &cipher, bytes);
 }
 
@@ -84,6 +85,7 @@ fn decrypt_by<C: ContextCipher + ManyBlocks, S: Slice>(
 #[inline(never)]
 fn encrypt_bits_by<C: ContextCipher + ManyBlocks>(
     context: &[u64],
+    no_tables: bool,
     stream: &mut Stream,
     bytes: &mut [u8],
     bits: usize,
@@ -99,7 +101,7 @@ fn encrypt_bits_by<C: ContextCipher + ManyBlocks>(
     ensures rest { drop bits (bits_of_bytes bytes.new) ≡ drop bits (bits_of_bytes bytes.old) }
 {
     let cipher = C::of(context);
-    let cipher = ByLists::<C, u64x2>::new(&cipher, has_no_tables(NO_MAC, context));
+    let cipher = ByLists::<C, u64x2>::new(&cipher, no_tables);
     stream.encrypt_bits(&cipher, bytes, bits);
 }
 
@@ -107,6 +109,7 @@ fn encrypt_bits_by<C: ContextCipher + ManyBlocks>(
 #[inline(never)]
 fn decrypt_bits_by<C: ContextCipher + ManyBlocks>(
     context: &[u64],
+    no_tables: bool,
     stream: &mut Stream,
     bytes: &mut [u8],
     bits: usize,
@@ -122,7 +125,7 @@ fn decrypt_bits_by<C: ContextCipher + ManyBlocks>(
     ensures rest { drop bits (bits_of_bytes bytes.new) ≡ drop bits (bits_of_bytes bytes.old) }
 {
     let cipher = C::of(context);
-    let cipher = ByLists::<C, u64x2>::new(&cipher, has_no_tables(NO_MAC, context));
+    let cipher = ByLists::<C, u64x2>::new(&cipher, no_tables);
     stream.decrypt_bits(&cipher, bytes, bits);
 }
 
@@ -167,14 +170,17 @@ pub fn encrypt_stream<S: Slice>(context: &[u64], stream: &mut Stream, bytes: &mu
         (p ++ bits_of_bytes bytes.old) (c ++ bits_of_bytes bytes.new) stream.new }
     ensures kept { result ≢ OK → (bytes.new ≡ bytes.old) × (stream.new ≡ stream.old) }
 {
-    if !has_mark(NO_MAC, context) {
+    let Some((cipher, no_tables)) = opened(NO_MAC, context) else {
         return ERR_CONTEXT;
-    }
+    };
     let mode = match stream.mode() {
         Some(mode) => mode,
         None => return ERR_STREAM,
     };
-    dispatch_cipher!(encrypt_by::<Tables, S>(context, mode, stream, bytes));
+    dispatch_cipher!(
+        cipher,
+        encrypt_by::<S>(context, no_tables, mode, stream, bytes)
+    );
     OK
 }
 
@@ -197,14 +203,17 @@ pub fn decrypt_stream<S: Slice>(context: &[u64], stream: &mut Stream, bytes: &mu
         (p ++ bits_of_bytes bytes.new) (c ++ bits_of_bytes bytes.old) stream.new }
     ensures kept { result ≢ OK → (bytes.new ≡ bytes.old) × (stream.new ≡ stream.old) }
 {
-    if !has_mark(NO_MAC, context) {
+    let Some((cipher, no_tables)) = opened(NO_MAC, context) else {
         return ERR_CONTEXT;
-    }
+    };
     let mode = match stream.mode() {
         Some(mode) => mode,
         None => return ERR_STREAM,
     };
-    dispatch_cipher!(decrypt_by::<Tables, S>(context, mode, stream, bytes));
+    dispatch_cipher!(
+        cipher,
+        decrypt_by::<S>(context, no_tables, mode, stream, bytes)
+    );
     OK
 }
 
@@ -233,16 +242,19 @@ pub fn encrypt_stream_bits(
     ensures rest { drop bits (bits_of_bytes bytes.new) ≡ drop bits (bits_of_bytes bytes.old) }
     ensures kept { result ≢ OK → (bytes.new ≡ bytes.old) × (stream.new ≡ stream.old) }
 {
-    if !has_mark(NO_MAC, context) {
+    let Some((cipher, no_tables)) = opened(NO_MAC, context) else {
         return ERR_CONTEXT;
-    }
+    };
     if stream.mode().is_none() {
         return ERR_STREAM;
     }
     if stream.number() != CFB1 {
         return ERR_MODE;
     }
-    dispatch_cipher!(encrypt_bits_by::<Tables>(context, stream, bytes, bits));
+    dispatch_cipher!(
+        cipher,
+        encrypt_bits_by(context, no_tables, stream, bytes, bits)
+    );
     OK
 }
 
@@ -270,16 +282,19 @@ pub fn decrypt_stream_bits(
     ensures rest { drop bits (bits_of_bytes bytes.new) ≡ drop bits (bits_of_bytes bytes.old) }
     ensures kept { result ≢ OK → (bytes.new ≡ bytes.old) × (stream.new ≡ stream.old) }
 {
-    if !has_mark(NO_MAC, context) {
+    let Some((cipher, no_tables)) = opened(NO_MAC, context) else {
         return ERR_CONTEXT;
-    }
+    };
     if stream.mode().is_none() {
         return ERR_STREAM;
     }
     if stream.number() != CFB1 {
         return ERR_MODE;
     }
-    dispatch_cipher!(decrypt_bits_by::<Tables>(context, stream, bytes, bits));
+    dispatch_cipher!(
+        cipher,
+        decrypt_bits_by(context, no_tables, stream, bytes, bits)
+    );
     OK
 }
 
@@ -295,7 +310,7 @@ pub fn encrypt_mode<S: Slice>(context: &[u64], mode: u32, iv: &[u8; 8], bytes: &
         → InModeUnder (mode_by mode) (relation_of key) iv.now bytes.old bytes.new }
     ensures kept { result ≢ OK → bytes.new ≡ bytes.old }
 {
-    if !has_mark(NO_MAC, context) {
+    if opened(NO_MAC, context).is_none() {
         return ERR_CONTEXT;
     }
     match Stream::new(mode, iv) {
@@ -317,7 +332,7 @@ pub fn decrypt_mode<S: Slice>(context: &[u64], mode: u32, iv: &[u8; 8], bytes: &
         → InModeUnder (mode_by mode) (relation_of key) iv.now bytes.new bytes.old }
     ensures kept { result ≢ OK → bytes.new ≡ bytes.old }
 {
-    if !has_mark(NO_MAC, context) {
+    if opened(NO_MAC, context).is_none() {
         return ERR_CONTEXT;
     }
     match Stream::new(mode, iv) {
