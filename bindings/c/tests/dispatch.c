@@ -87,6 +87,7 @@ static const size_t sizes[1];
 static const cukvashe_message messages[1];
 static uint8_t iv[24], base[64], input[24], output[24];
 static size_t number;
+static cukvashe_stream stream;
 
 /* The calls of a cipher; what the functions above are given is never read. */
 #define CIPHER(NAME, WORDS, KEY_SIZE)                                                                                 \
@@ -119,6 +120,20 @@ static size_t number;
     WAS("internal", "encrypt_cbc", context, WORDS, A(iv), A(output), blocks, length);                                 \
     CHECK(cukvashe_##NAME##_decrypt_cbc_to(&NAME, iv, output, output, length) == STATUS);                             \
     WAS(width, "decrypt_cbc", context, WORDS, A(iv), A(output), blocks, length);                                      \
+    CHECK(cukvashe_##NAME##_encrypt_mode(&NAME, 31, iv, output, length) == STATUS);                                   \
+    WAS(width, "encrypt_mode", context, WORDS, 31, A(iv), A(output), length);                                         \
+    CHECK(cukvashe_##NAME##_encrypt_stream(&NAME, &stream, output, length) == STATUS);                                \
+    WAS(width, "encrypt_stream", context, WORDS, A(&stream), A(output), length);                                      \
+    CHECK(cukvashe_##NAME##_encrypt_stream_bits(&NAME, &stream, output, length) == STATUS);                           \
+    WAS("internal", "encrypt_stream_bits", context, WORDS, A(&stream), A(output),                                     \
+        blocks + (length % 8 != 0), length);                                                                          \
+    CHECK(cukvashe_##NAME##_decrypt_mode(&NAME, 31, iv, output, length) == STATUS);                                   \
+    WAS(width, "decrypt_mode", context, WORDS, 31, A(iv), A(output), length);                                         \
+    CHECK(cukvashe_##NAME##_decrypt_stream(&NAME, &stream, output, length) == STATUS);                                \
+    WAS(width, "decrypt_stream", context, WORDS, A(&stream), A(output), length);                                      \
+    CHECK(cukvashe_##NAME##_decrypt_stream_bits(&NAME, &stream, output, length) == STATUS);                           \
+    WAS("internal", "decrypt_stream_bits", context, WORDS, A(&stream), A(output),                                     \
+        blocks + (length % 8 != 0), length);                                                                          \
   }                                                                                                                   \
   static void NAME##_of_records(size_t count, size_t length) {                                                        \
     const uintptr_t context = A(NAME.words);                                                                          \

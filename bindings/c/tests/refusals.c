@@ -7,7 +7,7 @@
 enum { MOST = 33, PAINT = 0x77 };
 
 /* The statuses that a call returned. */
-enum { LAST = CUKVASHE_ERR_CONTEXT };
+enum { LAST = CUKVASHE_ERR_STREAM };
 
 static int was_returned[LAST + 1];
 
@@ -475,6 +475,7 @@ static void has_words(void) {
   IS_ALIGNED(des);
   IS_ALIGNED(tdes_ede2);
   IS_ALIGNED(tdes_ede3);
+  IS_ALIGNED(stream);
   IS_ALIGNED(cbc_mac_des);
   IS_ALIGNED(cbc_mac_tdes_ede2);
   IS_ALIGNED(cbc_mac_tdes_ede3);
@@ -496,7 +497,8 @@ static void has_numbers(void) {
       CUKVASHE_ERR_PROTECTION_KEY_LENGTH, CUKVASHE_ERR_KEY_BLOCK_LENGTH, CUKVASHE_ERR_VERSION, CUKVASHE_ERR_HEADER,
       CUKVASHE_ERR_OPTIONAL_BLOCK, CUKVASHE_ERR_KEY_DATA_LENGTH, CUKVASHE_ERR_KEY_BLOCK_DIGIT,
       CUKVASHE_ERR_KEY_BLOCK_MAC, CUKVASHE_ERR_PADDING_LENGTH, CUKVASHE_ERR_NO_OPTIONAL_BLOCK, CUKVASHE_ERR_HASH,
-      CUKVASHE_ERR_ITERATIONS, CUKVASHE_ERR_NOT_SALTED, CUKVASHE_ERR_SALT_LENGTH, CUKVASHE_ERR_CONTEXT};
+      CUKVASHE_ERR_ITERATIONS, CUKVASHE_ERR_NOT_SALTED, CUKVASHE_ERR_SALT_LENGTH, CUKVASHE_ERR_CONTEXT,
+      CUKVASHE_ERR_MODE, CUKVASHE_ERR_STREAM};
   CHECK(sizeof statuses / sizeof *statuses == LAST + 1);
   for (int i = 0; i <= LAST; i++) CHECK(statuses[i] == i);
   CHECK(CUKVASHE_BLOCK_SIZE == 8 && CUKVASHE_TAG_SIZE == 8);
@@ -510,8 +512,10 @@ static void has_numbers(void) {
   CHECK(CUKVASHE_KEY_DATA_SIZE == 32 && CUKVASHE_KEY_BLOCK_SIZE == 10000);
   CHECK(CUKVASHE_PKCS7 == 11 && CUKVASHE_ISO7816 == 12);
   CHECK(CUKVASHE_MD5 == 21 && CUKVASHE_SHA1 == 22 && CUKVASHE_SHA256 == 23);
+  CHECK(CUKVASHE_CTR == 31 && CUKVASHE_OFB == 32 && CUKVASHE_CFB1 == 40 && CUKVASHE_CFB8 == 41 && CUKVASHE_CFB64 == 48);
   CHECK(CUKVASHE_MAC_PADDING_1 == 1 && CUKVASHE_MAC_PADDING_2 == 2);
   CHECK(sizeof(cukvashe_des) == 136 && sizeof(cukvashe_tdes_ede2) == 264 && sizeof(cukvashe_tdes_ede3) == 392);
+  CHECK(sizeof(cukvashe_stream) == 32);
   CHECK(sizeof(cukvashe_cbc_mac_des) == 168 && sizeof(cukvashe_cbc_mac_tdes_ede2) == 296);
   CHECK(sizeof(cukvashe_cbc_mac_tdes_ede3) == 424 && sizeof(cukvashe_retail_mac_des) == 304);
   CHECK(sizeof(cukvashe_cmac_tdes_ede2) == 296 && sizeof(cukvashe_cmac_tdes_ede3) == 424);
