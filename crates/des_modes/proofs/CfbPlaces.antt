@@ -2,7 +2,7 @@
 use Rattle.std.proofs.Common.{◌≡◌, inl, inr, ℕ, ◌+◌, ◌*◌, ◌/◌, ◌%◌, ◌<◌, ◌≤◌, List, [], ◌++◌, length, get_or, take, drop, bit_xor, ap, ap₂, sym, ◌∙◌, arith, append_assoc, length-append, length-drop}
 use Rattle.std.proofs.lemmas.Bool.{cases_lt}
 use Rattle.std.proofs.lemmas.List.{drop-drop, drop-append-le, take-append-le, take_all, append-nil}
-use Rattle.std.proofs.Math.Nat.{mul-div-le, mod-add-mod, mod_self, mod-eq_of_lt, div-add-mod}
+use Rattle.std.proofs.Math.Nat.{mul-div-le, mod_self, mod-eq_of_lt, div-add-mod}
 use Rattle.des_modes.specs.Streams.{XorsFrom}
 use Rattle.des_modes.specs.Cfb.{input_block, cfb_stream}
 use Rattle.des_modes.specs.CfbStates.{IsCfbAt}
