@@ -1,3 +1,4 @@
 pub mod DerivationTexts
 pub mod ObjectIdentifiers
 pub mod TagsOfDigits
+pub mod StreamStates

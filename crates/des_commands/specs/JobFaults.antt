@@ -1,20 +1,26 @@
 -- What a stream that ended before its time has written, and what its fault says.
-use Rattle.std.specs.Prelude.{◌≡◌, ◌≢◌, ◌⊎◌, ℕ, List, length, Option, Some, None}
+use Rattle.std.specs.Prelude.{◌≡◌, ◌≢◌, ◌⊎◌, ℕ, ◌-◌, ◌^◌, min, true, List, length, Option, Some, None}
 use Rattle.std.specs.Io.KnownBytes.{Appends}
 use Rattle.des_io.specs.Streams.{Passage, passage_of, EncryptsPrefix, DecryptsPrefix, DecryptsPartPrefix, Skips}
-use Rattle.des_io.specs.StreamFaults.{FailsToEncrypt, FailsToDecrypt, FailsToSkip, FailsInPart, IsOfWriting}
+use Rattle.des_io.specs.StreamFaults.{FailsToEncrypt, FailsToDecrypt, FailsToSkip, FailsInPart, IsOfReading, IsOfWriting}
+use Rattle.des_io.specs.StreamCiphers.{Applies, AppliesPrefix}
+use Rattle.des_io.specs.declared.stream_cipher.StreamCipher.{StreamCipher}
 use Rattle.des_io.specs.declared.error.StreamError.{StreamError}
+use Rattle.des_io.specs.declared.error.StreamError.TheVariants.{Start}
 use Rattle.des_io.specs.declared.mode.Mode.{Mode}
 use Rattle.des_io.specs.declared.padding.Padding.{Padding}
 use Rattle.des_lines.specs.declared.fault.FaultKind.{FaultKind}
 use Rattle.des_lines.specs.declared.fault.FaultKind.TheVariants.{KeyLength, Memory}
+use Rattle.des_commands.specs.declared.command.streams.CipherMode.{CipherMode}
+use Rattle.des_commands.specs.declared.command.streams.CipherMode.TheVariants.{Stream}
+use Rattle.des_commands.specs.declared.command.streams.StreamMode.{StreamMode}
 use Rattle.des_commands.specs.declared.command.streams.BlockRange.{BlockRange}
 use Rattle.des_commands.specs.declared.command.streams.Job.{Job}
 use Rattle.des_commands.specs.declared.command.streams.Work.{Work}
 use Rattle.des_commands.specs.declared.command.streams.Work.TheVariants.{Encrypt, Decrypt}
 use Rattle.des_lines.specs.Faults.{IsOfStream}
 use Rattle.des_lines.specs.Written.{AppendsPrefix}
-use Rattle.des_commands.specs.Jobs.{key_size_of, AreOfKey}
+use Rattle.des_commands.specs.Jobs.{key_size_of, AreOfKey, vector_of, Begins, bytes_at_most, Reaches}
 
 -- nothing was read, and nothing was written
 abbrev pub IsUntouched : Passage → Type 0
@@ -36,25 +42,61 @@ StopsHere fault answer mode padding (Some part) passage =
 
 -- to encrypt, nothing was read, and a prefix of the heading was written, or after the heading what begins the
 -- ciphertext; to decrypt, it ended where blocks are passed over, and nothing was written, or after them
-abbrev pub StopsWork : (fault : StreamError) (encrypted decrypted : List ℕ → List ℕ) (mode : Mode) (padding : Padding)
+abbrev pub StopsPadded : (fault : StreamError) (encrypted decrypted : List ℕ → List ℕ) (mode : Mode) (padding : Padding)
     (work : Work) (passage : Passage) → Type 0
-StopsWork fault encrypted decrypted mode padding (Encrypt heading) passage =
+StopsPadded fault encrypted decrypted mode padding (Encrypt heading) passage =
     (IsOfWriting fault × (passage.read_to ≡ passage.read_from)
     × AppendsPrefix passage.written_from passage.written_to heading.now)
     ⊎ ((headed : Option (List ℕ)) × Appends passage.written_from headed heading.now
     × EncryptsPrefix encrypted mode padding (passage_of passage.read_from passage.read_to headed passage.written_to)
     × FailsToEncrypt fault padding passage.read_from passage.read_to)
-StopsWork fault encrypted decrypted mode padding (Decrypt skipped part) passage =
+StopsPadded fault encrypted decrypted mode padding (Decrypt skipped part) passage =
     (FailsToSkip fault skipped passage.read_from passage.read_to × (passage.written_to ≡ passage.written_from))
     ⊎ ((next : Mode) × (begun : Option (List ℕ)) × Skips mode next skipped passage.read_from begun
     × StopsHere fault decrypted next padding part
     (passage_of begun passage.read_to passage.written_from passage.written_to))
 
+-- what was written begins what the bytes that were read become, and the reader or the writer failed
+abbrev pub StopsApplying : (fault : StreamError) (encryption : List ℕ → List ℕ) (state : StreamCipher) (limit : ℕ)
+    (passage : Passage) → Type 0
+StopsApplying fault encryption state limit passage =
+    AppliesPrefix encryption state limit passage × (IsOfReading fault ⊎ IsOfWriting fault)
+
+-- a stream cipher ended so; where blocks are passed over, the vector first, and nothing was written; or there was no byte
+-- where a part begins
+abbrev pub StopsStreamWork : (fault : StreamError) (encryption : List ℕ → List ℕ) (mode : StreamMode) (job : Job)
+    (work : Work) (passage : Passage) → Type 0
+StopsStreamWork fault encryption mode job (Encrypt heading) passage =
+    (IsOfWriting fault × (passage.read_to ≡ passage.read_from)
+    × AppendsPrefix passage.written_from passage.written_to heading.now)
+    ⊎ ((headed : Option (List ℕ)) × (state : StreamCipher) × Appends passage.written_from headed heading.now
+    × Begins mode true (vector_of job.begin) (vector_of job.begin) 0 state
+    × StopsApplying fault encryption state (2 ^ 64 - 1)
+    (passage_of passage.read_from passage.read_to headed passage.written_to))
+StopsStreamWork fault encryption mode job (Decrypt skipped part) passage =
+    (FailsToSkip fault (min skipped job.vectors) passage.read_from passage.read_to
+    × (passage.written_to ≡ passage.written_from))
+    ⊎ ((first : Mode) × (middle : Option (List ℕ))
+    × Skips job.begin first (min skipped job.vectors) passage.read_from middle
+    × FailsToSkip fault (skipped - min skipped job.vectors) middle passage.read_to
+    × (passage.written_to ≡ passage.written_from))
+    ⊎ ((begun : Option (List ℕ)) × (state : StreamCipher) × Reaches mode job skipped part passage.read_from begun state
+    × StopsApplying fault encryption state (bytes_at_most part)
+    (passage_of begun passage.read_to passage.written_from passage.written_to))
+    ⊎ ((begun : Option (List ℕ)) × (state : StreamCipher) × Reaches mode job skipped part passage.read_from begun state
+    × Applies encryption state (bytes_at_most part) 0
+    (passage_of begun passage.read_to passage.written_from passage.written_to) × (part ≢ None) × (fault ≡ Start))
+
+abbrev pub StopsStream : (fault : StreamError) (encryption : List ℕ → List ℕ) (mode : StreamMode) (job : Job)
+    (passage : Passage) → Type 0
+StopsStream fault encryption mode job passage = StopsStreamWork fault encryption mode job job.work passage
+
 -- a job has stopped by functions of blocks
-abbrev pub Stops : (fault : StreamError) (encrypted decrypted : List ℕ → List ℕ) (job : Job) (passage : Passage)
-    → Type 0
-Stops fault encrypted decrypted job passage =
-    StopsWork fault encrypted decrypted job.mode job.padding job.work passage
+abbrev pub Stops : (fault : StreamError) (encrypted decrypted : List ℕ → List ℕ) (mode : CipherMode) (job : Job)
+    (passage : Passage) → Type 0
+Stops fault encrypted decrypted (Stream mode) job passage = StopsStream fault encrypted mode job passage
+Stops fault encrypted decrypted mode job passage =
+    StopsPadded fault encrypted decrypted job.begin job.padding job.work passage
 
 -- a job has stopped by its key
 pub record StopsByKey (kind : FaultKind) (job : Job) (passage : Passage) : Type 0 where
@@ -63,7 +105,7 @@ pub record StopsByKey (kind : FaultKind) (job : Job) (passage : Passage) : Type 
   pub of_key : AreOfKey encrypted decrypted job
   pub fault : StreamError
   pub same : IsOfStream fault kind
-  pub stops : Stops fault encrypted decrypted job passage
+  pub stops : Stops fault encrypted decrypted job.mode job passage
 
 -- a job has stopped: before anything is read or written, or in its stream
 abbrev pub HasStopped : FaultKind → Job → Passage → Type 0

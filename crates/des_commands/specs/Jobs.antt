@@ -1,20 +1,32 @@
 -- What a stream is to be: which cipher a name means, and what is made of an input or of a part of one.
-use Rattle.std.specs.Prelude.{◌≡◌, ℕ, List, Option, Some, None, ⊤}
+use Rattle.std.specs.Prelude.{◌≡◌, ◌≢◌, ◌⊎◌, ℕ, ◌-◌, ◌*◌, ◌%◌, ◌^◌, min, Bool, true, false, List, ◌++◌, length, drop, replicate, Option, Some, None, ⊤}
 use Rattle.std.specs.Io.KnownBytes.{Appends, IsAtEnd}
 use Rattle.des.specs.Blocks.{IsBlock}
 use Rattle.des.specs.Des.{encryption, decryption}
 use Rattle.des.specs.Relations.{AnswerAlike}
 use Rattle.des.specs.TripleCiphers.{ede3_encryption, ede3_decryption, ede2_encryption, ede2_decryption}
 use Rattle.des_io.specs.Streams.{Passage, passage_of, Encrypts, Decrypts, Skips, DecryptsPart}
+use Rattle.des_modes.specs.CtrStates.{IsCtrAt}
+use Rattle.des_modes.specs.OfbStates.{IsOfbAt}
+use Rattle.des_modes.specs.CfbStates.{IsCfbAt}
+use Rattle.des_modes.specs.declared.cfb.Register.{Register}
+use Rattle.des_io.specs.StreamCiphers.{Applies}
+use Rattle.des_io.specs.declared.stream_cipher.StreamCipher.{StreamCipher}
+use Rattle.des_io.specs.declared.stream_cipher.StreamCipher.TheVariants.{Ctr as CtrAt, Ofb as OfbAt, EncryptCfb, DecryptCfb}
 use Rattle.des_io.specs.declared.mode.Mode.{Mode}
 use Rattle.des_io.specs.declared.mode.Mode.TheVariants.{Ecb, Cbc}
 use Rattle.des_io.specs.declared.padding.Padding.{Padding}
 use Rattle.des_commands.specs.declared.command.streams.Cipher.{Cipher}
 use Rattle.des_commands.specs.declared.command.streams.Cipher.TheVariants.{Des, TdesEde2, TdesEde3}
+use Rattle.des_commands.specs.declared.command.streams.CipherMode.{CipherMode}
+use Rattle.des_commands.specs.declared.command.streams.CipherMode.TheVariants.{Stream}
+use Rattle.des_commands.specs.declared.command.streams.StreamMode.{StreamMode}
+use Rattle.des_commands.specs.declared.command.streams.StreamMode.TheVariants.{Cfb, Cfb8, Ofb, Ctr}
 use Rattle.des_commands.specs.declared.command.streams.BlockRange.{BlockRange}
 use Rattle.des_commands.specs.declared.command.streams.Job.{Job}
 use Rattle.des_commands.specs.declared.command.streams.Work.{Work}
 use Rattle.des_commands.specs.declared.command.streams.Work.TheVariants.{Encrypt, Decrypt}
+use Rattle.des_commands.specs.StreamRequests.{from_of}
 
 -- ---- ciphers
 
@@ -53,7 +65,7 @@ GoesOnFromBlock (Cbc vector) = IsBlock vector
 pub record AreOfKey (encrypted decrypted : List ℕ → List ℕ) (job : Job) : Type 0 where
   pub encrypts : AnswerAlike encrypted (encryption_of job.cipher job.key.now)
   pub decrypts : AnswerAlike decrypted (decryption_of job.cipher job.key.now)
-  pub from_block : GoesOnFromBlock job.mode
+  pub from_block : GoesOnFromBlock job.begin
 
 -- ---- what is done
 
@@ -65,24 +77,92 @@ DecryptsHere answer mode padding (Some part) passage = DecryptsPart answer mode 
 
 -- the heading is written, and all that is left is encrypted, up to the end; or a number of blocks is passed over, and
 -- from there on it is decrypted
-abbrev pub DoesWork : (encrypted decrypted : List ℕ → List ℕ) (mode : Mode) (padding : Padding) (work : Work)
+abbrev pub DoesPadded : (encrypted decrypted : List ℕ → List ℕ) (mode : Mode) (padding : Padding) (work : Work)
     (passage : Passage) → Type 0
-DoesWork encrypted decrypted mode padding (Encrypt heading) passage =
+DoesPadded encrypted decrypted mode padding (Encrypt heading) passage =
     (headed : Option (List ℕ)) × Appends passage.written_from headed heading.now
     × Encrypts encrypted mode padding (passage_of passage.read_from passage.read_to headed passage.written_to)
     × IsAtEnd passage.read_to
-DoesWork encrypted decrypted mode padding (Decrypt skipped part) passage =
+DoesPadded encrypted decrypted mode padding (Decrypt skipped part) passage =
     (next : Mode) × (begun : Option (List ℕ)) × Skips mode next skipped passage.read_from begun
     × DecryptsHere decrypted next padding part
     (passage_of begun passage.read_to passage.written_from passage.written_to)
 
+-- ---- stream ciphers
+
+-- the vector that a mode goes on from
+abbrev pub vector_of : Mode → List ℕ
+vector_of Ecb = replicate 8 0
+vector_of (Cbc vector) = vector
+
+-- a register of cipher feedback stands behind eight bytes
+abbrev pub IsRegister : (s : ℕ) (before : List ℕ) (state : Register) → Type 0
+IsRegister s before state =
+    (encryption : List ℕ → List ℕ) (iv c : List ℕ) → length c % s ≡ 0 → before ≡ drop (length c) (iv ++ c)
+    → IsCfbAt s encryption iv c state
+
+-- the state of a stream cipher at the beginning of a stream, or of the part of it from a block on: the counter is that
+-- of this block, the register holds the eight bytes before it, and output feedback begins with the stream
+abbrev pub Begins : StreamMode → (encrypts : Bool) → (vector before : List ℕ) → (from : ℕ) → StreamCipher → Type 0
+Begins Ctr encrypts vector before from (CtrAt state) = IsCtrAt vector (8 * from) state
+Begins Ofb encrypts vector before from (OfbAt state) = (encryption : List ℕ → List ℕ) → IsOfbAt encryption vector 0 state
+Begins Cfb true vector before from (EncryptCfb state) = IsRegister 8 before state
+Begins Cfb false vector before from (DecryptCfb state) = IsRegister 8 before state
+Begins Cfb8 true vector before from (EncryptCfb state) = IsRegister 1 before state
+Begins Cfb8 false vector before from (DecryptCfb state) = IsRegister 1 before state
+Begins mode encrypts vector before from state = ⊥
+
+-- the bytes of so many blocks, or of a whole stream, which has no more than 2^64 - 1
+abbrev pub bytes_of_blocks : Option ℕ → ℕ
+bytes_of_blocks None = 2 ^ 64 - 1
+bytes_of_blocks (Some count) = min (count * 8) (2 ^ 64 - 1)
+
+-- the bytes of a part at most
+abbrev pub bytes_at_most : Option BlockRange → ℕ
+bytes_at_most None = bytes_of_blocks None
+bytes_at_most (Some part) = bytes_of_blocks part.count
+
+-- the vector that is the first block, where it is, and the other blocks before a part are passed over, and the state is
+-- that of the part
+pub record Reaches (mode : StreamMode) (job : Job) (skipped : ℕ) (part : Option BlockRange)
+    (read_from begun : Option (List ℕ)) (state : StreamCipher) : Type 0 where
+  pub first : Mode
+  pub last : Mode
+  pub middle : Option (List ℕ)
+  pub vector : Skips job.begin first (min skipped job.vectors) read_from middle
+  pub others : Skips first last (skipped - min skipped job.vectors) middle begun
+  pub begins : Begins mode false (vector_of first) (vector_of last) (from_of part) state
+
+-- the heading is written, and all that is left is encrypted; or all that is left, or the bytes of a part, of which there
+-- is one, are decrypted
+abbrev pub DoesStreamWork : (encryption : List ℕ → List ℕ) (mode : StreamMode) (job : Job) (work : Work) (passage : Passage)
+    → Type 0
+DoesStreamWork encryption mode job (Encrypt heading) passage =
+    (headed : Option (List ℕ)) × (state : StreamCipher) × (count : ℕ)
+    × Appends passage.written_from headed heading.now
+    × Begins mode true (vector_of job.begin) (vector_of job.begin) 0 state
+    × Applies encryption state (2 ^ 64 - 1) count
+    (passage_of passage.read_from passage.read_to headed passage.written_to)
+DoesStreamWork encryption mode job (Decrypt skipped part) passage =
+    (begun : Option (List ℕ)) × (state : StreamCipher) × (count : ℕ)
+    × Reaches mode job skipped part passage.read_from begun state
+    × Applies encryption state (bytes_at_most part) count
+    (passage_of begun passage.read_to passage.written_from passage.written_to)
+    × ((part ≡ None) ⊎ (count ≢ 0))
+
+abbrev pub DoesStream : (encryption : List ℕ → List ℕ) (mode : StreamMode) (job : Job) (passage : Passage) → Type 0
+DoesStream encryption mode job passage = DoesStreamWork encryption mode job job.work passage
+
+-- ---- jobs
+
 -- a job is done by functions of blocks
-abbrev pub Does : (encrypted decrypted : List ℕ → List ℕ) (job : Job) (passage : Passage) → Type 0
-Does encrypted decrypted job passage = DoesWork encrypted decrypted job.mode job.padding job.work passage
+abbrev pub Does : (encrypted decrypted : List ℕ → List ℕ) (mode : CipherMode) (job : Job) (passage : Passage) → Type 0
+Does encrypted decrypted (Stream mode) job passage = DoesStream encrypted mode job passage
+Does encrypted decrypted mode job passage = DoesPadded encrypted decrypted job.begin job.padding job.work passage
 
 -- a job is done by its key
 pub record IsDone (job : Job) (passage : Passage) : Type 0 where
   pub encrypted : List ℕ → List ℕ
   pub decrypted : List ℕ → List ℕ
   pub of_key : AreOfKey encrypted decrypted job
-  pub done : Does encrypted decrypted job passage
+  pub done : Does encrypted decrypted job.mode job passage

@@ -28,7 +28,7 @@ notice_line DoubleLength about =
     (codes "the first and third parts of the key are one: this is des-ede with the first two")
 notice_line Limit about =
     line_with (codes "Limit") about
-    (codes "more than 2^20 blocks (8 MiB) are encrypted under one key (NIST SP 800-67)")
+    (codes "more than 2^20 blocks (8 MiB, of CFB-8 1 MiB) are encrypted under one key (NIST SP 800-67)")
 notice_line Permissions about =
     line_with (codes "Permissions") about
     (codes "the new file is yours alone: others had rights to the old one")

@@ -1,9 +1,9 @@
 -- What the words of `encrypt` and `decrypt` ask for.
-use Rattle.std.specs.Prelude.{◌≡◌, ◌≢◌, ◌⊎◌, ℕ, Bool, true, false, List, codes, Option, Some, None, Result, Ok, Err}
+use Rattle.std.specs.Prelude.{◌≡◌, ◌≢◌, ◌⊎◌, ℕ, Bool, true, false, List, ◌++◌, codes, Option, Some, None, Result, Ok, Err}
 use Rattle.std.specs.Borrow.{Bor}
 use Rattle.des_io.specs.declared.padding.Padding.{Padding}
 use Rattle.des_io.specs.declared.padding.Padding.TheVariants.{Pkcs7, Iso7816, Zeros, Unpadded}
-use Rattle.des_lines.specs.declared.fault.Misuse.TheVariants.{Arguments, StandardInputTwice, VectorNeeded, VectorOfEcb, VectorOfPassword, RandomToDecrypt, FirstBlockToEncrypt, PartToEncrypt}
+use Rattle.des_lines.specs.declared.fault.Misuse.TheVariants.{Arguments, StandardInputTwice, VectorNeeded, VectorOfEcb, VectorOfPassword, RandomToDecrypt, FirstBlockToEncrypt, PartToEncrypt, PaddingOfStream, PartOfOfb}
 use Rattle.des_lines.specs.declared.fault.FaultKind.{FaultKind}
 use Rattle.des_lines.specs.declared.fault.FaultKind.TheVariants.{Usage, Vector as WrongVector}
 use Rattle.des_lines.specs.declared.source.Source.{Source}
@@ -12,8 +12,9 @@ use Rattle.des_commands.specs.declared.command.streams.Cipher.{Cipher}
 use Rattle.des_commands.specs.declared.command.streams.Cipher.TheVariants.{Des, TdesEde2, TdesEde3}
 use Rattle.des_commands.specs.declared.command.streams.Vector.{Vector}
 use Rattle.des_commands.specs.declared.command.streams.Vector.TheVariants.{Bytes, Random, FirstBlock, OfPassword}
-use Rattle.des_commands.specs.declared.command.streams.StreamMode.{StreamMode}
-use Rattle.des_commands.specs.declared.command.streams.StreamMode.TheVariants.{Ecb, Cbc}
+use Rattle.des_commands.specs.declared.command.streams.CipherMode.{CipherMode}
+use Rattle.des_commands.specs.declared.command.streams.CipherMode.TheVariants.{Ecb, Cbc, Stream}
+use Rattle.des_commands.specs.declared.command.streams.StreamMode.TheVariants.{Cfb, Cfb8, Ofb, Ctr}
 use Rattle.des_commands.specs.declared.command.streams.Secret.{Secret}
 use Rattle.des_commands.specs.declared.command.streams.Secret.TheVariants.{Key, Password}
 use Rattle.des_commands.specs.declared.command.streams.BlockRange.{BlockRange}
@@ -23,19 +24,27 @@ use Rattle.des_commands.specs.declared.command.streams.Output.{Output}
 use Rattle.des_commands.specs.declared.command.streams.Output.TheVariants.{Unnamed, StandardOutput, File as OutputFile}
 use Rattle.des_commands.specs.declared.command.streams.StreamRequest.{StreamRequest}
 use Rattle.des_commands.specs.declared.arguments.streams.StreamWords.{StreamWords}
-use Rattle.des_commands.specs.StreamRequests.{source_of}
+use Rattle.des_commands.specs.StreamRequests.{source_of, takes_vector, is_stream, takes_part}
 use Rattle.des_lines.specs.Texts.{bytes_of, digits_fault}
 
 -- ---- words
 
--- the name of a cipher in CBC, or in ECB, which is OpenSSL's
-abbrev pub cipher_name : Cipher → (is_chained : Bool) → List ℕ
-cipher_name Des false = codes "des-ecb"
-cipher_name Des true = codes "des-cbc"
-cipher_name TdesEde2 false = codes "des-ede-ecb"
-cipher_name TdesEde2 true = codes "des-ede-cbc"
-cipher_name TdesEde3 false = codes "des-ede3-ecb"
-cipher_name TdesEde3 true = codes "des-ede3-cbc"
+-- the name of a cipher in a mode, OpenSSL's where that has one
+abbrev pub cipher_word : Cipher → List ℕ
+cipher_word Des = codes "des"
+cipher_word TdesEde2 = codes "des-ede"
+cipher_word TdesEde3 = codes "des-ede3"
+
+abbrev pub mode_word : CipherMode → List ℕ
+mode_word Ecb = codes "-ecb"
+mode_word Cbc = codes "-cbc"
+mode_word (Stream Cfb) = codes "-cfb"
+mode_word (Stream Cfb8) = codes "-cfb8"
+mode_word (Stream Ofb) = codes "-ofb"
+mode_word (Stream Ctr) = codes "-ctr"
+
+abbrev pub cipher_name : Cipher → CipherMode → List ℕ
+cipher_name cipher mode = cipher_word cipher ++ mode_word mode
 
 abbrev pub padding_word : Padding → List ℕ
 padding_word Pkcs7 = codes "pkcs7"
@@ -58,9 +67,9 @@ abbrev pub text_or : Option (Bor (List ℕ)) → List ℕ → List ℕ
 text_or None other = other
 text_or (Some text) other = text.now
 
--- ---- modes
+-- ---- vectors
 
--- the vector of a text, in CBC: a word, in the direction that it is for, or 16 hexadecimal digits
+-- the vector of a text: a word, in the direction that it is for, or 16 hexadecimal digits
 abbrev pub IsVector : List ℕ → (encrypts : Bool) → Vector → Type 0
 IsVector text true Random = text ≡ codes "random"
 IsVector text false FirstBlock = text ≡ codes "first-block"
@@ -75,19 +84,19 @@ FailsAsVector text encrypts kind =
     ⊎ ((text ≢ codes "random") × (text ≢ codes "first-block")
     × (digits_fault 8 WrongVector WrongVector text ≡ Some WrongVector) × (kind ≡ WrongVector))
 
--- the mode: ECB has no vector; that of CBC comes of the option, by a key, or of the password
-abbrev pub IsMode : Option (Bor (List ℕ)) → Secret → (is_chained encrypts : Bool) → StreamMode → Type 0
-IsMode None secret false encrypts mode = mode ≡ Ecb
-IsMode None (Password source by) true encrypts mode = mode ≡ Cbc OfPassword
-IsMode (Some text) (Key source) true encrypts (Cbc vector) = IsVector text.now encrypts vector
-IsMode _ _ _ encrypts mode = ⊥
+-- the vector, where the mode takes one: that of the option, by a key, or of the password
+abbrev pub IsVectorFor : Option (Bor (List ℕ)) → Secret → (takes_vector encrypts : Bool) → Option Vector → Type 0
+IsVectorFor None secret false encrypts vector = vector ≡ None
+IsVectorFor None (Password source by) true encrypts vector = vector ≡ Some OfPassword
+IsVectorFor (Some text) (Key source) true encrypts (Some vector) = IsVector text.now encrypts vector
+IsVectorFor _ _ _ encrypts vector = ⊥
 
-abbrev pub FailsAsMode : Option (Bor (List ℕ)) → Secret → (is_chained encrypts : Bool) → FaultKind → Type 0
-FailsAsMode None (Key source) true encrypts kind = kind ≡ Usage VectorNeeded
-FailsAsMode (Some text) (Key source) true encrypts kind = FailsAsVector text.now encrypts kind
-FailsAsMode (Some text) (Key source) false encrypts kind = kind ≡ Usage VectorOfEcb
-FailsAsMode (Some text) (Password source by) is_chained encrypts kind = kind ≡ Usage VectorOfPassword
-FailsAsMode _ _ _ encrypts kind = ⊥
+abbrev pub FailsAsVectorFor : Option (Bor (List ℕ)) → Secret → (takes_vector encrypts : Bool) → FaultKind → Type 0
+FailsAsVectorFor None (Key source) true encrypts kind = kind ≡ Usage VectorNeeded
+FailsAsVectorFor (Some text) (Key source) true encrypts kind = FailsAsVector text.now encrypts kind
+FailsAsVectorFor (Some text) (Key source) false encrypts kind = kind ≡ Usage VectorOfEcb
+FailsAsVectorFor (Some text) (Password source by) takes_vector encrypts kind = kind ≡ Usage VectorOfPassword
+FailsAsVectorFor _ _ _ encrypts kind = ⊥
 
 -- ---- parts
 
@@ -133,10 +142,11 @@ IsReadTwice first second = (first ≡ StandardInput) × (second ≡ StandardInpu
 
 -- each word has its meaning in the request, and standard input is read once
 pub record IsRequest (words : StreamWords) (request : StreamRequest) : Type 0 where
-  pub is_chained : Bool
   pub direction : request.encrypts ≡ words.encrypts
-  pub name : words.cipher.now ≡ cipher_name request.cipher is_chained
-  pub mode : IsMode words.iv words.secret is_chained words.encrypts request.mode
+  pub name : words.cipher.now ≡ cipher_name request.cipher request.mode
+  pub vector : IsVectorFor words.iv words.secret (takes_vector request.mode) words.encrypts request.vector
+  pub unpadded : is_stream request.mode ≡ true → words.padding ≡ None
+  pub alone : request.part ≢ None → takes_part request.mode ≡ true
   pub padding : padding_word request.padding ≡ text_or words.padding (codes "pkcs7")
   pub weak_keys : weak_keys_word request.weak_keys
       ≡ text_or words.weak_keys (weak_keys_word (default_weak_keys words.encrypts))
@@ -151,17 +161,24 @@ pub record IsRequest (words : StreamWords) (request : StreamRequest) : Type 0 wh
 -- a word is none of those that its option takes
 abbrev pub HasOtherWord : StreamWords → Type 0
 HasOtherWord words =
-    ((cipher : Cipher) (is_chained : Bool) → words.cipher.now ≢ cipher_name cipher is_chained)
+    ((cipher : Cipher) (mode : CipherMode) → words.cipher.now ≢ cipher_name cipher mode)
     ⊎ ((padding : Padding) → padding_word padding ≢ text_or words.padding (codes "pkcs7"))
     ⊎ ((choice : WeakKeys)
     → weak_keys_word choice ≢ text_or words.weak_keys (weak_keys_word (default_weak_keys words.encrypts)))
+
+-- why the words of a mode ask for nothing: padding of a stream cipher, a part of what is decrypted as a whole, or the vector
+abbrev pub FailsInMode : StreamWords → CipherMode → FaultKind → Type 0
+FailsInMode words mode kind =
+    ((is_stream mode ≡ true) × (words.padding ≢ None) × (kind ≡ Usage PaddingOfStream))
+    ⊎ ((takes_part mode ≡ false) × (part_between words.from words.count ≢ None) × (kind ≡ Usage PartOfOfb))
+    ⊎ FailsAsVectorFor words.iv words.secret (takes_vector mode) words.encrypts kind
 
 -- why words ask for nothing
 abbrev pub FailsAsRequest : StreamWords → FaultKind → Type 0
 FailsAsRequest words kind =
     (HasOtherWord words × (kind ≡ Usage Arguments))
     ⊎ (part_for words.encrypts words.from words.count ≡ Err kind)
-    ⊎ ((cipher : Cipher) × (is_chained : Bool) × (words.cipher.now ≡ cipher_name cipher is_chained)
-    × FailsAsMode words.iv words.secret is_chained words.encrypts kind)
+    ⊎ ((cipher : Cipher) × (mode : CipherMode) × (words.cipher.now ≡ cipher_name cipher mode)
+    × FailsInMode words mode kind)
     ⊎ ((input : Source) × IsInput words.input input × IsReadTwice (source_of words.secret) input
     × (kind ≡ Usage StandardInputTwice))

@@ -3,26 +3,170 @@
 pub mod passwords;
 pub mod progress_reader;
 
-ghost use Rattle.std.specs.Prelude.{◌<◌, length, IfOk, IfErr};
+ghost use Rattle.std.specs.Prelude.{◌≡◌, ◌<◌, length, IfOk, IfErr};
 ghost use Rattle.des.specs.Relations.{AnswerAlike};
 ghost use Rattle.des_io.specs.Streams.{passage_of};
-ghost use Rattle.des_commands.specs.Jobs.{GoesOnFromBlock, IsNamed, Does, IsDone};
-ghost use Rattle.des_commands.specs.JobFaults.{Stops, HasStopped};
+ghost use Rattle.des_commands.specs.StreamRequests.{from_of};
+ghost use Rattle.des_commands.specs.Jobs.{GoesOnFromBlock, IsNamed, DoesPadded, Does, IsDone};
+ghost use Rattle.des_commands.specs.Jobs.{vector_of, bytes_at_most, Begins, DoesStream};
+ghost use Rattle.des_commands.specs.JobFaults.{StopsPadded, StopsStream, Stops, HasStopped};
 
-use crate::command::streams::{Cipher, Job, Work};
+use crate::command::streams::{BlockRange, Cipher, CipherMode, Job, StreamMode, Work};
 use des::cipher::{KeyBytes, KeyedCipher, are_bytes};
 use des_fast::many::ManyBlocks;
 use des_fast::{Des, TdesEde2, TdesEde3};
 use des_io::pieces::write_whole;
 use des_io::{
-    Mode, StreamError, Transformation, decrypt_part, decrypt_stream, encrypt_stream, skip_blocks,
+    Mode, StreamCipher, StreamError, Transformation, apply_stream, decrypt_part, decrypt_stream,
+    encrypt_stream, skip_blocks,
 };
 use des_lines::fault::FaultKind;
+use des_modes::cfb::Register;
+use des_modes::ctr::Counter;
+use des_modes::ofb::Feedback;
 use std::alloc::Global;
 use std::io::{Read, Write};
 
 // The blocks that go through the cipher at a time: 64 KiB.
 const BLOCKS_AT_A_TIME: usize = 8192;
+
+// Does a job in ECB or CBC by a cipher.
+fn run_padded<C: ManyBlocks, R: Read, W: Write>(
+    cipher: &C,
+    job: &Job,
+    reader: &mut R,
+    writer: &mut W,
+    buffer: &mut [[u8; 8]],
+) -> Result<(), StreamError>
+    requires capacity { 0 < length buffer.old }
+    ensures done { IfOk result (λ _. DoesPadded (C.encrypted cipher.now) (C.decrypted cipher.now)
+        job.now.begin job.now.padding job.now.work
+        (passage_of (R.remaining reader.old) (R.remaining reader.new)
+        (W.contents writer.old) (W.contents writer.new))) }
+    ensures fault { IfErr result (λ fault. StopsPadded fault (C.encrypted cipher.now)
+        (C.decrypted cipher.now) job.now.begin job.now.padding job.now.work
+        (passage_of (R.remaining reader.old) (R.remaining reader.new)
+        (W.contents writer.old) (W.contents writer.new))) }
+{
+    let mut transformation = Transformation {
+        cipher,
+        mode: job.begin,
+        padding: job.padding,
+    };
+    match job.work {
+        Work::Encrypt { heading } => {
+            write_whole(writer, heading)?;
+            encrypt_stream(&transformation, reader, writer, buffer)
+        }
+        Work::Decrypt { skipped, part } => {
+            transformation.mode = skip_blocks(job.begin, skipped, reader, buffer)?;
+            match part {
+                None => decrypt_stream(&transformation, reader, writer, buffer),
+                Some(part) => decrypt_part(&transformation, part.count, reader, writer, buffer),
+            }
+        }
+    }
+}
+
+// The vector that a mode goes on from.
+fn vector_in(mode: Mode) -> [u8; 8]
+    ensures { result ≡ vector_of mode }
+{
+    match mode {
+        Mode::Ecb => [0; 8],
+        Mode::Cbc(vector) => vector,
+    }
+}
+
+// The state of a stream cipher, or of a part of its stream from a block on: by the vector of the stream,
+// and the block before the part.
+fn state_of(
+    mode: StreamMode,
+    encrypts: bool,
+    vector: &[u8; 8],
+    before: &[u8; 8],
+    from: u64,
+) -> StreamCipher
+    ensures { Begins mode encrypts vector.now before.now from result }
+{
+    match (mode, encrypts) {
+        (StreamMode::Ctr, _) => StreamCipher::Ctr(Counter::at(vector, from)),
+        (StreamMode::Ofb, _) => StreamCipher::Ofb(Feedback::new(vector)),
+        (StreamMode::Cfb, true) => StreamCipher::EncryptCfb(Register::new(before, 8)),
+        (StreamMode::Cfb, false) => StreamCipher::DecryptCfb(Register::new(before, 8)),
+        (StreamMode::Cfb8, true) => StreamCipher::EncryptCfb(Register::new(before, 1)),
+        (StreamMode::Cfb8, false) => StreamCipher::DecryptCfb(Register::new(before, 1)),
+    }
+}
+
+// The first block of a part, and its bytes at most.
+fn extent_of(part: Option<BlockRange>) -> (u64, u64)
+    ensures { result ≡ (from_of part, bytes_at_most part) }
+{
+    match part {
+        None => (0, u64::MAX),
+        Some(BlockRange { from, count: None }) => (from, u64::MAX),
+        Some(
+            BlockRange {
+                from,
+                count: Some(count),
+            },
+        ) => (from, count.saturating_mul(8)),
+    }
+}
+
+// Does a job in a mode that makes a stream cipher.
+fn run_stream<C: ManyBlocks, R: Read, W: Write>(
+    cipher: &C,
+    mode: StreamMode,
+    job: &Job,
+    reader: &mut R,
+    writer: &mut W,
+    buffer: &mut [[u8; 8]],
+) -> Result<(), StreamError>
+    requires capacity { 0 < length buffer.old }
+    ensures done { IfOk result (λ _. DoesStream (C.encrypted cipher.now) mode job.now
+        (passage_of (R.remaining reader.old) (R.remaining reader.new)
+        (W.contents writer.old) (W.contents writer.new))) }
+    ensures fault { IfErr result (λ fault. StopsStream fault (C.encrypted cipher.now) mode job.now
+        (passage_of (R.remaining reader.old) (R.remaining reader.new)
+        (W.contents writer.old) (W.contents writer.new))) }
+{
+    match job.work {
+        Work::Encrypt { heading: front } => {
+            write_whole(writer, front)?;
+            let vector = vector_in(job.begin);
+            let state = state_of(mode, true, &vector, &vector, 0);
+            apply_stream(
+                cipher,
+                state,
+                u64::MAX,
+                reader,
+                writer,
+                buffer.as_flattened_mut(),
+            )?;
+        }
+        Work::Decrypt { skipped, part } => {
+            let vectors = skipped.min(job.vectors);
+            let first = skip_blocks(job.begin, vectors, reader, buffer)?;
+            let last = skip_blocks(first, skipped - vectors, reader, buffer)?;
+            let (from, limit) = extent_of(part);
+            let state = state_of(mode, false, &vector_in(first), &vector_in(last), from);
+            let count = apply_stream(
+                cipher,
+                state,
+                limit,
+                reader,
+                writer,
+                buffer.as_flattened_mut(),
+            )?;
+            if count == 0 && part.is_some() {
+                return Err(StreamError::Start);
+            }
+        }
+    }
+    Ok(())
+}
 
 // Does a job by a cipher.
 fn run_in<C: ManyBlocks, R: Read, W: Write>(
@@ -33,30 +177,17 @@ fn run_in<C: ManyBlocks, R: Read, W: Write>(
     buffer: &mut [[u8; 8]],
 ) -> Result<(), StreamError>
     requires capacity { 0 < length buffer.old }
-    ensures done { IfOk result (λ _. Does (C.encrypted cipher.now) (C.decrypted cipher.now) job.now
+    ensures done { IfOk result (λ _. Does (C.encrypted cipher.now) (C.decrypted cipher.now) job.now.mode job.now
         (passage_of (R.remaining reader.old) (R.remaining reader.new)
         (W.contents writer.old) (W.contents writer.new))) }
     ensures fault { IfErr result (λ fault. Stops fault (C.encrypted cipher.now)
-        (C.decrypted cipher.now) job.now (passage_of (R.remaining reader.old)
+        (C.decrypted cipher.now) job.now.mode job.now (passage_of (R.remaining reader.old)
         (R.remaining reader.new) (W.contents writer.old) (W.contents writer.new))) }
 {
-    let mut transformation = Transformation {
-        cipher,
-        mode: job.mode,
-        padding: job.padding,
-    };
-    match job.work {
-        Work::Encrypt { heading } => {
-            write_whole(writer, heading)?;
-            encrypt_stream(&transformation, reader, writer, buffer)
-        }
-        Work::Decrypt { skipped, part } => {
-            transformation.mode = skip_blocks(job.mode, skipped, reader, buffer)?;
-            match part {
-                None => decrypt_stream(&transformation, reader, writer, buffer),
-                Some(part) => decrypt_part(&transformation, part.count, reader, writer, buffer),
-            }
-        }
+    match job.mode {
+        CipherMode::Ecb => run_padded(cipher, job, reader, writer, buffer),
+        CipherMode::Cbc => run_padded(cipher, job, reader, writer, buffer),
+        CipherMode::Stream(mode) => run_stream(cipher, mode, job, reader, writer, buffer),
     }
 }
 
@@ -96,7 +227,7 @@ fn run_cipher<C: KeyedCipher + ManyBlocks + Drop, R: Read, W: Write>(
     let Some(key) = C::Key::from_bytes(job.key) else {
         return Err(FaultKind::KeyLength(Some(job.cipher.key_size())));
     };
-    goes_on_from_block(job.mode);
+    goes_on_from_block(job.begin);
     let cipher = cipher_of::<C>(&key);
     let mut buffer = vec![in alloc; [0u8; 8]; count]?;
     run_in(&cipher, job, reader, writer, &mut buffer)?;

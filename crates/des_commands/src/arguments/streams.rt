@@ -1,21 +1,22 @@
 //! What the words of `encrypt` and `decrypt` ask for.
 
-ghost use Rattle.std.specs.Prelude.{◌≡◌, ◌≢◌, Bool, codes, IfSome, IfNone, IfOk, IfErr};
+ghost use Rattle.std.specs.Prelude.{◌≡◌, ◌≢◌, codes, IfSome, IfNone, IfOk, IfErr};
 ghost use Rattle.des_io.specs.declared.padding.Padding.{Padding as PaddingOf};
 ghost use Rattle.des_commands.specs.declared.command.streams.Cipher.{Cipher as CipherOf};
+ghost use Rattle.des_commands.specs.declared.command.streams.CipherMode.{CipherMode as CipherModeOf};
 ghost use Rattle.des_commands.specs.declared.command.streams.WeakKeys.{WeakKeys as WeakKeysOf};
 ghost use Rattle.des_lines.specs.declared.fault.FaultKind.TheVariants.{Usage};
 ghost use Rattle.des_lines.specs.declared.fault.Misuse.TheVariants.{Arguments};
 ghost use Rattle.des_commands.specs.StreamArguments.{cipher_name, padding_word, weak_keys_word, default_weak_keys, text_or, part_for};
-ghost use Rattle.des_commands.specs.StreamArguments.{IsVector, FailsAsVector, IsMode, FailsAsMode};
+ghost use Rattle.des_commands.specs.StreamArguments.{IsVector, FailsAsVector, IsVectorFor, FailsAsVectorFor};
 ghost use Rattle.des_commands.specs.StreamArguments.{IsRequest, FailsAsRequest};
 
 use super::argument_values::{is_set, number_of, place_of, text_of};
-use super::misuse::misuse;
+use super::misuse::{misuse, refuse};
 use super::passwords::secret_of;
 use super::sources::{input_of, output_of, read_once};
 use crate::command::streams::{
-    BlockRange, Cipher, Coding, Secret, StreamMode, StreamRequest, Vector, WeakKeys,
+    BlockRange, Cipher, CipherMode, Coding, Secret, StreamMode, StreamRequest, Vector, WeakKeys,
 };
 use clap::ArgMatches;
 use des_io::Padding;
@@ -39,19 +40,31 @@ pub struct StreamWords<'a> {
     pub shows_progress: bool,
 }
 
-/// The cipher of a name, and whether the mode is CBC; else it is ECB.
-pub fn cipher_of(name: &str) -> Option<(Cipher, bool)>
+/// The cipher and the mode of a name.
+pub fn cipher_of(name: &str) -> Option<(Cipher, CipherMode)>
     ensures named { IfSome result (λ cipher. name.now ≡ cipher_name cipher.0 cipher.1) }
-    ensures none { IfNone result ((cipher : CipherOf) (is_chained : Bool)
-        → name.now ≢ cipher_name cipher is_chained) }
+    ensures none { IfNone result ((cipher : CipherOf) (mode : CipherModeOf)
+        → name.now ≢ cipher_name cipher mode) }
 {
     match name {
-        "des-ecb" => Some((Cipher::Des, false)),
-        "des-cbc" => Some((Cipher::Des, true)),
-        "des-ede-ecb" => Some((Cipher::TdesEde2, false)),
-        "des-ede-cbc" => Some((Cipher::TdesEde2, true)),
-        "des-ede3-ecb" => Some((Cipher::TdesEde3, false)),
-        "des-ede3-cbc" => Some((Cipher::TdesEde3, true)),
+        "des-ecb" => Some((Cipher::Des, CipherMode::Ecb)),
+        "des-cbc" => Some((Cipher::Des, CipherMode::Cbc)),
+        "des-cfb" => Some((Cipher::Des, CipherMode::Stream(StreamMode::Cfb))),
+        "des-cfb8" => Some((Cipher::Des, CipherMode::Stream(StreamMode::Cfb8))),
+        "des-ofb" => Some((Cipher::Des, CipherMode::Stream(StreamMode::Ofb))),
+        "des-ctr" => Some((Cipher::Des, CipherMode::Stream(StreamMode::Ctr))),
+        "des-ede-ecb" => Some((Cipher::TdesEde2, CipherMode::Ecb)),
+        "des-ede-cbc" => Some((Cipher::TdesEde2, CipherMode::Cbc)),
+        "des-ede-cfb" => Some((Cipher::TdesEde2, CipherMode::Stream(StreamMode::Cfb))),
+        "des-ede-cfb8" => Some((Cipher::TdesEde2, CipherMode::Stream(StreamMode::Cfb8))),
+        "des-ede-ofb" => Some((Cipher::TdesEde2, CipherMode::Stream(StreamMode::Ofb))),
+        "des-ede-ctr" => Some((Cipher::TdesEde2, CipherMode::Stream(StreamMode::Ctr))),
+        "des-ede3-ecb" => Some((Cipher::TdesEde3, CipherMode::Ecb)),
+        "des-ede3-cbc" => Some((Cipher::TdesEde3, CipherMode::Cbc)),
+        "des-ede3-cfb" => Some((Cipher::TdesEde3, CipherMode::Stream(StreamMode::Cfb))),
+        "des-ede3-cfb8" => Some((Cipher::TdesEde3, CipherMode::Stream(StreamMode::Cfb8))),
+        "des-ede3-ofb" => Some((Cipher::TdesEde3, CipherMode::Stream(StreamMode::Ofb))),
+        "des-ede3-ctr" => Some((Cipher::TdesEde3, CipherMode::Stream(StreamMode::Ctr))),
         _ => None,
     }
 }
@@ -90,7 +103,7 @@ pub fn weak_keys_of(word: Option<&str>, encrypts: bool) -> Option<WeakKeys>
     }
 }
 
-// CBC's vector, in the direction that its word is for. The fault is `Vector` if the text is neither
+// The vector of a text, in the direction that its word is for. The fault is `Vector` if the text is neither
 // a word nor 16 hexadecimal digits.
 fn vector_of(text: &str, encrypts: bool) -> Result<Vector, FaultKind>
     ensures vector { IfOk result (IsVector text.now encrypts) }
@@ -108,20 +121,18 @@ fn vector_of(text: &str, encrypts: bool) -> Result<Vector, FaultKind>
     }
 }
 
-// The mode. By a key, CBC has the vector of `--iv`; by a password, that gives one too.
-fn mode_of(words: &StreamWords, is_chained: bool) -> Result<StreamMode, FaultKind>
-    ensures mode { IfOk result (IsMode words.now.iv words.now.secret is_chained words.now.encrypts) }
-    ensures fault { IfErr result (FailsAsMode words.now.iv words.now.secret is_chained words.now.encrypts) }
+// The vector, if the mode takes one. By a key, it is that of `--iv`; by a password, that gives one too.
+fn asked_vector(words: &StreamWords, takes_vector: bool) -> Result<Option<Vector>, FaultKind>
+    ensures vector { IfOk result (IsVectorFor words.now.iv words.now.secret takes_vector words.now.encrypts) }
+    ensures fault { IfErr result (FailsAsVectorFor words.now.iv words.now.secret takes_vector words.now.encrypts) }
 {
-    match (words.secret, words.iv, is_chained) {
+    match (words.secret, words.iv, takes_vector) {
         (Secret::Password(_, _), Some(_), _) => Err(FaultKind::Usage(Misuse::VectorOfPassword)),
-        (Secret::Password(_, _), None, true) => Ok(StreamMode::Cbc(Vector::OfPassword)),
-        (Secret::Key(_), Some(text), true) => {
-            Ok(StreamMode::Cbc(vector_of(text, words.encrypts)?))
-        }
+        (Secret::Password(_, _), None, true) => Ok(Some(Vector::OfPassword)),
+        (Secret::Key(_), Some(text), true) => Ok(Some(vector_of(text, words.encrypts)?)),
         (Secret::Key(_), Some(_), false) => Err(FaultKind::Usage(Misuse::VectorOfEcb)),
         (Secret::Key(_), None, true) => Err(FaultKind::Usage(Misuse::VectorNeeded)),
-        (_, None, false) => Ok(StreamMode::Ecb),
+        (_, None, false) => Ok(None),
     }
 }
 
@@ -160,20 +171,26 @@ pub fn request_of_words<'a>(words: &StreamWords<'a>) -> Result<StreamRequest<'a>
     ensures asked { IfOk result (IsRequest words.now) }
     ensures fault { IfErr result (λ fault. FailsAsRequest words.now fault.kind) }
 {
-    let (cipher, is_chained) = cipher_of(words.cipher).ok_or(misuse(Misuse::Arguments, "CIPHER"))?;
+    let (cipher, mode) = cipher_of(words.cipher).ok_or(misuse(Misuse::Arguments, "CIPHER"))?;
     let padding = padding_of(words.padding).ok_or(misuse(Misuse::Arguments, "--padding"))?;
+    refuse(
+        mode.is_stream() && words.padding.is_some(),
+        Misuse::PaddingOfStream,
+    )?;
     let weak_keys = weak_keys_of(words.weak_keys, words.encrypts).ok_or(misuse(
         Misuse::Arguments,
         "--weak-keys",
     ))?;
     let part = part_of(words.from, words.count, words.encrypts).map_err(|kind| fault_of(kind))?;
-    let mode = mode_of(words, is_chained).map_err(|kind| fault_of(kind))?;
+    refuse(!mode.takes_part() && part.is_some(), Misuse::PartOfOfb)?;
+    let vector = asked_vector(words, mode.takes_vector()).map_err(|kind| fault_of(kind))?;
     let input = input_of(words.input);
     read_once(words.secret.source(), input)?;
     Ok(StreamRequest {
         encrypts: words.encrypts,
         cipher,
         mode,
+        vector,
         padding,
         part,
         weak_keys,

@@ -64,9 +64,10 @@ static STREAMS: Group<'static> = group! {
     "encrypt": "Encrypt a file or a pipe";
     [Cipher, {
         "iv": Text("VECTOR") =>
-            "Needed by CBC: random, for eight random bytes that are written first, or 16 hexadecimal digits";
+            "Needed by all modes but ECB: random, for eight random bytes that are written first, or 16 \
+             hexadecimal digits; in CTR the first counter block";
         "padding": Word("PADDING", PADDINGS) =>
-            "How the last block is filled; none: the input is whole blocks [default: pkcs7]";
+            "How the last block is filled in ECB and CBC; none: the input is whole blocks [default: pkcs7]";
         "weak-keys": Word("CHOICE", WEAK_KEYS) => "What to do with a weak key [default: refuse]";
         "from": Hidden => "";
         "blocks": Hidden => "";
@@ -77,7 +78,8 @@ static STREAMS: Group<'static> = group! {
 Limits: encrypt no more than 2^20 blocks (8 MiB) under one key, by
 NIST SP 800-67 Rev. 2, and only what an old system needs: NIST disallows
 encryption with triple DES after 2023 (SP 800-131A Rev. 2). Nothing is
-authenticated.
+authenticated. In CFB, OFB and CTR use no vector and no counter block twice
+under one key: who has both files then has the xor of their texts.
 
 Example:
   echo 0123456789abcdeffedcba9876543210 >KEY
@@ -87,11 +89,13 @@ Example:
     "decrypt": "Decrypt a file or a pipe, or a part of one";
     [Cipher, {
         "iv": Text("VECTOR") =>
-            "Needed by CBC: first-block, if the input begins with the vector, or 16 hexadecimal digits";
+            "Needed by all modes but ECB: first-block, if the input begins with the vector, or 16 \
+             hexadecimal digits; in CTR the first counter block";
         "padding": Word("PADDING", PADDINGS) =>
-            "What is taken off at the end; zeros and none: nothing [default: pkcs7]";
+            "What is taken off at the end in ECB and CBC; zeros and none: nothing [default: pkcs7]";
         "weak-keys": Word("CHOICE", WEAK_KEYS) => "What to do with a weak key [default: warn]";
-        "from": Number("BLOCK") => "Decrypt from this block of 8 bytes on, the first being 0";
+        "from": Number("BLOCK") =>
+            "Decrypt from this block of 8 bytes on, the first being 0; not in OFB";
         "blocks": Number("COUNT") => "Decrypt at most this number of blocks";
     }, Files, Hex, Progress, KeyOrPassword, Password, {
         "derive": Text("METHOD") =>
@@ -101,7 +105,8 @@ Example:
         "base64": Nothing => "The input is Base64 in lines";
     }] "\
 Limits: a changed input decrypts to something, mostly with no fault, since
-nothing is authenticated.
+nothing is authenticated. In CFB, OFB and CTR no key or password is found to
+be wrong.
 
 Example:
   echo 0123456789abcdeffedcba9876543210 >KEY

@@ -2,7 +2,8 @@
 
 ghost use Rattle.std.specs.Prelude.{◌≡◌};
 ghost use Rattle.des_lines.specs.Keys.{IsKeySize};
-ghost use Rattle.des_commands.specs.StreamRequests.{blocks_before as blocks_before_of, source_of, mode_of as mode_by, heading_of as heading_by, IsJobOf};
+ghost use Rattle.des_commands.specs.StreamRequests.{blocks_before as blocks_before_of, source_of, begin_of as begin_by, heading_of as heading_by, vectors_of as vectors_by, IsJobOf};
+ghost use Rattle.des_commands.specs.StreamRequests.{takes_vector as takes_vector_by, is_stream as is_stream_by, takes_part as takes_part_by};
 ghost use Rattle.des_commands.specs.Jobs.{key_size_of};
 
 use des_io::{Mode, Padding};
@@ -12,11 +13,11 @@ use des_passwords::Derivation;
 /// The ciphers.
 #[derive(Clone, Copy)]
 pub enum Cipher {
-    /// DES: `des-ecb` and `des-cbc`.
+    /// DES, as in `des-cbc`.
     Des,
-    /// Triple DES by a key of two parts: `des-ede-ecb` and `des-ede-cbc`.
+    /// Triple DES by a key of two parts, as in `des-ede-cbc`.
     TdesEde2,
-    /// Triple DES by a key of three parts: `des-ede3-ecb` and `des-ede3-cbc`.
+    /// Triple DES by a key of three parts, as in `des-ede3-cbc`.
     TdesEde3,
 }
 
@@ -34,14 +35,51 @@ impl Cipher {
     }
 }
 
-/// The mode.
+/// The modes that make a stream cipher.
 #[derive(Clone, Copy)]
 pub enum StreamMode {
-    Ecb,
-    Cbc(Vector),
+    /// Cipher feedback of 64 bits, as in `des-cfb`.
+    Cfb,
+    /// Cipher feedback of 8 bits.
+    Cfb8,
+    /// Output feedback.
+    Ofb,
+    /// The counter mode.
+    Ctr,
 }
 
-/// The initialization vector.
+/// The modes.
+#[derive(Clone, Copy)]
+pub enum CipherMode {
+    Ecb,
+    Cbc,
+    Stream(StreamMode),
+}
+
+impl CipherMode {
+    /// Whether the mode takes an initialization vector, or a first counter block.
+    pub fn takes_vector(self) -> bool
+        ensures { result ≡ takes_vector_by self }
+    {
+        !matches!(self, CipherMode::Ecb)
+    }
+
+    /// Whether the mode makes a stream cipher, which pads nothing.
+    pub fn is_stream(self) -> bool
+        ensures { result ≡ is_stream_by self }
+    {
+        matches!(self, CipherMode::Stream(_))
+    }
+
+    /// Whether a part can be decrypted without what is before it.
+    pub fn takes_part(self) -> bool
+        ensures { result ≡ takes_part_by self }
+    {
+        !matches!(self, CipherMode::Stream(StreamMode::Ofb))
+    }
+}
+
+/// The initialization vector, or the first counter block.
 #[derive(Clone, Copy)]
 pub enum Vector {
     /// These eight bytes.
@@ -129,7 +167,10 @@ impl<'a> Secret<'a> {
 pub struct StreamRequest<'a> {
     pub encrypts: bool,
     pub cipher: Cipher,
-    pub mode: StreamMode,
+    pub mode: CipherMode,
+    /// None in ECB.
+    pub vector: Option<Vector>,
+    /// Of ECB and CBC.
     pub padding: Padding,
     pub part: Option<BlockRange>,
     pub weak_keys: WeakKeys,
@@ -146,8 +187,11 @@ pub struct Job<'a> {
     pub cipher: Cipher,
     /// The key, of the bytes that the cipher takes.
     pub key: &'a [u8],
-    /// The mode of the first block that is read: ECB, or CBC from a vector.
-    pub mode: Mode,
+    pub mode: CipherMode,
+    /// How the first block that is read goes on: by itself in ECB, else from a vector.
+    pub begin: Mode,
+    /// How many of the blocks that are passed over are the vector: one or none.
+    pub vectors: u64,
     pub padding: Padding,
     pub work: Work<'a>,
 }
@@ -166,28 +210,35 @@ pub enum Work<'a> {
     },
 }
 
-/// The blocks of the input that stand before those that are decrypted: the vector, if it is the
-/// first block, and those before the part. They are counted up to 2^64 - 1: no input has more.
-pub fn blocks_before(request: &StreamRequest) -> u64
-    ensures { result ≡ blocks_before_of request.now.mode request.now.part }
+// The blocks at the beginning of the input that are the vector.
+fn vectors_of(vector: Option<Vector>) -> u64
+    ensures { result ≡ vectors_by vector }
 {
-    let from = request.part.map_or(0, |part| part.from);
-    match request.mode {
-        StreamMode::Cbc(Vector::FirstBlock) => from.saturating_add(1),
-        _ => from,
+    match vector {
+        Some(Vector::FirstBlock) => 1,
+        _ => 0,
     }
 }
 
-// The mode of the first block that is read. A vector that is the first block is passed over as a
-// block, chained from zeros; one that is random, or of a password, is `vector`.
-fn mode_of(mode: StreamMode, vector: [u8; 8]) -> Mode
-    ensures { result ≡ mode_by mode vector }
+/// The blocks of the input that stand before those that are decrypted: the vector, if it is the
+/// first block, and those before the part. They are counted up to 2^64 - 1: no input has more.
+pub fn blocks_before(request: &StreamRequest) -> u64
+    ensures { result ≡ blocks_before_of request.now.vector request.now.part }
 {
-    match mode {
-        StreamMode::Ecb => Mode::Ecb,
-        StreamMode::Cbc(Vector::Bytes(iv)) => Mode::Cbc(iv),
-        StreamMode::Cbc(Vector::FirstBlock) => Mode::Cbc([0; 8]),
-        StreamMode::Cbc(Vector::Random | Vector::OfPassword) => Mode::Cbc(vector),
+    let from = request.part.map_or(0, |part| part.from);
+    from.saturating_add(vectors_of(request.vector))
+}
+
+// How the first block that is read goes on. A vector that is the first block is passed over as a
+// block, chained from zeros; one that is random, or of a password, is `vector`.
+fn begin_of(asked: Option<Vector>, vector: [u8; 8]) -> Mode
+    ensures { result ≡ begin_by asked vector }
+{
+    match asked {
+        None => Mode::Ecb,
+        Some(Vector::Bytes(iv)) => Mode::Cbc(iv),
+        Some(Vector::FirstBlock) => Mode::Cbc([0; 8]),
+        Some(Vector::Random | Vector::OfPassword) => Mode::Cbc(vector),
     }
 }
 
@@ -214,18 +265,20 @@ pub fn job_of<'a>(
     Job {
         cipher: request.cipher,
         key,
-        mode: mode_of(request.mode, vector),
+        mode: request.mode,
+        begin: begin_of(request.vector, vector),
+        vectors: vectors_of(request.vector),
         padding: request.padding,
         work,
     }
 }
 
 /// What is written before the ciphertext by a key: a random vector, if one is asked for.
-pub fn heading_of<'a>(mode: StreamMode, random: &'a [u8; 8]) -> &'a [u8]
-    ensures { result.now ≡ heading_by mode random.now }
+pub fn heading_of<'a>(vector: Option<Vector>, random: &'a [u8; 8]) -> &'a [u8]
+    ensures { result.now ≡ heading_by vector random.now }
 {
-    match mode {
-        StreamMode::Cbc(Vector::Random) => random.as_slice(),
+    match vector {
+        Some(Vector::Random) => random.as_slice(),
         _ => &[],
     }
 }

@@ -55,7 +55,7 @@ pub fn tell<E: Write>(notice: Notice, about: &str, err: &mut E) -> Result<(), St
         Notice::Limit => write_line(
             "Limit",
             about,
-            "more than 2^20 blocks (8 MiB) are encrypted under one key (NIST SP 800-67)",
+            "more than 2^20 blocks (8 MiB, of CFB-8 1 MiB) are encrypted under one key (NIST SP 800-67)",
             err,
         ),
         Notice::Permissions => write_line(

@@ -2,7 +2,8 @@
 //! output.
 
 use crate::command::streams::{
-    Coding, Secret, StreamMode, StreamRequest, Vector, blocks_before, heading_of, job_of,
+    CipherMode, Coding, Secret, StreamMode, StreamRequest, Vector, blocks_before, heading_of,
+    job_of,
 };
 use crate::inputs::files::{self, RANDOM_SOURCE, system_random};
 use crate::inputs::secrets::{key_in, password_in, password_name};
@@ -59,7 +60,7 @@ impl<'a> Task<'a> {
         let request = self.request;
         match request.secret {
             Secret::Key(_) => {
-                let heading = heading_of(request.mode, &self.random);
+                let heading = heading_of(request.vector, &self.random);
                 let job = job_of(request, self.secret, self.random, heading, self.skipped);
                 streams::run(rt.alloc(), &job, reader, writer)
             }
@@ -155,12 +156,27 @@ fn run_from_start<R: Read + Drop>(
     run_reader(rt, task, (&first[..count]).chain(reader), total)
 }
 
+// Whether the blocks before a part need not be read: not if the first of them is the counter block,
+// since a counter goes on from the first.
+fn may_seek(request: &StreamRequest) -> bool {
+    !matches!(
+        (request.secret, request.mode, request.vector),
+        (Secret::Password(_, _), _, _)
+            | (
+                _,
+                CipherMode::Stream(StreamMode::Ctr),
+                Some(Vector::FirstBlock)
+            )
+    )
+}
+
 // Reads a file. By a key it is sought to a part, and then its beginning is not looked at.
 fn run_file(rt: &HostRuntime, task: Task, path: &str) -> Result<(), FaultKind> {
     let mut input = files::open(rt, path)?;
-    let skipped = match task.request.secret {
-        Secret::Key(_) => input.seek_to_last(task.skipped),
-        Secret::Password(_, _) => task.skipped,
+    let skipped = if may_seek(task.request) {
+        input.seek_to_last(task.skipped)
+    } else {
+        task.skipped
     };
     let count = task.request.part.and_then(|part| part.count);
     let total = input.total(skipped, count);
@@ -260,9 +276,9 @@ fn secret_in<'a>(rt: &HostRuntime, request: &StreamRequest<'a>) -> Result<Vec<u8
 
 // Eight random bytes, if a vector or a salt is to be random.
 fn random_for(rt: &HostRuntime, request: &StreamRequest) -> Result<[u8; 8], FaultKind> {
-    match (request.secret, request.mode) {
+    match (request.secret, request.vector) {
         (Secret::Password(_, _), _) if request.encrypts => system_random(rt),
-        (_, StreamMode::Cbc(Vector::Random)) => system_random(rt),
+        (_, Some(Vector::Random)) => system_random(rt),
         _ => Ok([0; 8]),
     }
 }

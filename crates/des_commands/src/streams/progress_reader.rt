@@ -2,7 +2,7 @@
 
 ghost use Rattle.des_commands.specs.Notices.{TellsLimit};
 
-use crate::command::streams::StreamRequest;
+use crate::command::streams::{CipherMode, StreamMode, StreamRequest};
 use crate::outputs::notices::{Notice, is_past_limit, tell};
 use crate::outputs::progress::Progress;
 use des_io::Padding;
@@ -16,6 +16,8 @@ pub struct ProgressReader<'a, R> {
     bytes: u64,
     // The padding of what is encrypted, while the limit on blocks under one key is to be told of.
     limit: Option<Padding>,
+    // For the limit, each byte counts as so many: CFB-8 encrypts a block for each.
+    weight: u64,
     progress: Option<Progress>,
 }
 
@@ -32,6 +34,15 @@ fn tell_limit<E: Write>(limit: Option<Padding>, bytes: u64, err: &mut E) -> Opti
     }
 }
 
+// The padding by which blocks are counted, and how much each byte counts.
+fn counting_of(request: &StreamRequest) -> (Padding, u64) {
+    match request.mode {
+        CipherMode::Stream(StreamMode::Cfb8) => (Padding::Zeros, 8),
+        CipherMode::Stream(_) => (Padding::Zeros, 1),
+        _ => (request.padding, 1),
+    }
+}
+
 impl<'a, R: Read + Drop> ProgressReader<'a, R> {
     /// A reader of the bytes of `inner`, none of which was counted, for what is asked for. `total` is
     /// how many there are to read, if that is known.
@@ -41,11 +52,13 @@ impl<'a, R: Read + Drop> ProgressReader<'a, R> {
         request: &StreamRequest,
         total: Option<u64>,
     ) -> ProgressReader<'a, R> {
+        let (padding, weight) = counting_of(request);
         ProgressReader {
             rt,
             inner,
             bytes: 0,
-            limit: request.encrypts.then_some(request.padding),
+            limit: request.encrypts.then_some(padding),
+            weight,
             progress: if request.shows_progress {
                 Progress::begin(rt, total)
             } else {
@@ -68,7 +81,8 @@ impl<'a, R: Read> Read for ProgressReader<'a, R> {
     fn read(&mut self, buf: &mut [u8]) -> io::Result<usize> {
         let n = self.inner.read(buf)?;
         self.bytes = self.bytes.saturating_add(n as u64);
-        self.limit = tell_limit(self.limit, self.bytes, &mut self.rt.stderr());
+        let counted = self.bytes.saturating_mul(self.weight);
+        self.limit = tell_limit(self.limit, counted, &mut self.rt.stderr());
         if let Some(progress) = self.progress {
             self.progress = Some(progress.go_on(self.rt, self.bytes));
         }

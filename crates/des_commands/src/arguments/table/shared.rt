@@ -112,7 +112,11 @@ const ANY_COUNT: &[Argument<'static>] = arguments! {
 };
 
 const CIPHER: &[Argument<'static>] = arguments! {
-    "cipher": Place("CIPHER", &["des-ecb", "des-cbc", "des-ede-ecb", "des-ede-cbc", "des-ede3-ecb", "des-ede3-cbc"]) =>
+    "cipher": Place("CIPHER", &[
+        "des-ecb", "des-cbc", "des-cfb", "des-cfb8", "des-ofb", "des-ctr",
+        "des-ede-ecb", "des-ede-cbc", "des-ede-cfb", "des-ede-cfb8", "des-ede-ofb", "des-ede-ctr",
+        "des-ede3-ecb", "des-ede3-cbc", "des-ede3-cfb", "des-ede3-cfb8", "des-ede3-ofb", "des-ede3-ctr",
+    ]) =>
         "The cipher and its mode: DES, or triple DES by a key of two (ede) or three (ede3) parts";
 };
 

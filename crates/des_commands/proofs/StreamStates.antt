@@ -1,0 +1,25 @@
+-- Where a stream cipher stands after the blocks before a part.
+use Rattle.std.proofs.Common.{◌≡◌, ℕ, ◌-◌, min, List, false, Option}
+use Rattle.des_io.specs.Streams.{Skips}
+use Rattle.des_io.specs.declared.mode.Mode.{Mode}
+use Rattle.des_io.specs.declared.stream_cipher.StreamCipher.{StreamCipher}
+use Rattle.des_commands.specs.declared.command.streams.BlockRange.{BlockRange}
+use Rattle.des_commands.specs.declared.command.streams.Job.{Job}
+use Rattle.des_commands.specs.declared.command.streams.StreamMode.{StreamMode}
+use Rattle.des_commands.specs.StreamRequests.{from_of}
+use Rattle.des_commands.specs.Jobs.{vector_of, Begins, Reaches}
+
+pub Reaches-skipped : (mode : StreamMode) (job : Job) (skipped vectors from : ℕ) (part : Option BlockRange)
+    (r middle begun : Option (List ℕ)) (first last : Mode) (vector before : List ℕ) (state : StreamCipher)
+    → vectors ≡ min skipped job.vectors → from ≡ from_of part → vector ≡ vector_of first → before ≡ vector_of last
+    → Skips job.begin first vectors r middle → Skips first last (skipped - vectors) middle begun
+    → Begins mode false vector before from state → Reaches mode job skipped part r begun state
+Reaches-skipped mode job skipped vectors from part r middle begun first last vector before state count place is was passed
+    others begins = record {
+      first = first;
+      last = last;
+      middle = middle;
+      vector = rw count at passed;
+      others = rw count at others;
+      begins = rw (is, was, place) at begins;
+    }
