@@ -9,8 +9,11 @@ that of `bindings/build`, else the one that the system finds.
 
 Data are bytes, bytearray, memoryview or anything else with a buffer of bytes, or of words whose most significant byte comes first;
 words in another order, as in array('Q'), are a TypeError. Data are read once, and never changed but by the calls named `_into`,
-which work in place in anything writable and contiguous. Ciphers take whole blocks of 8 bytes: `pad` and `unpad` make them of other
-data.
+which work in place in anything writable and contiguous. ECB and CBC take whole blocks of 8 bytes: `pad` and `unpad` make them of
+other data. CTR, OFB and CFB take any number of bytes, and `Ctr`, `Ofb` and `Cfb` take them in pieces:
+
+    stream = cukvashe_des.Cfb(cipher, iv=iv, segment_size=8)    # 8 bits, as PyCryptodome means by CFB; others mean 64
+    plaintext = stream.decrypt(first) + stream.decrypt(second)
 
 Messages are authenticated by objects as those of `hmac`, with `update`, `digest`, `hexdigest`, `copy` and `verify`:
 
@@ -118,8 +121,10 @@ from ._faults import (
     PinBlockError,
     PinDigitError,
     PinLengthError,
+    PositionError,
     ProtectionKeyLengthError,
     SaltLengthError,
+    SegmentSizeError,
     SequenceDigitError,
     SequenceLengthError,
     SerialLengthError,
@@ -182,6 +187,7 @@ from ._payment import (
     pin_translate_to_1,
     pin_translate_to_3,
 )
+from ._streams import Cfb, Ctr, Ofb, Stream
 from ._terminal import DukptTerminal
 from ._verification import DecimalTable, natural_pin, pin_offset, pin_offset_verify, pvv, pvv_verify
 from ._version import __version__
@@ -189,25 +195,25 @@ from ._version import __version__
 # All that is imported here: made by bindings/describe.
 __all__ = [
     "AccountDigitError", "AccountLengthError", "BLOCK_SIZE", "BlockLengthError", "CbcMacDes", "CbcMacTdesEde2", "CbcMacTdesEde3",
-    "Cipher", "ClosedError", "CmacTdesEde2", "CmacTdesEde3", "CountMismatchError", "DataLengthError", "DecimalTable", "Des",
-    "DukptTerminal", "Error", "ExpiryDigitError", "ExpiryLengthError", "FillError", "FillLengthError", "FormatError",
-    "FormatsError", "HashNameError", "IterationCountError", "KeyBlockDigitError", "KeyBlockFieldError", "KeyBlockHeader",
-    "KeyBlockLengthError", "KeyBlockMacError", "KeyBlockVersionError", "KeyDataLengthError", "KeyIndexError", "KeyLengthError",
-    "Mac", "NoSerialError", "NotSaltedError", "OptionalBlockError", "PaddingLengthError", "PaddingMethodError",
-    "PaddingMismatchError", "PinBlockError", "PinDigitError", "PinLengthError", "ProtectionKeyLengthError", "RetailMacDes",
-    "SaltLengthError", "SequenceDigitError", "SequenceLengthError", "SerialLengthError", "ServiceDigitError",
-    "ServiceLengthError", "StateLengthError", "TAG_SIZE", "TableDigitError", "TableLengthError", "TableVarietyError",
-    "TagMismatchError", "TdesEde2", "TdesEde3", "VectorLengthError", "VerificationError", "WeakKeyError", "WrongPinError",
-    "__version__", "bytes_to_key", "check_value", "check_values", "combine", "cvv", "decrypt_cbc_records", "decrypt_each",
-    "decrypt_each_into", "dukpt_data_key", "dukpt_data_variant", "dukpt_initial_key", "dukpt_is_usable", "dukpt_mac_key",
-    "dukpt_next_serial", "dukpt_pin_key", "dukpt_transaction_key", "dukpt_transaction_keys_from_base",
-    "emv_application_cryptogram", "emv_application_key", "emv_card_key", "emv_card_key_b", "emv_response_1", "emv_response_2",
-    "emv_session_key", "encrypt_cbc_records", "encrypt_each", "encrypt_each_into", "equal_but_parity", "is_weak_key",
-    "key_block_context", "key_block_header", "key_block_optional_blocks", "key_check_value", "macs", "macs_each", "natural_pin",
-    "open_salted", "pad", "pbkdf2", "pin_decode_0", "pin_decode_1", "pin_decode_2", "pin_decode_3", "pin_encode_0",
-    "pin_encode_1", "pin_encode_2", "pin_encode_3", "pin_offset", "pin_offset_verify", "pin_translate_to_0", "pin_translate_to_1",
-    "pin_translate_to_3", "pvv", "pvv_verify", "short_key_check_value", "unpad", "unwrap_key_block", "with_odd_parity",
-    "wrap_key_block", "wrong_tags",
+    "Cfb", "Cipher", "ClosedError", "CmacTdesEde2", "CmacTdesEde3", "CountMismatchError", "Ctr", "DataLengthError",
+    "DecimalTable", "Des", "DukptTerminal", "Error", "ExpiryDigitError", "ExpiryLengthError", "FillError", "FillLengthError",
+    "FormatError", "FormatsError", "HashNameError", "IterationCountError", "KeyBlockDigitError", "KeyBlockFieldError",
+    "KeyBlockHeader", "KeyBlockLengthError", "KeyBlockMacError", "KeyBlockVersionError", "KeyDataLengthError", "KeyIndexError",
+    "KeyLengthError", "Mac", "NoSerialError", "NotSaltedError", "Ofb", "OptionalBlockError", "PaddingLengthError",
+    "PaddingMethodError", "PaddingMismatchError", "PinBlockError", "PinDigitError", "PinLengthError", "PositionError",
+    "ProtectionKeyLengthError", "RetailMacDes", "SaltLengthError", "SegmentSizeError", "SequenceDigitError",
+    "SequenceLengthError", "SerialLengthError", "ServiceDigitError", "ServiceLengthError", "StateLengthError", "Stream",
+    "TAG_SIZE", "TableDigitError", "TableLengthError", "TableVarietyError", "TagMismatchError", "TdesEde2", "TdesEde3",
+    "VectorLengthError", "VerificationError", "WeakKeyError", "WrongPinError", "__version__", "bytes_to_key", "check_value",
+    "check_values", "combine", "cvv", "decrypt_cbc_records", "decrypt_each", "decrypt_each_into", "dukpt_data_key",
+    "dukpt_data_variant", "dukpt_initial_key", "dukpt_is_usable", "dukpt_mac_key", "dukpt_next_serial", "dukpt_pin_key",
+    "dukpt_transaction_key", "dukpt_transaction_keys_from_base", "emv_application_cryptogram", "emv_application_key",
+    "emv_card_key", "emv_card_key_b", "emv_response_1", "emv_response_2", "emv_session_key", "encrypt_cbc_records",
+    "encrypt_each", "encrypt_each_into", "equal_but_parity", "is_weak_key", "key_block_context", "key_block_header",
+    "key_block_optional_blocks", "key_check_value", "macs", "macs_each", "natural_pin", "open_salted", "pad", "pbkdf2",
+    "pin_decode_0", "pin_decode_1", "pin_decode_2", "pin_decode_3", "pin_encode_0", "pin_encode_1", "pin_encode_2",
+    "pin_encode_3", "pin_offset", "pin_offset_verify", "pin_translate_to_0", "pin_translate_to_1", "pin_translate_to_3", "pvv",
+    "pvv_verify", "short_key_check_value", "unpad", "unwrap_key_block", "with_odd_parity", "wrap_key_block", "wrong_tags",
 ]
 # This ends what bindings/describe made.
 

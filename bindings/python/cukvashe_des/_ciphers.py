@@ -5,10 +5,13 @@
 import functools
 from typing import Any, Callable, ClassVar, Type, TypeVar, cast
 
-from ._data import BLOCK_SIZE, KINDS, Keyed, Kind, bytes_of, in_order, is_writable, kind_of, pointer_to, vector_of
-from ._faults import BlockLengthError
+from ._data import BLOCK_SIZE, KINDS, Keyed, Kind, bytes_of, copy_of, counter_of, kind_of, pointer_to
+from ._data import vector_of, writable
+from ._faults import BlockLengthError, SegmentSizeError, check
 from ._statuses import OK
 from ._types import ReadableBuffer, WriteableBuffer
+
+CTR, OFB, CFB1 = 31, 32, 40
 
 _Call = TypeVar("_Call", bound=Callable[..., Any])
 
@@ -20,14 +23,30 @@ def vectors_by_name(call: _Call) -> _Call:
     places, end = code.co_argcount, code.co_argcount + code.co_kwonlyargcount
     words = [name for name in code.co_varnames[:places] if name != "self"]
     words += [f"{name}={name}" for name in code.co_varnames[places:end]]
+    first, name = "the data come", code.co_name
+    if name == "__init__":
+        first, name = "the cipher comes", call.__qualname__.split(".")[0]
+    form = f"{name}({', '.join(words)})"
+    has_segments = "segment_size" in code.co_varnames[places:end]
 
     @functools.wraps(call)
     def checked(*given: Any, **named: Any) -> Any:
         if len(given) > places:
-            raise TypeError(f"the data come first, and vectors go by name: {code.co_name}({', '.join(words)})")
+            raise TypeError(f"{first} first, and vectors go by name: {form}")
+        if has_segments and "segment_size" not in named:
+            raise TypeError(f"write {form}, with the bits of a segment: by CFB alone PyCryptodome means 8, OpenSSL and cryptography 64")
         return call(*given, **named)
 
     return cast(_Call, checked)
+
+
+def cfb_of(segment_size: int) -> int:
+    """The number of CFB with segments of so many bits."""
+    if not isinstance(segment_size, int) or isinstance(segment_size, bool):
+        raise TypeError("segment_size is a number of bits")
+    if segment_size != 1 and segment_size not in range(8, 65, 8):
+        raise SegmentSizeError("a segment has 1 bit, or 8, 16, 24, 32, 40, 48, 56 or 64")
+    return CFB1 + int(segment_size) // 8
 
 
 class Cipher(Keyed):
@@ -63,6 +82,40 @@ class Cipher(Keyed):
         BlockLengthError."""
         return self._answer("decrypt_cbc_to", data, vector_of(iv))
 
+    @vectors_by_name
+    def encrypt_ctr(self, data: ReadableBuffer, *, counter: ReadableBuffer) -> bytes:
+        """The data, of any length, encrypted by the counter mode from a first counter block of 8 bytes, of which the next ones
+        are counted up as one number. Two texts whose counters meet give their xor away. VectorLengthError."""
+        return self._streamed("encrypt_mode", CTR, data, counter_of(counter))
+
+    @vectors_by_name
+    def decrypt_ctr(self, data: ReadableBuffer, *, counter: ReadableBuffer) -> bytes:
+        """The data, decrypted by the counter mode. VectorLengthError."""
+        return self._streamed("decrypt_mode", CTR, data, counter_of(counter))
+
+    @vectors_by_name
+    def encrypt_ofb(self, data: ReadableBuffer, *, iv: ReadableBuffer) -> bytes:
+        """The data, of any length, encrypted by output feedback from an initialization vector of 8 bytes. Two texts from one
+        vector give their xor away. VectorLengthError."""
+        return self._streamed("encrypt_mode", OFB, data, vector_of(iv))
+
+    @vectors_by_name
+    def decrypt_ofb(self, data: ReadableBuffer, *, iv: ReadableBuffer) -> bytes:
+        """The data, decrypted by output feedback. VectorLengthError."""
+        return self._streamed("decrypt_mode", OFB, data, vector_of(iv))
+
+    @vectors_by_name
+    def encrypt_cfb(self, data: ReadableBuffer, *, iv: ReadableBuffer, segment_size: int) -> bytes:
+        """The data, of any length, encrypted by cipher feedback from an initialization vector of 8 bytes, with segments of 1, 8,
+        16, 24 .. or 64 bits: by CFB alone PyCryptodome means 8, OpenSSL and `cryptography` 64. VectorLengthError,
+        SegmentSizeError."""
+        return self._streamed("encrypt_mode", cfb_of(segment_size), data, vector_of(iv))
+
+    @vectors_by_name
+    def decrypt_cfb(self, data: ReadableBuffer, *, iv: ReadableBuffer, segment_size: int) -> bytes:
+        """The data, decrypted by cipher feedback with segments of so many bits. VectorLengthError, SegmentSizeError."""
+        return self._streamed("decrypt_mode", cfb_of(segment_size), data, vector_of(iv))
+
     def encrypt_ecb_into(self, data: WriteableBuffer) -> None:
         """Encrypts in place, in a bytearray or the like. BlockLengthError; TypeError where the data are not writable in one
         piece."""
@@ -96,11 +149,13 @@ class Cipher(Keyed):
 
     def _change(self, call: str, data: WriteableBuffer, *vector: Any) -> None:
         context = self._open()
-        with memoryview(data) as view:
-            if not is_writable(in_order(view)):
-                raise TypeError("a call in place needs writable data in one piece, such as a bytearray")
-            length = view.nbytes
-            _whole(context.kind.calls[call](context, *vector, pointer_to(view) if length else None, length), length)
+        with writable(data) as (place, length):
+            _whole(context.kind.calls[call](context, *vector, place, length), length)
+
+    def _streamed(self, call: str, mode: int, data: ReadableBuffer, vector: Any) -> bytes:
+        context, answer = self._open(), copy_of(data)
+        check(context.kind.calls[call](context, mode, vector, pointer_to(answer) if answer else None, len(answer)))
+        return bytes(answer)
 
 
 def _whole(status: int, length: int) -> None:

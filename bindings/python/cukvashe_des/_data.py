@@ -39,7 +39,7 @@ def bytes_of(data: ReadableBuffer) -> bytes:
         return in_order(view).tobytes()
 
 
-def _copy_of(data: ReadableBuffer) -> bytearray:
+def copy_of(data: ReadableBuffer) -> bytearray:
     """A copy of the bytes, taken once, which can be wiped."""
     with memoryview(data) as view:
         return bytearray(in_order(view))
@@ -71,7 +71,7 @@ def hint_of(key: Any, *sizes: int) -> str:
 @contextlib.contextmanager
 def key_of(key: ReadableBuffer, *sizes: int) -> Iterator[Any]:
     """A copy of a key for one call, wiped after it. KeyLengthError if its length is none of the sizes."""
-    with _held(_copy_of(no_text(key))) as held:
+    with _held(copy_of(no_text(key))) as held:
         if len(held) not in sizes:
             listed = " or ".join(map(str, sizes))
             raise KeyLengthError(f"a key has {listed} bytes, not {len(held)}{hint_of(held, *sizes)}")
@@ -81,22 +81,27 @@ def key_of(key: ReadableBuffer, *sizes: int) -> Iterator[Any]:
 @contextlib.contextmanager
 def secret_of(secret: ReadableBuffer) -> Iterator[Tuple[Any, int]]:
     """A copy of secret bytes of any length for one call, and their length, wiped after it."""
-    with _held(_copy_of(secret)) as held:
+    with _held(copy_of(secret)) as held:
         yield held, len(held)
 
 
-def vector_of(iv: ReadableBuffer) -> Any:
+def vector_of(iv: ReadableBuffer, what: str = "an initialization vector") -> Any:
     """A copy of an initialization vector, which a call may change."""
     taken = bytes_of(iv)
     if len(taken) != BLOCK_SIZE:
-        raise VectorLengthError(f"an initialization vector has {BLOCK_SIZE} bytes, not {len(taken)}")
+        raise VectorLengthError(f"{what} has {BLOCK_SIZE} bytes, not {len(taken)}")
     return (ctypes.c_uint8 * BLOCK_SIZE).from_buffer_copy(taken)
+
+
+def counter_of(counter: ReadableBuffer) -> Any:
+    """A copy of a counter block."""
+    return vector_of(counter, "a counter block")
 
 
 @contextlib.contextmanager
 def block_of(block: ReadableBuffer) -> Iterator[Any]:
     """A copy of a PIN block for one call, wiped after it."""
-    with _held(_copy_of(block)) as held:
+    with _held(copy_of(block)) as held:
         if len(held) != BLOCK_SIZE:
             raise BlockLengthError(f"a PIN block has {BLOCK_SIZE} bytes, not {len(held)}")
         yield held
@@ -121,7 +126,7 @@ def number_of(number: int, least: int, most: int) -> int:
 def text_of(digits: Text) -> Iterator[Tuple[Any, int]]:
     """A copy of a text, of str or of bytes, and its length, wiped after a call. A character beyond ASCII becomes one that is no
     digit either."""
-    with _held(bytearray(digits, "ascii", "replace") if isinstance(digits, str) else _copy_of(digits)) as held:
+    with _held(bytearray(digits, "ascii", "replace") if isinstance(digits, str) else copy_of(digits)) as held:
         yield held, len(held)
 
 
@@ -218,6 +223,15 @@ def row_size(view: memoryview) -> Optional[int]:
 def pointer_to(data: WriteableBuffer) -> Any:
     """Where data begin that a call may write. As long as the call has this pointer, nobody changes their length."""
     return ctypes.byref(ctypes.c_uint8.from_buffer(data))
+
+
+@contextlib.contextmanager
+def writable(data: WriteableBuffer) -> Iterator[Tuple[Any, int]]:
+    """Where data begin that a call changes in place, null if there are none, and how many bytes they have."""
+    with memoryview(data) as view:
+        if not is_writable(in_order(view)):
+            raise TypeError("a call in place needs writable data in one piece, such as a bytearray")
+        yield pointer_to(view) if view.nbytes else None, view.nbytes
 
 
 def place_of(data: Any) -> Any:

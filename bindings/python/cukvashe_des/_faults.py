@@ -17,7 +17,15 @@ class VerificationError(Error):
 
 
 class VectorLengthError(Error, ValueError):
-    """An initialization vector does not have 8 bytes."""
+    """An initialization vector, or a counter block, does not have 8 bytes."""
+
+
+class SegmentSizeError(Error, ValueError):
+    """A segment of CFB does not have 1 bit, or 8, 16, 24, 32, 40, 48, 56 or 64."""
+
+
+class PositionError(Error, ValueError):
+    """A position in a stream is negative, or not less than 2^67."""
 
 
 class SerialLengthError(Error, ValueError):

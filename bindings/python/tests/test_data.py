@@ -255,7 +255,7 @@ class InPlace(unittest.TestCase):
 class OnceAlone(unittest.TestCase):
     """What is given is read once: what becomes of it later, by another thread, changes no answer and is read nowhere."""
 
-    READERS = (_data.bytes_of.__code__, _data._copy_of.__code__)
+    READERS = (_data.bytes_of.__code__, _data.copy_of.__code__)
 
     def emptied(self, call, arguments):
         """The answer of a call whose arguments are emptied as soon as one function of the package has read them."""

@@ -300,7 +300,7 @@ class Kinds(unittest.TestCase):
         """Rows of keys and blocks, as they stand: nothing of them is copied."""
         keys = memoryview(PAIR * 300).cast("B", (300, 16))
         blocks = memoryview(bytearray(some(8 * 300))).cast("B", (300, 8))
-        with mock.patch.object(_data, "_copy_of", side_effect=AssertionError):
+        with mock.patch.object(_data, "copy_of", side_effect=AssertionError):
             encrypt_each_into(TdesEde2, keys, blocks)
         self.assertEqual(blocks.tobytes(), TdesEde2(PAIR).encrypt_ecb(some(8 * 300)))
 

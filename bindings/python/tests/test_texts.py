@@ -16,6 +16,9 @@ from .values import faults_of_package, in_places, lines_of, opens, to_format_0
 KNOWN = (re.match("! ([A-Za-z]+) (.*)", line) for line in lines_of("bindings", "known_calls.txt") if line.startswith("!"))
 SENTENCES = {(known[1] + "Error", known[2]) for known in KNOWN} | {
     ("ClosedError", "the object was closed"),
+    ("PositionError", "a position in a stream is 0 to 2^67 - 1"),
+    ("SegmentSizeError", "a segment has 1 bit, or 8, 16, 24, 32, 40, 48, 56 or 64"),
+    ("VectorLengthError", "a counter block has 8 bytes, not #"),
     ("CountMismatchError", "the numbers of vectors and counts differ"),
     ("KeyBlockLengthError", "a key block has at most 9999 characters"),
     ("NoSerialError", "the terminal has no key for a next transaction"),
@@ -138,6 +141,7 @@ class Texts(unittest.TestCase):
         names |= self.faults(cukvashe_des.pbkdf2, "sha1", MESSAGE, IV, 1, 0)
         for cut in (7, 15):
             names |= self.faults(opens, KEY, SALTED[:cut])
+        names |= self.faults(cukvashe_des.Ctr(cukvashe_des.TdesEde3(KEY), counter=IV).seek, -1)
         self.assertEqual(names, {fault.__name__ for fault in faults_of_package()} | {"TypeError"})
         self.assertLessEqual(self.sentences, SENTENCES)
 

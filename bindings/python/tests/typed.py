@@ -4,7 +4,7 @@
 from typing import List, Optional, Type
 
 import cukvashe_des
-from cukvashe_des import Cipher, DukptTerminal, Error, KeyBlockHeader, Mac, TdesEde3, VerificationError
+from cukvashe_des import Cfb, Cipher, Ctr, DukptTerminal, Error, KeyBlockHeader, Mac, Stream, TdesEde3, VerificationError
 
 
 def plain_of(cipher: Cipher, iv: bytes, data: bytes) -> bytes:
@@ -20,6 +20,17 @@ def change(cipher: Cipher, iv: bytes, pieces: List[bytearray]) -> bytes:
 def column(cipher: Cipher, vectors: memoryview, blocks: memoryview) -> bytes:
     counts = (1 for _ in range(len(vectors) // 8))
     return cukvashe_des.decrypt_cbc_records(cipher, blocks, vectors=vectors, counts=counts)
+
+
+def decrypted(stream: Stream, pieces: List[bytes]) -> bytes:
+    return b"".join(map(stream.copy().decrypt, pieces))
+
+
+def part(cipher: Cipher, counter: bytes, data: bytearray) -> Ctr:
+    stream = Ctr(cipher, counter=counter).copy()
+    stream.seek(8)
+    stream.decrypt_into(data)
+    return stream
 
 
 def with_class(kind: Type[Cipher], key: bytes) -> Cipher:
@@ -61,6 +72,9 @@ def refused(cipher: Cipher, iv: bytes, data: bytes) -> None:
     cipher.decrypt_cbc(iv, data)  # type: ignore
     cipher.decrypt_cbc(data)  # type: ignore
     cipher.decrypt_cbc_into(data, iv=iv)  # type: ignore
+    cipher.encrypt_ctr(data, iv)  # type: ignore
+    cipher.encrypt_cfb(data, iv=iv)  # type: ignore
+    Cfb(cipher, iv=iv)  # type: ignore
     cukvashe_des.decrypt_cbc_records(cipher, iv, [1], data)  # type: ignore
     TdesEde3("0123456789abcdef" * 3)  # type: ignore
     if cukvashe_des.pvv_verify(data, "4123456789012345", 1, "1234", "1894"):  # type: ignore

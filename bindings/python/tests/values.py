@@ -250,7 +250,9 @@ def methods():
         made = kind(*arguments)
         if kind in ANSWERS:
             calls += [(made.encrypt_ecb, (MESSAGE,)), (made.decrypt_ecb, (MESSAGE,))]
-            calls += [(in_places(call, "iv"), (MESSAGE, IV)) for call in (made.encrypt_cbc, made.decrypt_cbc)]
+            calls += [(in_places(call, "iv"), (MESSAGE, IV)) for call in (made.encrypt_cbc, made.decrypt_cbc, made.encrypt_ofb, made.decrypt_ofb)]
+            calls += [(in_places(call, "counter"), (MESSAGE, IV)) for call in (made.encrypt_ctr, made.decrypt_ctr)]
+            calls += [(in_places(call, "iv", "segment_size"), (MESSAGE, IV, 8)) for call in (made.encrypt_cfb, made.decrypt_cfb)]
         else:
             calls += [(made.update, (b"",)), (made.digest, ()), (made.hexdigest, ()), (made.verify, (made.digest(),)),
                       (made.verify_truncated_left, (made.digest(),))]
