@@ -1,5 +1,6 @@
 //! A cipher that the key's length chooses.
 
+use crate::stream::{BitsError, Mode, Stream};
 use crate::{Block, BlockCipher, CountsDiffer, DataError, Des, InvalidLength, TdesEde2, TdesEde3};
 
 /// The cipher of a key whose length is known at run time only: DES of 8 bytes, triple DES in the EDE form of 16 and of 24.
@@ -61,8 +62,8 @@ impl Cipher {
 
 /// Calls of `BlockCipher`, by the cipher that it is.
 macro_rules! calls {
-    ($($call:ident($($argument:ident: $type:ty),*), $error:ty;)*) => {
-        $(fn $call(&self, $($argument: $type),*) -> Result<(), $error> {
+    ($($call:ident($($argument:ident: $type:ty),*) -> $answer:ty;)*) => {
+        $(fn $call(&self, $($argument: $type),*) -> $answer {
             match self {
                 Cipher::Des(cipher) => cipher.$call($($argument),*),
                 Cipher::TdesEde2(cipher) => cipher.$call($($argument),*),
@@ -83,15 +84,21 @@ impl BlockCipher for Cipher {
     }
 
     calls!(
-        encrypt_ecb(data: &mut [u8]), DataError;
-        decrypt_ecb(data: &mut [u8]), DataError;
-        encrypt_ecb_to(input: &[u8], output: &mut [u8]), DataError;
-        decrypt_ecb_to(input: &[u8], output: &mut [u8]), DataError;
-        encrypt_cbc(iv: &mut Block, data: &mut [u8]), DataError;
-        decrypt_cbc(iv: &mut Block, data: &mut [u8]), DataError;
-        encrypt_cbc_to(iv: &mut Block, input: &[u8], output: &mut [u8]), DataError;
-        decrypt_cbc_to(iv: &mut Block, input: &[u8], output: &mut [u8]), DataError;
-        encrypt_cbc_records(vectors: &mut [Block], counts: &[usize], blocks: &mut [Block]), CountsDiffer;
-        decrypt_cbc_records(vectors: &mut [Block], counts: &[usize], blocks: &mut [Block]), CountsDiffer;
+        encrypt_ecb(data: &mut [u8]) -> Result<(), DataError>;
+        decrypt_ecb(data: &mut [u8]) -> Result<(), DataError>;
+        encrypt_ecb_to(input: &[u8], output: &mut [u8]) -> Result<(), DataError>;
+        decrypt_ecb_to(input: &[u8], output: &mut [u8]) -> Result<(), DataError>;
+        encrypt_cbc(iv: &mut Block, data: &mut [u8]) -> Result<(), DataError>;
+        decrypt_cbc(iv: &mut Block, data: &mut [u8]) -> Result<(), DataError>;
+        encrypt_cbc_to(iv: &mut Block, input: &[u8], output: &mut [u8]) -> Result<(), DataError>;
+        decrypt_cbc_to(iv: &mut Block, input: &[u8], output: &mut [u8]) -> Result<(), DataError>;
+        encrypt_cbc_records(vectors: &mut [Block], counts: &[usize], blocks: &mut [Block]) -> Result<(), CountsDiffer>;
+        decrypt_cbc_records(vectors: &mut [Block], counts: &[usize], blocks: &mut [Block]) -> Result<(), CountsDiffer>;
+        encrypt_mode(mode: Mode, iv: &Block, data: &mut [u8]) -> ();
+        decrypt_mode(mode: Mode, iv: &Block, data: &mut [u8]) -> ();
+        encrypt_stream(stream: &mut Stream, data: &mut [u8]) -> ();
+        decrypt_stream(stream: &mut Stream, data: &mut [u8]) -> ();
+        encrypt_stream_bits(stream: &mut Stream, data: &mut [u8], bits: usize) -> Result<(), BitsError>;
+        decrypt_stream_bits(stream: &mut Stream, data: &mut [u8], bits: usize) -> Result<(), BitsError>;
     );
 }

@@ -11,6 +11,7 @@ pub mod padding;
 pub mod passwords;
 pub mod payment;
 mod statuses;
+pub mod stream;
 
 pub use cipher::Cipher;
 pub use each_key::KeyForEach;
@@ -18,6 +19,7 @@ pub use error::{CountsDiffer, DataError, InvalidLength, KeyTestError};
 
 use core::{fmt, slice};
 use statuses::{KEY_LENGTH, OK};
+use stream::{BitsError, Mode, Stream};
 
 /// A block of 64 bits, bit 1 of the standard the most significant of the first byte.
 pub type Block = [u8; 8];
@@ -92,6 +94,26 @@ pub trait BlockCipher: Clone + fmt::Debug {
         blocks: &mut [Block],
     ) -> Result<(), CountsDiffer>;
 
+    /// Encrypts a text of any length in place, in a mode without padding, from an initialization vector, in CTR the first counter
+    /// block. [`stream`] has texts in pieces.
+    fn encrypt_mode(&self, mode: Mode, iv: &Block, data: &mut [u8]);
+
+    /// Decrypts a text in place, as `encrypt_mode`.
+    fn decrypt_mode(&self, mode: Mode, iv: &Block, data: &mut [u8]);
+
+    /// Encrypts the bytes that come next in a stream, in place.
+    fn encrypt_stream(&self, stream: &mut Stream, data: &mut [u8]);
+
+    /// Decrypts the bytes that come next in a stream, in place.
+    fn decrypt_stream(&self, stream: &mut Stream, data: &mut [u8]);
+
+    /// Encrypts the bits that come next in a stream of CFB with segments of 1 bit, from the highest of the first byte on, in
+    /// place. The others stay.
+    fn encrypt_stream_bits(&self, stream: &mut Stream, data: &mut [u8], bits: usize) -> Result<(), BitsError>;
+
+    /// Decrypts the bits that come next, as `encrypt_stream_bits`.
+    fn decrypt_stream_bits(&self, stream: &mut Stream, data: &mut [u8], bits: usize) -> Result<(), BitsError>;
+
     /// Encrypts each block by itself, in place.
     fn encrypt_blocks(&self, blocks: &mut [Block]) {
         // Blocks are whole, so there is no error; the same holds of the calls below.
@@ -141,12 +163,35 @@ fn whole(status: i32) -> Result<(), DataError> {
     }
 }
 
+/// Holds a call to the success that its types promise: the context and the stream are ones that the library made.
+fn sound(status: i32) {
+    assert_eq!(status, OK, "the library made the context and the stream");
+}
+
+/// Refuses more bits than data have.
+fn bits_within(data: &[u8], bits: usize) -> Result<(), BitsError> {
+    if bits.div_ceil(8) <= data.len() {
+        Ok(())
+    } else {
+        Err(BitsError::TooFew)
+    }
+}
+
+/// What a status of the calls of bits says.
+fn of_bits(status: i32) -> Result<(), BitsError> {
+    match status {
+        OK => Ok(()),
+        _ => Err(BitsError::Segment),
+    }
+}
+
 /// A cipher: its type, its context, and its calls of the library.
 macro_rules! cipher {
     ($(#[$doc:meta])* $name:ident, $key_size:literal, $init:ident, $init_no_tables:ident,
      $encrypt_ecb:ident, $decrypt_ecb:ident, $encrypt_ecb_to:ident, $decrypt_ecb_to:ident,
      $encrypt_cbc:ident, $decrypt_cbc:ident, $encrypt_cbc_to:ident, $decrypt_cbc_to:ident,
-     $encrypt_records:ident, $decrypt_records:ident) => {
+     $encrypt_records:ident, $decrypt_records:ident, $encrypt_mode:ident, $decrypt_mode:ident,
+     $encrypt_stream:ident, $decrypt_stream:ident, $encrypt_bits:ident, $decrypt_bits:ident) => {
         $(#[$doc])*
         #[derive(Clone)]
         pub struct $name {
@@ -253,6 +298,32 @@ macro_rules! cipher {
                     ffi::$decrypt_records(&self.context, vectors, size, counts, records, bytes, length)
                 })
             }
+
+            fn encrypt_mode(&self, mode: Mode, iv: &Block, data: &mut [u8]) {
+                sound(unsafe { ffi::$encrypt_mode(&self.context, mode.number(), iv, data.as_mut_ptr(), data.len()) });
+            }
+
+            fn decrypt_mode(&self, mode: Mode, iv: &Block, data: &mut [u8]) {
+                sound(unsafe { ffi::$decrypt_mode(&self.context, mode.number(), iv, data.as_mut_ptr(), data.len()) });
+            }
+
+            fn encrypt_stream(&self, stream: &mut Stream, data: &mut [u8]) {
+                sound(unsafe { ffi::$encrypt_stream(&self.context, &mut stream.state, data.as_mut_ptr(), data.len()) });
+            }
+
+            fn decrypt_stream(&self, stream: &mut Stream, data: &mut [u8]) {
+                sound(unsafe { ffi::$decrypt_stream(&self.context, &mut stream.state, data.as_mut_ptr(), data.len()) });
+            }
+
+            fn encrypt_stream_bits(&self, stream: &mut Stream, data: &mut [u8], bits: usize) -> Result<(), BitsError> {
+                bits_within(data, bits)?;
+                of_bits(unsafe { ffi::$encrypt_bits(&self.context, &mut stream.state, data.as_mut_ptr(), bits) })
+            }
+
+            fn decrypt_stream_bits(&self, stream: &mut Stream, data: &mut [u8], bits: usize) -> Result<(), BitsError> {
+                bits_within(data, bits)?;
+                of_bits(unsafe { ffi::$decrypt_bits(&self.context, &mut stream.state, data.as_mut_ptr(), bits) })
+            }
         }
 
         impl fmt::Debug for $name {
@@ -277,7 +348,13 @@ cipher!(
     cukvashe_des_encrypt_cbc_to,
     cukvashe_des_decrypt_cbc_to,
     cukvashe_des_encrypt_cbc_records,
-    cukvashe_des_decrypt_cbc_records
+    cukvashe_des_decrypt_cbc_records,
+    cukvashe_des_encrypt_mode,
+    cukvashe_des_decrypt_mode,
+    cukvashe_des_encrypt_stream,
+    cukvashe_des_decrypt_stream,
+    cukvashe_des_encrypt_stream_bits,
+    cukvashe_des_decrypt_stream_bits
 );
 
 cipher!(
@@ -294,7 +371,13 @@ cipher!(
     cukvashe_tdes_ede2_encrypt_cbc_to,
     cukvashe_tdes_ede2_decrypt_cbc_to,
     cukvashe_tdes_ede2_encrypt_cbc_records,
-    cukvashe_tdes_ede2_decrypt_cbc_records
+    cukvashe_tdes_ede2_decrypt_cbc_records,
+    cukvashe_tdes_ede2_encrypt_mode,
+    cukvashe_tdes_ede2_decrypt_mode,
+    cukvashe_tdes_ede2_encrypt_stream,
+    cukvashe_tdes_ede2_decrypt_stream,
+    cukvashe_tdes_ede2_encrypt_stream_bits,
+    cukvashe_tdes_ede2_decrypt_stream_bits
 );
 
 cipher!(
@@ -311,7 +394,13 @@ cipher!(
     cukvashe_tdes_ede3_encrypt_cbc_to,
     cukvashe_tdes_ede3_decrypt_cbc_to,
     cukvashe_tdes_ede3_encrypt_cbc_records,
-    cukvashe_tdes_ede3_decrypt_cbc_records
+    cukvashe_tdes_ede3_decrypt_cbc_records,
+    cukvashe_tdes_ede3_encrypt_mode,
+    cukvashe_tdes_ede3_decrypt_mode,
+    cukvashe_tdes_ede3_encrypt_stream,
+    cukvashe_tdes_ede3_decrypt_stream,
+    cukvashe_tdes_ede3_encrypt_stream_bits,
+    cukvashe_tdes_ede3_decrypt_stream_bits
 );
 
 /// Refuses a key of 8, 16 or 24 bytes that is weak in one of its parts (few different round keys), or has two parts that

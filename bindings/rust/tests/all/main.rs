@@ -9,4 +9,5 @@ mod lists;
 mod macs;
 mod passwords;
 mod payment;
+mod streams;
 mod types;

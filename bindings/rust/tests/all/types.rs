@@ -5,6 +5,7 @@ use cukvashe_des::mac::*;
 use cukvashe_des::padding::{NoRoom, UnpadError};
 use cukvashe_des::passwords::{DeriveError, OpenError};
 use cukvashe_des::payment::*;
+use cukvashe_des::stream::{BitsError, Cfb, Ctr, Mode, Ofb, Segment, Stream};
 use cukvashe_des::*;
 use std::error::Error;
 use std::fmt::Debug;
@@ -26,6 +27,9 @@ macro_rules! each_secret {
         $call!(CmacTdesEde2, CmacTdesEde2::new_from_slice(&KEY[..16]).unwrap());
         $call!(CmacTdesEde3, CmacTdesEde3::new_from_slice(&KEY).unwrap());
         $call!(Pin, Pin::new(b"123456789012").unwrap());
+        $call!(Stream, Stream::new(Mode::Ofb, &[7; 8]));
+        $call!(Ofb, Ofb::new(TdesEde3::new(&KEY), &[7; 8]));
+        $call!(Cfb, Cfb::new(TdesEde3::new(&KEY), &[7; 8], Segment::Bits8));
     };
 }
 
@@ -87,8 +91,12 @@ fn ciphers_without_tables_have_other_contexts() {
         let key = &KEY[..size];
         match (Cipher::new_from_slice(key).unwrap(), Cipher::new_no_tables_from_slice(key).unwrap()) {
             (Cipher::Des(with_tables), Cipher::Des(no_tables)) if size == 8 => differ(with_tables, no_tables),
-            (Cipher::TdesEde2(with_tables), Cipher::TdesEde2(no_tables)) if size == 16 => differ(with_tables, no_tables),
-            (Cipher::TdesEde3(with_tables), Cipher::TdesEde3(no_tables)) if size == 24 => differ(with_tables, no_tables),
+            (Cipher::TdesEde2(with_tables), Cipher::TdesEde2(no_tables)) if size == 16 => {
+                differ(with_tables, no_tables)
+            }
+            (Cipher::TdesEde3(with_tables), Cipher::TdesEde3(no_tables)) if size == 24 => {
+                differ(with_tables, no_tables)
+            }
             others => panic!("{others:?}"),
         }
     }
@@ -151,6 +159,14 @@ fn chosen_ciphers_are_no_different() {
     assert_eq!(format!("{ciphers:?}"), "[Des(Des { ... }), TdesEde2(TdesEde2 { ... }), TdesEde3(TdesEde3 { ... })]");
     let made = [Des::new(&[7; 8]).into(), TdesEde2::new(&[7; 16]).into(), TdesEde3::new(&[7; 24]).into()];
     assert!(matches!(made, [Cipher::Des(_), Cipher::TdesEde2(_), Cipher::TdesEde3(_)]));
+}
+
+/// Of a stream by CTR the first counter block stays, which is no secret.
+#[test]
+fn counters_are_no_different() {
+    let ctr = Ctr::new(TdesEde3::new(&KEY), &[7; 8]);
+    shared_by_threads(&ctr);
+    is_shown_as(&ctr, "Ctr");
 }
 
 /// A terminal has no clone, which would give its keys again; the rest is as of the others.
@@ -218,6 +234,10 @@ fn secrets_have_no_equality() {
     <BlockKey as Without<_>>::answer();
     <Pin as Without<_>>::answer();
     <Terminal as Without<_>>::answer();
+    <Stream as Without<_>>::answer();
+    <Ctr<Des> as Without<_>>::answer();
+    <Ofb<Des> as Without<_>>::answer();
+    <Cfb<Des> as Without<_>>::answer();
 }
 
 /// The Rust files below a folder of the crate.
@@ -245,7 +265,7 @@ fn enums_may_grow() {
 /// Those that no known call has, or has in words that other errors have too.
 #[test]
 fn errors_are_sentences() {
-    let errors: [(&(dyn Error + Send + Sync), &str); 18] = [
+    let errors: [(&(dyn Error + Send + Sync), &str); 20] = [
         (&InvalidLength, "the key does not have a length that the call takes"),
         (&DataError::NotBlocks, "the data are not whole blocks of 8 bytes"),
         (&DataError::LengthsDiffer, "input and output differ in length"),
@@ -264,6 +284,8 @@ fn errors_are_sentences() {
         (&DeriveError::KeyLength, "the key is longer than 2^32 - 1 digests"),
         (&OpenError::NotBlocks, "what is encrypted is not whole blocks of 8 bytes"),
         (&OpenError::NoRoom, "there is no room for what is opened"),
+        (&BitsError::TooFew, "the data do not have so many bits"),
+        (&BitsError::Segment, "the stream does not have segments of 1 bit"),
     ];
     for (error, sentence) in errors {
         assert_eq!(error.to_string(), sentence);
