@@ -70,9 +70,22 @@ def mac_of(kind, arguments, pieces, length):
     return [tag, accepts(mac.verify, tag[:length]), accepts(mac.verify_truncated_left, tag[:length]), accepts(mac.verify, other)]
 
 
+def stream_of(kind, cipher, named, calls):
+    """What the calls of a stream answer; of one that is refused the name of its error."""
+    stream, answers = kind(cipher, **named), []
+    for call, *arguments in calls:
+        try:
+            answers.append(getattr(stream, snake(call))(*arguments))
+        except cukvashe_des.Error as error:
+            answers.append(type(error).__name__[: -len("Error")])
+    return answers
+
+
 def answer_of(name, *words):
     arguments = [given(word) for word in words]
     first, _, method = name.partition(".")
+    if first == "Stream":
+        return stream_of(getattr(cukvashe_des, method), *arguments)
     if method:
         call = getattr(getattr(cukvashe_des, first)(arguments.pop(0)), snake(method))
     elif first[0].isupper():

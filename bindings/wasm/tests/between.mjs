@@ -9,7 +9,7 @@ await library.load();
 // ---- Calls, each a function of all that it reads: of a class or an object before its arguments
 
 const isClass = (name) => /^[A-Z]/.test(name);
-const BASES = [library.Des, library.RetailMacDes, library.CmacTdesEde2].map(Object.getPrototypeOf);
+const BASES = [library.Des, library.RetailMacDes, library.CmacTdesEde2, library.Ctr].map(Object.getPrototypeOf);
 const CLASSES = [...BASES, library.DukptTerminal, library.DecimalTable];
 const made = (Class, ...words) => Reflect.construct(Object.getPrototypeOf(Class), words, Class);
 
@@ -22,9 +22,16 @@ function callOf([name, words]) {
 const cipher = () => new library.TdesEde3(KEY);
 const mac = () => new library.CmacTdesEde3(KEY, MESSAGE);
 const terminal = () => new library.DukptTerminal(PAIR, SERIAL);
+const cfb = (segmentSize) => new library.Cfb(cipher(), { iv: IV, segmentSize });
 const METHODS = [
   ...["encryptEcb", "decryptEcb"].map((name) => [name, cipher(), MESSAGE]),
   ...["encryptCbc", "decryptCbc"].map((name) => [name, cipher(), MESSAGE, { iv: IV }]),
+  ...["encryptCtr", "decryptCtr"].map((name) => [name, cipher(), MESSAGE, { counter: IV }]),
+  ...["encryptOfb", "decryptOfb"].map((name) => [name, cipher(), MESSAGE, { iv: IV }]),
+  ...["encryptCfb", "decryptCfb"].map((name) => [name, cipher(), MESSAGE, { iv: IV, segmentSize: 8 }]),
+  ...["encrypt", "decrypt"].map((name) => [name, cfb(64), MESSAGE]),
+  ...["encryptBits", "decryptBits"].map((name) => [name, cfb(1), MESSAGE, 5]),
+  ...[["copy", cfb(8)], ["seek", new library.Ctr(cipher(), { counter: IV }), 9]],
   ...[["update", mac(), MESSAGE], ["digest", mac()], ["digest", mac(), "hex"], ["copy", mac()]],
   ...[["verify", mac(), mac().digest()], ["verifyTruncatedLeft", mac(), mac().digest().subarray(0, 4)]],
   ...[["nextKey", terminal()], ["state", terminal()]],
@@ -145,6 +152,7 @@ function written(answer) {
   if (answer instanceof library.DukptTerminal) return hex(answer.state());
   if (answer?.encryptEcb !== undefined) return hex(answer.encryptEcb(IV));
   if (answer?.digest !== undefined) return hex(answer.digest());
+  if (answer?.decrypt !== undefined) return hex(answer.decrypt(MESSAGE));
   return answer;
 }
 

@@ -25,6 +25,8 @@ const isOptions = (it) => it === undefined || (Object.prototype.toString.call(it
 const others = () => [
   ...[["Des", [KEY.subarray(0, 8)]], ["TdesEde2", [PAIR]], ["TdesEde3", [KEY]], ["CmacTdesEde2", [PAIR, IV]], ["RetailMacDes", [PAIR, 2, IV]]],
   ...[["DukptTerminal", [PAIR, SERIAL]], ["DecimalTable", ["0123456789012345"]]],
+  ...[["Ctr", { counter: IV }], ["Ofb", { iv: IV }], ["Cfb", { iv: IV, segmentSize: 1 }]]
+    .map(([name, named]) => [name, [new library.TdesEde3(KEY), named]]),
   ...["encryptEach", "decryptEach"].map((name) => [name, [library.TdesEde3, KEY, IV]]),
   ["checkValues", [library.TdesEde3, KEY]],
   ...["encryptCbcRecords", "decryptCbcRecords"].map((name) => [name, [new library.TdesEde3(KEY), IV, { vectors: IV, counts: [1] }]]),
@@ -47,7 +49,9 @@ function allowed(name, word, at) {
 export function allCalls() {
   const calls = new Map(others());
   for (const { name, words, error } of knownCalls()) {
-    if (error === undefined && words.length > (calls.get(name)?.length ?? 0)) calls.set(name, words);
+    // Those of a cipher are calls of an object.
+    const isFunction = library[name] !== undefined;
+    if (isFunction && error === undefined && words.length > (calls.get(name)?.length ?? 0)) calls.set(name, words);
   }
   return [...calls].map(([name, words]) => [name, words, words.map((word, at) => allowed(name, word, at))]);
 }

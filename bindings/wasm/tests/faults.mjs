@@ -151,6 +151,74 @@ for (const [Cipher, size] of CIPHERS) {
   }
 }
 
+// ---- Modes without padding: what stands before the rest, and how it is called, by name alone
+
+const WITH_SEGMENT = "{ iv, segmentSize }), with the bits of a segment (by CFB alone PyCryptodome means 8, node:crypto 64)";
+const IN_MODES = [
+  ["Ctr", { counter: IV }, "{ counter })", "a counter block"], ["Ofb", { iv: IV }, "{ iv })", "an initialization vector"],
+  ["Cfb", { iv: IV, segmentSize: 64 }, WITH_SEGMENT, "an initialization vector"],
+];
+for (const [Cipher, size] of CIPHERS) {
+  const cipher = new Cipher(KEY.subarray(0, size));
+  for (const [mode, named, form, what] of IN_MODES) {
+    const vector = mode === "Ctr" ? "counter" : "iv";
+    const calls = ["encrypt", "decrypt"].map((way) => [`${way}${mode}`, (...words) => cipher[`${way}${mode}`](...words)]);
+    for (const [name, call] of calls) {
+      is(call(new Uint8Array(), named), "");
+      const wrong = [[IV, of(8)], [of(8), IV], [IV], [named], [], [of(8), {}], [of(8), { ...named, [vector]: undefined }]];
+      wrong.push([of(8), { ...named, padding: "pkcs7" }], [of(8), named, undefined], [of(8), { ...named, segment_size: 8 }]);
+      if (mode === "Cfb") wrong.push([of(8), { iv: IV }], [of(8), { iv: IV, segmentSize: undefined }]);
+      for (const words of wrong) saysHow(() => call(...words), `${name}(data, ${form}`);
+      throwsType(() => call(named, named), "options for data");
+    }
+    const begin = (words) => new library[mode](cipher, ...words);
+    for (const words of [[], [IV], [{}], [named, undefined], [{ ...named, padding: 1 }], [{ ...named, [vector]: undefined }]]) {
+      const message = `write new ${mode}(cipher, ${form}: the cipher comes first, the rest by name, and nothing else`;
+      assert.throws(() => begin(words), { name: "TypeError", message });
+    }
+    for (const wrong of [undefined, null, KEY, Cipher, new library.CmacTdesEde3(KEY), new library.Ofb(cipher, { iv: IV })]) {
+      throwsType(() => new library[mode](wrong, named), "a stream of what is no cipher");
+    }
+    for (const [name, call] of [...calls.map(([name, call]) => [name, (words) => call(of(8), words)]), ["new", (words) => begin([words])]]) {
+      for (const length of LENGTHS.filter((it) => it !== 8)) {
+        throwsFault(() => call({ ...named, [vector]: of(length) }), "VectorLength", `${what} has 8 bytes, not ${length}`);
+      }
+      for (const wrong of [null, "1234567890abcdef", [...IV], IV.buffer]) throwsType(() => call({ ...named, [vector]: wrong }), name);
+      for (const segmentSize of mode === "Cfb" ? [0, 2, 7, 9, 63, 65, 72, 128, -8, 8.5, NaN, Infinity, 2 ** 32 + 8] : []) {
+        const text = "a segment has 1 bit, or 8, 16, 24, 32, 40, 48, 56 or 64";
+        throwsFault(() => call({ ...named, segmentSize }), "SegmentSize", text);
+      }
+      for (const segmentSize of mode === "Cfb" ? [null, "8", 8n, true] : []) throwsType(() => call({ ...named, segmentSize }), name);
+    }
+    // It ends with its cipher, or by itself; the cipher stays.
+    for (const closesCipher of [false, true]) {
+      const [held, bits] = [new Cipher(KEY.subarray(0, size)), { iv: IV, segmentSize: 1 }];
+      const stream = mode === "Cfb" ? new library.Cfb(held, bits) : new library[mode](held, named);
+      throwsType(() => stream.encrypt(), "no data");
+      throwsType(() => stream.encrypt("text"), "a text");
+      throwsType(() => stream.decrypt(IV, IV), "two pieces at once");
+      throwsType(() => stream.copy(1), "a copy of something");
+      (closesCipher ? held : stream).close();
+      const closed = [["encrypt", IV], ["decrypt", IV], ...(mode === "Ctr" ? [["seek", 3]] : mode === "Cfb" ? [["encryptBits", IV, 3]] : [])];
+      for (const [call, ...words] of closed) throwsFault(() => stream[call](...words), "Closed", "the object was closed");
+      if (closesCipher) throwsFault(() => new library[mode](held, named), "Closed", "the object was closed");
+      else held.encryptEcb(IV);
+    }
+  }
+  for (const wrong of [undefined, null, "3", true, IV]) {
+    throwsType(() => new library.Ctr(cipher, { counter: IV }).seek(wrong), "a position");
+    throwsType(() => new library.Cfb(cipher, { iv: IV, segmentSize: 1 }).encryptBits(IV, wrong), "a number of bits");
+  }
+  for (const bits of [-1, 0.5, NaN, 65, 2 ** 32, 2 ** 64]) {
+    const stream = new library.Cfb(cipher, { iv: IV, segmentSize: 1 });
+    throwsFault(() => stream.decryptBits(IV, bits), "DataLength", "8 bytes do not have so many bits");
+  }
+  for (const segmentSize of [8, 64]) {
+    const stream = new library.Cfb(cipher, { iv: IV, segmentSize });
+    throwsFault(() => stream.encryptBits(IV, 3), "SegmentSize", "bits are taken with segments of 1 bit alone");
+  }
+}
+
 for (const [Mac, size] of [...PADDED, ...CMACS]) {
   const padding = PADDED.some(([it]) => it === Mac) ? [2] : [];
   assert.deepEqual([Mac.keySize, Mac.digestSize], [size, 8]);
@@ -527,8 +595,12 @@ function takesNoMore(name, run, words) {
 const chainOf = (object, end) => (object === end ? [] : [object, ...chainOf(Object.getPrototypeOf(object), end)]);
 const methodsOf = (object) => Reflect.ownKeys(object).filter((it) => it !== "constructor" && typeof object[it] === "function");
 const METHODS = {
-  ...Object.fromEntries(["encryptEcb", "decryptEcb", "update"].map((name) => [name, () => [IV]])),
-  ...Object.fromEntries(CBC.map((name) => [name, () => [IV, { iv: IV }]])),
+  ...Object.fromEntries(["encryptEcb", "decryptEcb", "update", "encrypt", "decrypt"].map((name) => [name, () => [IV]])),
+  ...Object.fromEntries([...CBC, "encryptOfb", "decryptOfb"].map((name) => [name, () => [IV, { iv: IV }]])),
+  ...Object.fromEntries(["encryptCtr", "decryptCtr"].map((name) => [name, () => [IV, { counter: IV }]])),
+  ...Object.fromEntries(["encryptCfb", "decryptCfb"].map((name) => [name, () => [IV, { iv: IV, segmentSize: 8 }]])),
+  ...Object.fromEntries(["encryptBits", "decryptBits"].map((name) => [name, () => [IV, 5]])),
+  seek: () => [9],
   ...Object.fromEntries(["copy", "nextKey", "state", "close"].map((name) => [name, () => []])),
   digest: () => ["hex"],
   verify: (it) => [it.digest()],

@@ -75,6 +75,31 @@ function cbc() {
   return [`${name}.${one(["encryptCbc", "decryptCbc"])}`, key(size), blocks(), { iv: vector() }];
 }
 
+const segment = () => often(() => one([1, 8, 16, 24, 32, 40, 48, 56, 64]), () => random(70));
+const MODES = {
+  Ctr: () => ({ counter: vector() }),
+  Ofb: () => ({ iv: vector() }),
+  Cfb: () => ({ iv: vector(), segmentSize: segment() }),
+};
+
+function inMode() {
+  const [name, size] = entry(CIPHERS);
+  const [mode, named] = entry(MODES);
+  return [`${name}.${one(["encrypt", "decrypt"])}${mode}`, key(size), message(), named()];
+}
+
+// The cipher, what its stream takes by name, and calls of the stream, one after the other.
+function stream() {
+  const [name, size] = entry(CIPHERS);
+  const [mode, named] = entry(MODES);
+  const calls = () => {
+    if (mode === "Ctr" && random(3) === 0) return ["seek", often(() => random(1000), () => -1)];
+    if (mode === "Cfb" && random(4) === 0) return [one(["encryptBits", "decryptBits"]), bytes(random(9)), random(66)];
+    return [one(["encrypt", "decrypt"]), message()];
+  };
+  return [`Stream.${mode}`, { cipher: [name, bytes(size)] }, named(), times(random(5), calls)];
+}
+
 // The arguments of the constructor, the pieces of a message, and how much of the tag is verified.
 function paddedMac() {
   const [name, size] = entry(PADDED);
@@ -276,6 +301,7 @@ const KINDS = [
   () => ["emvApplicationCryptogram", key(16), message()],
   () => ["emvResponse1", key(16), vector(), often(() => bytes(2), () => bytes(random(5)))],
   () => ["emvResponse2", key(16), vector(), often(() => bytes(4), () => bytes(random(7))), bytes(random(10))],
+  ...[inMode, stream],
   ...[ecb, cbc, paddedMac, cmac, unpad, equalButParity, checkValue, combine, pinDecode],
   ...[each, checkValues, records, macs, wrongTags],
   () => ["pad", message(), method()],
@@ -318,8 +344,22 @@ function macOf(name, words, pieces, length) {
   return [tag, accepts("verify", cut), accepts("verifyTruncatedLeft", cut), accepts("verify", tag.map((byte) => byte ^ 1))];
 }
 
+/** What the calls of a stream answer: a call that is refused changes nothing, and others go on. */
+function streamOf(mode, cipher, named, calls) {
+  const made = new library[mode](given(cipher), named);
+  return calls.map(([call, ...words]) => {
+    try {
+      return made[call](...words) ?? null;
+    } catch (error) {
+      if (!(error instanceof library.CukvasheError)) throw error;
+      return error.name;
+    }
+  });
+}
+
 function answerOf([name, ...words]) {
   if (name in PADDED || name in CMACS) return macOf(name, ...words);
+  if (name.startsWith("Stream.")) return streamOf(name.split(".")[1], ...words);
   const [first, call] = name.split(".");
   if (call === undefined) return library[first](...words.map(given));
   const [held, ...others] = words;
@@ -353,6 +393,7 @@ function isNamed(error, name) {
 /** The names whose comments speak of a call: of a method, or of a constructor, the class behind too. */
 function spokenOf(call) {
   const [first, method] = call.split(".");
+  if (first === "Stream") return [method];
   return /^[A-Z]/.test(first) ? [method, Object.getPrototypeOf(library[first]).name] : [first];
 }
 

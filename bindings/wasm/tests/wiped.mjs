@@ -80,6 +80,25 @@ for (const [Class, digits, ...words] of MADE) {
   assert.deepEqual(holding(context), [], `a context of ${Class.name} is left after close`);
 }
 
+// ---- A stream has an output block, which shows the text that it encrypts: nothing of it is left either
+
+{
+  const cipher = new library.TdesEde3(unhex(KEY));
+  const iv = unhex("1234567890abcdef");
+  const block = cipher.encryptEcb(iv);
+  const output = hex(block);
+  block.fill(0);
+  const stream = new library.Cfb(cipher, { iv, segmentSize: 64 });
+  stream.encrypt(unhex("616263"));
+  assert.equal(holding(output).length, 1, "where the stream is");
+  const copy = stream.copy();
+  stream.close();
+  assert.equal(holding(output).length, 1, "close of a stream does not wipe");
+  copy.close();
+  assert.deepEqual(holding(output), [], "a state of a stream is left after close");
+  cipher.close();
+}
+
 // ---- What calls answer in digits, or write on the way to their answer: no copy of it is left
 
 /** The arrays that a run makes by copying. */
