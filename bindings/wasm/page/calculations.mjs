@@ -1,7 +1,7 @@
 // The table of calculations. The page has what stands here, in this order, and nothing that depends on which they are.
 import * as library from "../cukvashe_des.mjs";
 import { FieldFault, anyBytes, bytes, decimal, digitsOf, lines, tenDigits, utf8, wholeBlocks } from "./fields.mjs";
-import { keyBlock, optionalBlocks, shortCode } from "./fields.mjs";
+import { keyBlock, optionalBlocks, shortCode, someBytes } from "./fields.mjs";
 
 const CIPHERS = { 8: library.Des, 16: library.TdesEde2, 24: library.TdesEde3 };
 const CIPHER_NAMES = { 8: "DES", 16: "triple DES (EDE) with two keys", 24: "triple DES (EDE) with three keys" };
@@ -715,11 +715,23 @@ export const calculations = [
   },
   {
     id: "blocks",
-    title: "Encrypt or decrypt blocks",
-    note: "Whole blocks, with no padding. The length of the key chooses the cipher.",
+    title: "Encrypt or decrypt",
+    note: "With no padding: ECB and CBC take whole blocks. The length of the key chooses the cipher.",
     fields: [
       { name: "way", label: "Direction", options: [["encrypt", "Encrypt"], ["decrypt", "Decrypt"]] },
-      { name: "mode", label: "Mode", options: [["ecb", "ECB: each block by itself"], ["cbc", "CBC: chained"]] },
+      {
+        name: "mode",
+        label: "Mode",
+        options: [
+          ["ecb", "ECB: each block by itself"],
+          ["cbc", "CBC: chained"],
+          ["ctr", "CTR: a counter of 64 bits"],
+          ["ofb", "OFB: output feedback"],
+          ["cfb64", "CFB with 64 bits, as in OpenSSL"],
+          ["cfb8", "CFB with 8 bits, as in PyCryptodome"],
+          ["cfb1", "CFB with 1 bit"],
+        ],
+      },
       {
         name: "key",
         label: "Key",
@@ -730,11 +742,17 @@ export const calculations = [
         name: "iv",
         label: "Initialization vector",
         short: "IV",
-        hint: "16 hexadecimal digits.",
+        hint: "16 hexadecimal digits; of CTR the first counter block.",
         read: bytes(8),
-        shown: ({ mode }) => mode === "cbc",
+        shown: ({ mode }) => mode !== "ecb",
       },
-      { name: "data", label: "Blocks", hint: "Hexadecimal digits, 16 a block.", isLong: true, read: wholeBlocks },
+      {
+        name: "data",
+        label: "Data",
+        hint: "Hexadecimal digits, of ECB and CBC 16 a block.",
+        isLong: true,
+        read: (text, { mode }) => (mode === "ecb" || mode === "cbc" ? wholeBlocks(text) : someBytes(text)),
+      },
     ],
     example: {
       way: "encrypt",
@@ -746,13 +764,17 @@ export const calculations = [
     // NIST SP 800-67, appendix B.
     known: { Ciphertext: "A826FD8CE53B855FCCE21C8112256FE668D5C05DD9B6B900" },
     compute({ way, mode, key, iv, data }) {
-      const cipher = cipherOf(key);
-      const calls = {
-        encrypt: { ecb: () => cipher.encryptEcb(data), cbc: () => cipher.encryptCbc(data, { iv }) },
-        decrypt: { ecb: () => cipher.decryptEcb(data), cbc: () => cipher.decryptCbc(data, { iv }) },
-      };
+      const [call, ...named] = {
+        ecb: ["Ecb"],
+        cbc: ["Cbc", { iv }],
+        ctr: ["Ctr", { counter: iv }],
+        ofb: ["Ofb", { iv }],
+        cfb64: ["Cfb", { iv, segmentSize: 64 }],
+        cfb8: ["Cfb", { iv, segmentSize: 8 }],
+        cfb1: ["Cfb", { iv, segmentSize: 1 }],
+      }[mode];
       const label = way === "encrypt" ? "Ciphertext" : "Plaintext";
-      return [value(label, calls[way][mode]()), remark("Cipher", CIPHER_NAMES[key.length])];
+      return [value(label, cipherOf(key)[`${way}${call}`](data, ...named)), remark("Cipher", CIPHER_NAMES[key.length])];
     },
   },
 ];

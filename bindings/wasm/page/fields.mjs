@@ -67,6 +67,9 @@ export function anyBytes(text) {
   throw new Refused(`An even number of hexadecimal digits is needed, and here are ${digits.length}.`);
 }
 
+/** Reads bytes, of which there is one at least. */
+export const someBytes = (text) => anyBytes(filled(text));
+
 /** Reads blocks of eight bytes. */
 export function wholeBlocks(text) {
   const digits = hexadecimal(filled(text));

@@ -356,6 +356,13 @@ def known_answers(browser):
         is_answer(browser, "blocks", {"Plaintext": plain.upper()}, way="decrypt", data=cipher)
         compared += 1
     same(compared >= 40, True, f"{compared} known answers")
+    # As in bindings/known_calls.txt.
+    triple, text = "0123456789abcdef23456789abcdef01456789abcdef0123", b"Now is the time for all ".hex().upper()
+    for mode, cipher in (("ctr", "EE7EC75C1A101301E26ACE7F785967472F3AFE4F43D328"), ("ofb", "EE7EC75C1A1013019A8A610002668E0787E28AF9EC26B8"),
+                         ("cfb64", "EE7EC75C1A101301C4AB2F10462E5DD417400B445B5F2A"), ("cfb8", "EE9B04FFCACEC80670606800FA2EE5DF5045492D0C3C04"),
+                         ("cfb1", "D9E64B67304F5FCDBB2F73BCC5C8BE7CEFEB7E240C25D5")):
+        is_answer(browser, "blocks", {"Ciphertext": cipher}, way="encrypt", mode=mode, key=triple, iv="1234567890abcdef", data=text[:46])
+        is_answer(browser, "blocks", {"Plaintext": text[:46]}, way="decrypt", data=cipher)
 
 
 EMPTY = "Fill in this field."
@@ -487,7 +494,10 @@ def each_fault(browser):
     choose(browser, "blocks")
     refuses("blocks", {"key": EMPTY, "data": EMPTY})
     refuses("blocks", {"data": "Whole blocks of 16"}, key=BASE, data="0123456789")
-    refuses("blocks", {"iv": EMPTY}, mode="cbc", data="0123456789abcdef")
+    refuses("blocks", {"iv": EMPTY}, mode="ctr", data="01")
+    refuses("blocks", {"data": "An even number"}, iv="0123456789abcdef", data="012")
+    refuses("blocks", {"data": EMPTY}, data=" ")
+    refuses("blocks", {"iv": EMPTY}, mode="cbc", iv="", data="0123456789abcdef")
     # What was wrong is forgotten at the next key.
     browser.run("document.getElementById('blocks-iv').focus()")
     browser.press("1")
