@@ -18,8 +18,9 @@ RENAMED = {
     "is_weak_key": "weak_key_test", "key_block_optional_blocks": "key_block_optional_block", "unwrap_key_block": "key_block_unwrap",
     "wrap_key_block": "key_block_wrap",
 }  # fmt: skip
+CIPHERS = ("Des.", "TdesEde2.", "TdesEde3.")
 OF_CLASSES = ("check_value", "check_values", "decrypt_each", "encrypt_each", "macs", "macs_each", "open_salted")
-# Calls that the header does not have, that change what they are given, and lists, whose count no known call says.
+# Calls that the header does not have, that change what they are given, as those of a cipher do, and lists, whose count no known call says.
 OTHERS = ("DukptTerminal.from_state", "dukpt_transaction_keys_from_base", "pad", "unpad", "with_odd_parity", "wrong_tags")
 LISTS = ("check_values", "decrypt_each", "encrypt_each", "macs", "macs_each")
 # The arguments that are given in places, where that is another order than the header's, or some have fields or go by name.
@@ -133,7 +134,7 @@ def optional_of(blocks):
 
 def of_header(it):
     """The calls of the header that a known call is: one, or of a list of optional blocks one for each, and one more."""
-    if it.name in OTHERS + LISTS:
+    if it.name in OTHERS + LISTS or it.name.startswith(CIPHERS):
         return
     first, name = it.words[0] if it.words else None, RENAMED.get(it.name, it.name)
     if it.name in OF_CLASSES and isinstance(first, tuple):

@@ -26,6 +26,11 @@ def each_of(words):
     return [("x5a*" if words[0] == "bytes" else '"1"*') + str(length) for length in LENGTHS if not any(length in these for these in but)]
 
 
+def of_a_cipher(kind, name):
+    """The call of a cipher, whose key is its first argument here."""
+    return lambda key, *arguments, **named: getattr(kind(key), name)(*arguments, **named)
+
+
 class KnownCalls(unittest.TestCase):
     def setUp(self):
         self.names, self.made = {"right": None}, 0
@@ -49,7 +54,7 @@ class KnownCalls(unittest.TestCase):
         name, *words = WORDS.findall(line)
         call, places, named = cukvashe_des, [], {}
         for part in name.split("."):
-            call = getattr(call, part)
+            call = of_a_cipher(call, part) if isinstance(call, type) and issubclass(call, cukvashe_des.Cipher) else getattr(call, part)
         for word in words:
             by_name, _, value = word.partition("=")
             if re.fullmatch("[a-z_]+", by_name) and value:

@@ -72,9 +72,10 @@ export function* knownCalls() {
   }
 }
 
-/** Makes a call, of a function, a constructor or a method of a class. */
+/** Makes a call, of a function, a constructor, a method of a class, or of a cipher whose key is the first word. */
 export function run(name, words) {
   const [first, method] = name.split(".");
+  if (method in library.Des.prototype) return new library[first](words[0])[method](...words.slice(1));
   if (method !== undefined) return library[first][method](...words);
   return /^[A-Z]/.test(first) ? new library[first](...words) : library[first](...words);
 }

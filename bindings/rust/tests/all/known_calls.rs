@@ -4,7 +4,9 @@ use crate::common::{bytes_of, known_calls};
 use cukvashe_des::padding::{pad, unpad, Method};
 use cukvashe_des::passwords::Derivation;
 use cukvashe_des::payment::*;
-use cukvashe_des::{equal_but_parity, weak_key_test, with_odd_parity, Des, KeyTestError, TdesEde2, TdesEde3};
+use cukvashe_des::stream::{Mode, Segment};
+use cukvashe_des::{equal_but_parity, weak_key_test, with_odd_parity};
+use cukvashe_des::{Block, BlockCipher, Cipher, Des, KeyTestError, TdesEde2, TdesEde3};
 use std::collections::HashMap;
 use std::error::Error;
 
@@ -377,9 +379,37 @@ fn made(name: &str, given: &Given) -> Option<Made> {
             return None
         }
         "encrypt_each" | "decrypt_each" => return None,
+        _ if name.contains("crypt_") => of_a_cipher(name, given)?,
         _ if name.contains("Des") || name.contains("Tdes") => return None,
         _ => panic!("{name}"),
     })
+}
+
+/// What a call of a cipher makes, whose key comes first.
+fn of_a_cipher(name: &str, given: &Given) -> Option<Made> {
+    let cipher = Cipher::new_from_slice(given.last(0)).unwrap();
+    let mut data = given.last(1).to_vec();
+    let iv: &Block = given.named("iv").or_else(|| given.named("counter"))?;
+    let mode = match (name.rsplit_once('_')?.1, given.named::<u32>("segment_size")) {
+        ("ctr", None) => Mode::Ctr,
+        ("ofb", None) => Mode::Ofb,
+        ("cfb", Some(1)) => Mode::Cfb(Segment::Bits1),
+        ("cfb", Some(8)) => Mode::Cfb(Segment::Bits8),
+        ("cfb", Some(16)) => Mode::Cfb(Segment::Bits16),
+        ("cfb", Some(24)) => Mode::Cfb(Segment::Bits24),
+        ("cfb", Some(32)) => Mode::Cfb(Segment::Bits32),
+        ("cfb", Some(40)) => Mode::Cfb(Segment::Bits40),
+        ("cfb", Some(48)) => Mode::Cfb(Segment::Bits48),
+        ("cfb", Some(56)) => Mode::Cfb(Segment::Bits56),
+        ("cfb", Some(64)) => Mode::Cfb(Segment::Bits64),
+        _ => return None,
+    };
+    if name.contains("encrypt") {
+        cipher.encrypt_mode(mode, iv, &mut data);
+    } else {
+        cipher.decrypt_mode(mode, iv, &mut data);
+    }
+    Some(data.made())
 }
 
 /// What is written into a buffer that is longer, or long enough, of which nothing else is; of a short one no error is expected.
