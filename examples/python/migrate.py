@@ -26,6 +26,11 @@ def pycryptodome() -> None:
     cbc = DES3.new(key, DES3.MODE_CBC, iv=iv)
     assert Padding.unpad(cbc.decrypt(sealed), 8) == unpad(TdesEde3(key).decrypt_cbc(sealed, iv=iv), "pkcs7")
     assert DES3.new(key, DES3.MODE_ECB).encrypt(text) == TdesEde3(key).encrypt_ecb(text)
+    # Its CFB has segments of 8 bits, if it is not told another number.
+    cfb = DES3.new(key, DES3.MODE_CFB, iv=iv)
+    assert cfb.encrypt(text) == TdesEde3(key).encrypt_cfb(text, iv=iv, segment_size=8)
+    ctr = DES3.new(key, DES3.MODE_CTR, nonce=b"", initial_value=iv)
+    assert ctr.encrypt(text) == TdesEde3(key).encrypt_ctr(text, counter=iv)
     # A key of two parts: there its length decides, here the class.
     assert DES3.new(pair, DES3.MODE_ECB).encrypt(text) == TdesEde2(pair).encrypt_ecb(text)
     assert CMAC.new(key, text, ciphermod=DES3).digest() == CmacTdesEde3(key, text).digest()
@@ -50,6 +55,9 @@ def cryptography() -> None:
     theirs = unpadder.update(cbc.update(sealed) + cbc.finalize()) + unpadder.finalize()
     assert theirs == unpad(TdesEde3(key).decrypt_cbc(sealed, iv=iv), "pkcs7")
     assert Cipher(TripleDES(key), modes.ECB()).encryptor().update(text) == TdesEde3(key).encrypt_ecb(text)
+    # Its CFB has segments of 64 bits.
+    cfb = Cipher(TripleDES(key), modes.CFB(iv)).encryptor()
+    assert cfb.update(text) + cfb.finalize() == TdesEde3(key).encrypt_cfb(text, iv=iv, segment_size=64)
     # A key of two parts: there the first part stands once more at its end, here the class decides.
     assert Cipher(TripleDES(pair + pair[:8]), modes.ECB()).encryptor().update(text) == TdesEde2(pair).encrypt_ecb(text)
     mac = cmac.CMAC(TripleDES(key))
