@@ -25,7 +25,7 @@ OTHERS = ("DukptTerminal.from_state", "dukpt_transaction_keys_from_base", "pad",
 LISTS = ("check_values", "decrypt_each", "encrypt_each", "macs", "macs_each")
 # The arguments that are given in places, where that is another order than the header's, or some have fields or go by name.
 IN_PLACES = {
-    "key_block_wrap": ["protection", "header", "key"], "open_salted": ["password", "bytes"],
+    "cms_wrap_key": ["protection", "key"], "key_block_wrap": ["protection", "header", "key"], "open_salted": ["password", "bytes"],
     "pbkdf2": ["hash", "password", "salt", "iterations", "key_length"], "pin_translate_to_0": ["incoming_format", "account", "block"],
     "pin_translate_to_1": ["block"], "pin_translate_to_3": ["incoming_format", "account", "fill", "block"],
 }  # fmt: skip

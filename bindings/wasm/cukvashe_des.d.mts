@@ -589,6 +589,26 @@ export function keyBlockHeader(block: string | Uint8Array): KeyBlockHeader;
 /** The optional blocks of a key block, read with no key. Nothing is authenticated. Errors as of keyBlockHeader. */
 export function keyBlockOptionalBlocks(block: string | Uint8Array): [name: string, content: string][];
 
+// ---- Key wraps: the key wrap of CMS (RFC 3217), and TKW (NIST SP 800-38F). Protection keys (KEK) have 16 or 24 bytes
+
+/**
+ * A key of 8 bytes or a multiple, wrapped by the key wrap of CMS, which makes it 16 bytes longer. The initialization
+ * vector is random, or the one that is given. VectorLength, ProtectionKeyLength, BlockLength.
+ */
+export function cmsWrapKey(protection: Uint8Array, key: Uint8Array, options?: { iv?: Uint8Array }): Uint8Array;
+/**
+ * The key that the key wrap of CMS wrapped. Its parity is not tested. ProtectionKeyLength, WrappedLength; WrappedKey if
+ * it was changed, or is under another key.
+ */
+export function cmsUnwrapKey(protection: Uint8Array, wrapped: Uint8Array): Uint8Array;
+/**
+ * A key of 8 bytes or more, a multiple of 4, wrapped by TKW, which makes it 4 bytes longer. ProtectionKeyLength,
+ * WrappedLength.
+ */
+export function tkwWrapKey(protection: Uint8Array, key: Uint8Array): Uint8Array;
+/** The key that TKW wrapped. ProtectionKeyLength, WrappedLength; WrappedKey if it was changed, or is under another key. */
+export function tkwUnwrapKey(protection: Uint8Array, wrapped: Uint8Array): Uint8Array;
+
 // ---- Keys from passwords, and what `openssl enc` encrypted under them. Passwords are bytes
 
 /**

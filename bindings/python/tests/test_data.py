@@ -569,6 +569,9 @@ class Wiped(WatchesWiping):
             sizes.update({"natural_pin": [13, 16], "pin_offset": [4, 13, 16], "pin_offset_verify": [4, 4, 16]})
             sizes.update({"emv_card_key": [2, 16, 16, 17], "emv_card_key_b": [2, 16, 16, 17], "emv_session_key": [16, 16], "emv_application_key": [16, 16]})
             sizes.update({"unwrap_key_block": [16, 24], "wrap_with_padding": [16, 16]})
+            # what is wrapped or unwrapped, the protection key, and room for the other
+            sizes.update({"wrap_from_vector": [24, 24, 40], "cms_unwrap_key": [24, 24, 40]})
+            sizes.update({"tkw_wrap_key": [8, 12, 24], "tkw_unwrap_key": [8, 12, 24]})
             sizes.update({"pbkdf2": [24, 24], "bytes_to_key": [24, 24], "opens": [6, 56]})
             if name == "combine":  # the two components, a copy of the third, all others, and the key
                 sizes[name] = [24] * 5

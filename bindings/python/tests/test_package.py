@@ -66,9 +66,9 @@ class Package(unittest.TestCase):
                 self.assertTrue(value.__doc__)
 
     def test_errors(self):
-        """Each ends in Error, and is an Error of the package. Those that say that a tag, a PIN or a key block is not the right one are a
+        """Each ends in Error, and is an Error of the package. Those that say that a tag, a PIN or a key is not the right one are a
         VerificationError and no ValueError, and all others a ValueError, as far as bases go."""
-        verified = {cukvashe_des.TagMismatchError, cukvashe_des.WrongPinError, cukvashe_des.KeyBlockMacError}
+        verified = {cukvashe_des.TagMismatchError, cukvashe_des.WrongPinError, cukvashe_des.KeyBlockMacError, cukvashe_des.WrappedKeyError}
         self.assertLess(verified, set(faults_of_package()))
         self.assertEqual(cukvashe_des.Error.__bases__, (Exception,))
         self.assertEqual(cukvashe_des.VerificationError.__bases__, (cukvashe_des.Error,))

@@ -44,6 +44,14 @@ BLOCK = b"B0080P0TE00E000094B420079CC80BA3461F86FE26EFC4A3B8E4FA4C5F5341176EED7B
 BLOCK_HEADER = cukvashe_des.KeyBlockHeader("B", "P0", "T", "E", "00", "E")
 BLOCK_KEY = bytes.fromhex("3f419e1cb7079442aa37474c2efbf8b8")
 
+# The example of RFC 3217, whose wrapped key has the vector within; and a value of NIST's validation program for TKW.
+CMS_KEK = bytes.fromhex("255e0d1c07b646dfb3134cc843ba8aa71f025b7c0838251f")
+CMS_KEY = bytes.fromhex("2923bf85e06dd6ae529149f1f1bae9eab3a7da3d860d3e98")
+CMS_IV = bytes.fromhex("5dd4cbfc96f5453b")
+CMS_WRAPPED = bytes.fromhex("690107618ef092b3b48ca1796b234ae9fa33ebb4159604037db5d6a84eb3aac2768c632775a467d4")
+TKW_KEK = bytes.fromhex("12b84c663120c196f8fc17428bc86a110d92cc7c4d3cb695")
+TKW_KEY, TKW_WRAPPED = bytes.fromhex("ef7da3da918d0679"), bytes.fromhex("7a72bbca3aa323aa1ac231ba")
+
 # `openssl enc -des3 -md sha256 -pass pass:secret`, of OpenSSL 3.0, and what it encrypted.
 SALTED = bytes.fromhex("53616c7465645f5fe927a7d874ff28cd93ad37243eb1e04e969de009cb5daeb794437e9ef739ae56dc0b84dd9380ace766ec9187d68c226b")
 SALTED_TEXT = b"Now is the time for all good men"
@@ -111,6 +119,13 @@ def wrap_with_padding(protection, key, padding):
     if padding is None:
         raise TypeError("the padding is random")
     return cukvashe_des.wrap_key_block(protection, BLOCK_HEADER, key, padding=padding)
+
+
+def wrap_from_vector(protection, key, iv):
+    """The call that wraps a key, with the vector in the place that the tests of all calls give it, and not random."""
+    if iv is None:
+        raise TypeError("the vector is random")
+    return cukvashe_des.cms_wrap_key(protection, key, iv=iv)
 
 
 def to_format_0(incoming, number, outgoing, account, block):
@@ -202,6 +217,10 @@ FUNCTIONS = [
     (wrap_with_padding, (PROTECTION, BLOCK_KEY, bytes.fromhex("1c2965473ce2"))),
     (cukvashe_des.key_block_header, (BLOCK,)),
     (cukvashe_des.key_block_context, (BLOCK,)),
+    (wrap_from_vector, (CMS_KEK, CMS_KEY, CMS_IV)),
+    (cukvashe_des.cms_unwrap_key, (CMS_KEK, CMS_WRAPPED)),
+    (cukvashe_des.tkw_wrap_key, (TKW_KEK, TKW_KEY)),
+    (cukvashe_des.tkw_unwrap_key, (TKW_KEK, TKW_WRAPPED)),
     (cukvashe_des.pbkdf2, ("sha1", MESSAGE, IV, 1, 24)),
     (cukvashe_des.bytes_to_key, ("md5", MESSAGE, IV, 24)),
     (opens, (b"secret", SALTED)),

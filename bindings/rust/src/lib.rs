@@ -6,6 +6,7 @@ mod cipher;
 mod each_key;
 mod error;
 mod ffi;
+pub mod key_wrap;
 pub mod mac;
 pub mod padding;
 pub mod passwords;

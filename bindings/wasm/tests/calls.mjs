@@ -41,6 +41,7 @@ function allowed(name, word, at) {
   if (typeof word === "boolean") return (it) => it === undefined || it === true;
   if (Array.isArray(word)) return isNumbers;
   if (["wrapKeyBlock", "openSalted"].includes(name) && at === 3) return isOptions;
+  if (name === "cmsWrapKey" && at === 2) return isOptions;
   const isOptional = /^[A-Z].*mac/i.test(name) && at > 0;
   return (it) => it === undefined && (isOptional || (name === "emvResponse2" && at === 3));
 }

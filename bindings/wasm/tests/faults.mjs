@@ -330,6 +330,12 @@ const OF_OPTIONS = [
     others: ["hash_name", "hashname", "hash", "md", "iteration", "iter"],
     text: 'options: the names are "hashName" and "iterations" alone',
   },
+  {
+    call: (options) => library.cmsWrapKey(KEY, PAIR, options),
+    right: { iv: IV },
+    others: ["IV", "vector", "nonce", "counter"],
+    text: 'options: the names are "iv" alone',
+  },
 ];
 assert.equal(declared.match(/\boptions\?: /g).length, OF_OPTIONS.length, "a call with options that is not tested");
 // Fields of a header too: an optional block there would be left out of the key block.

@@ -100,6 +100,21 @@ function stream() {
   return [`Stream.${mode}`, { cipher: [name, bytes(size)] }, named(), times(random(5), calls)];
 }
 
+function keyWrap() {
+  const protection = key(one([16, 24]));
+  const held = bytes(one([8, 8, 16, 24, 32, random(40)]));
+  const random_ = random(4);
+  if (random_ === 0) return ["cmsWrapKey", protection, held, { iv: vector() }];
+  if (random_ === 1) return ["tkwWrapKey", protection, held];
+  const [wrap, call] = random_ === 2
+    ? [() => library.cmsWrapKey(protection, held, { iv: bytes(8) }), "cmsUnwrapKey"]
+    : [() => library.tkwWrapKey(protection, held), "tkwUnwrapKey"];
+  const isRight = [16, 24].includes(protection.length) && held.length > 0 && held.length % 8 === 0;
+  const wrapped = isRight ? wrap() : bytes(random(60));
+  const changed = () => wrapped.map((byte, at) => (at === 3 ? byte ^ 1 : byte));
+  return [call, often(() => protection, () => key(24)), often(() => wrapped, changed)];
+}
+
 // The arguments of the constructor, the pieces of a message, and how much of the tag is verified.
 function paddedMac() {
   const [name, size] = entry(PADDED);
@@ -301,7 +316,7 @@ const KINDS = [
   () => ["emvApplicationCryptogram", key(16), message()],
   () => ["emvResponse1", key(16), vector(), often(() => bytes(2), () => bytes(random(5)))],
   () => ["emvResponse2", key(16), vector(), often(() => bytes(4), () => bytes(random(7))), bytes(random(10))],
-  ...[inMode, stream],
+  ...[inMode, stream, keyWrap],
   ...[ecb, cbc, paddedMac, cmac, unpad, equalButParity, checkValue, combine, pinDecode],
   ...[each, checkValues, records, macs, wrongTags],
   () => ["pad", message(), method()],

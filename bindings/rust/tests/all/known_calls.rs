@@ -1,6 +1,7 @@
 //! The calls of bindings/known_calls.txt, which says what its lines are, but for those that the types of the arguments leave no place for.
 
 use crate::common::{bytes_of, known_calls};
+use cukvashe_des::key_wrap::{cms_unwrap, cms_wrap, tkw_unwrap, tkw_wrap};
 use cukvashe_des::padding::{pad, unpad, Method};
 use cukvashe_des::passwords::Derivation;
 use cukvashe_des::payment::*;
@@ -373,6 +374,13 @@ fn made(name: &str, given: &Given) -> Option<Made> {
                 _ => TdesEde3::open_salted(derivation, given.last(1), given.last(2), plain),
             })?
         }
+        "cms_wrap_key" => {
+            let iv: &Block = given.named("iv")?;
+            written(200, |wrapped| cms_wrap(given.last(0), iv, given.last(1), wrapped))?
+        }
+        "cms_unwrap_key" => written(200, |key| cms_unwrap(given.last(0), given.last(1), key))?,
+        "tkw_wrap_key" => written(200, |wrapped| tkw_wrap(given.last(0), given.last(1), wrapped))?,
+        "tkw_unwrap_key" => written(200, |key| tkw_unwrap(given.last(0), given.last(1), key))?,
         "pad" => pad(&mut [given.last(0), &[0x77; 20]].concat(), given.last(0).len(), given.at(1)?).made(),
         "unpad" => unpad(given.at(0)?, given.at(1)?).made(),
         "DukptTerminal" | "DukptTerminal.from_state" | "macs" | "macs_each" | "check_values" | "wrong_tags" => {
@@ -459,7 +467,7 @@ fn wrapped(given: &Given) -> Option<Made> {
 }
 
 /// The beginnings of sentences that are others here, since the crate's errors are of fewer calls and tell no length.
-const OTHERS: [(&str, &[&str]); 8] = [
+const OTHERS: [(&str, &[&str]); 9] = [
     (
         "a key has ",
         &["the key does not have 8, 16 or 24 bytes", "a key does not have 8, 16 or 24 bytes", INVALID_LENGTH],
@@ -469,6 +477,7 @@ const OTHERS: [(&str, &[&str]); 8] = [
     ("the version of the key block", &["the version of the key block is not one that the call takes"]),
     ("the key does not have a length", &["the key does not have 8, 16 or 24 bytes"]),
     ("the number of iterations is not", &["the number of iterations is 0"]),
+    ("the length is not a multiple", &["the key does not have a length that is wrapped"]),
     ("the salt of bytes_to_key", &["the salt does not have 0 or 8 bytes"]),
     ("the bytes end within the salt", &["the bytes end within the salt"]),
 ];

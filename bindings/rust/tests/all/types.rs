@@ -1,6 +1,7 @@
 //! What the types are, beside what they answer: shared by threads, wiped, and shown by no text; errors that are sentences.
 
 use crate::common::*;
+use cukvashe_des::key_wrap::{UnwrapError, WrapError};
 use cukvashe_des::mac::*;
 use cukvashe_des::padding::{NoRoom, UnpadError};
 use cukvashe_des::passwords::{DeriveError, OpenError};
@@ -265,7 +266,7 @@ fn enums_may_grow() {
 /// Those that no known call has, or has in words that other errors have too.
 #[test]
 fn errors_are_sentences() {
-    let errors: [(&(dyn Error + Send + Sync), &str); 20] = [
+    let errors: [(&(dyn Error + Send + Sync), &str); 23] = [
         (&InvalidLength, "the key does not have a length that the call takes"),
         (&DataError::NotBlocks, "the data are not whole blocks of 8 bytes"),
         (&DataError::LengthsDiffer, "input and output differ in length"),
@@ -286,6 +287,9 @@ fn errors_are_sentences() {
         (&OpenError::NoRoom, "there is no room for what is opened"),
         (&BitsError::TooFew, "the data do not have so many bits"),
         (&BitsError::Segment, "the stream does not have segments of 1 bit"),
+        (&WrapError::KeyLength, "the key does not have a length that is wrapped"),
+        (&WrapError::NoRoom, "there is no room for the wrapped key"),
+        (&UnwrapError::NoRoom, "there is no room for the key"),
     ];
     for (error, sentence) in errors {
         assert_eq!(error.to_string(), sentence);
