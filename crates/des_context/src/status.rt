@@ -144,3 +144,9 @@ pub const ERR_MODE: i32 = 45;
 
 /// The stream is not one that was begun.
 pub const ERR_STREAM: i32 = 46;
+
+/// The wrapped key does not have a length that it can have.
+pub const ERR_WRAPPED_LENGTH: i32 = 47;
+
+/// The bytes are no key that was wrapped under the protection key.
+pub const ERR_WRAPPED_KEY: i32 = 48;
