@@ -25,6 +25,7 @@ NOTES = {
         "python": "To check one that a card sent call RetailMacDes(session, 2, data).verify(cryptogram), and do not compare by ==.",
         "javascript": "To check one that a card sent call new RetailMacDes(session, 2, data).verify(cryptogram).",
         "rust": "To check one that a card sent, call `verify` of [`RetailMacDes`](crate::mac::RetailMacDes), and do not compare by `==`.",
+        "java": "To check one that a card sent, compare them by MessageDigest.isEqual.",
     }
 }
 # The sizes of a key that goes with its length.

@@ -1,0 +1,28 @@
+package cukvashe.des;
+
+import javax.crypto.SecretKey;
+
+/** Card verification values. */
+public final class CardVerification {
+  private CardVerification() {}
+
+  // Calls like those of cukvashe_des.h: made of it by bindings/describe.
+
+  /**
+   * The card verification value, three ASCII digits, under a key pair of 16 bytes, of an account number of 12 to
+   * 19 digits, an expiry date of four, in the order that the issuer takes, and a service code of three.
+   *
+   * @throws CukvasheException {@link Status#KEY_LENGTH}, {@link Status#ACCOUNT_LENGTH},
+   *     {@link Status#ACCOUNT_DIGIT}, {@link Status#EXPIRY_LENGTH}, {@link Status#EXPIRY_DIGIT},
+   *     {@link Status#SERVICE_LENGTH}, {@link Status#SERVICE_DIGIT}
+   */
+  public static String value(SecretKey key, String account, String expiry, String service) throws CukvasheException {
+    try (Held heldKey = Held.key(key, 16);
+        Held made = Held.room(4)) {
+      CukvasheException.check(Native.cvv(heldKey.bytes, Held.text(account), Held.text(expiry), Held.text(service),
+          made.bytes));
+      return made.text();
+    }
+  }
+  // This ends what bindings/describe made.
+}

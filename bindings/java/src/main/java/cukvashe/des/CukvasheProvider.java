@@ -1,0 +1,124 @@
+package cukvashe.des;
+
+import java.security.InvalidParameterException;
+import java.security.Provider;
+import java.util.List;
+import java.util.Map;
+import java.util.function.Function;
+
+/**
+ * The provider {@code Cukvashe}: ciphers {@code DES} and {@code DESede} in ECB and CBC, without padding or with that of PKCS#5; CBC-MAC,
+ * retail MAC and CMAC under the names of Bouncy Castle; key factories, key generators and parameters.
+ *
+ * <p>{@code Security.insertProviderAt(new CukvasheProvider(), 1)} or {@code security.provider.1=Cukvashe} in {@code java.security} makes it
+ * the first. With the argument {@code no_tables} no call reads a table at an address that depends on a key or data: {@code new
+ * CukvasheProvider().configure("no_tables")}, or {@code security.provider.1=Cukvashe no_tables}.
+ *
+ * <p>Where the native library can't be loaded the provider offers nothing, and {@link #getInfo} says why: programs that ask for no provider
+ * by name go on with the next one.
+ */
+public final class CukvasheProvider extends Provider {
+  private static final long serialVersionUID = 1L;
+  private static final String NO_TABLES = "no_tables";
+
+  private final boolean readsTables;
+
+  /** The provider with tables. */
+  public CukvasheProvider() {
+    this(true);
+  }
+
+  private CukvasheProvider(boolean readsTables) {
+    super("Cukvashe", Native.VERSION, info(readsTables));
+    this.readsTables = readsTables;
+    if (Native.FAULT != null) {
+      return;
+    }
+    for (Algorithm algorithm : Algorithm.values()) {
+      List<String> aliases = algorithm == Algorithm.DESEDE ? List.of("TripleDES") : List.of();
+      Map<String, String> attributes =
+          Map.of("SupportedModes", "ECB|CBC", "SupportedPaddings", "NOPADDING|PKCS5PADDING|PKCS7PADDING", "SupportedKeyFormats", "RAW");
+      // Other modes are services of their own, as DESede/CFB8.
+      add("Cipher", algorithm.title, aliases, attributes, provider -> new DesCipher(provider, algorithm));
+      add("AlgorithmParameters", algorithm.title, aliases, Map.of(), provider -> new DesParameters());
+      add("SecretKeyFactory", algorithm.title, aliases, Map.of(), provider -> new DesKeyFactory(algorithm));
+      add("KeyGenerator", algorithm.title, aliases, Map.of(), provider -> new DesKeyGenerator(algorithm));
+    }
+    // Not DESMAC and DESEDEMAC, whose tags have 4 bytes in Bouncy Castle.
+    mac(MacAlgorithm.CBC_MAC_DES_1, "DESMAC64", "DES64");
+    mac(
+        MacAlgorithm.CBC_MAC_DES_2,
+        "DESMAC64WITHISO7816-4PADDING",
+        "DES64WITHISO7816-4PADDING",
+        "DESISO9797ALG1MACWITHISO7816-4PADDING",
+        "DESISO9797ALG1WITHISO7816-4PADDING");
+    mac(MacAlgorithm.CBC_MAC_TDES_1, "DESEDEMAC64", "DESEDE64");
+    mac(
+        MacAlgorithm.CBC_MAC_TDES_2,
+        "DESEDEMAC64WITHISO7816-4PADDING",
+        "DESEDE64WITHISO7816-4PADDING",
+        "DESEDEISO9797ALG1MACWITHISO7816-4PADDING",
+        "DESEDEISO9797ALG1WITHISO7816-4PADDING");
+    mac(MacAlgorithm.RETAIL_MAC_1, "ISO9797ALG3MAC", "ISO9797ALG3", "DESWITHISO9797", "DESISO9797MAC");
+    mac(MacAlgorithm.RETAIL_MAC_2, "ISO9797ALG3WITHISO7816-4PADDING", "ISO9797ALG3MACWITHISO7816-4PADDING");
+    mac(MacAlgorithm.CMAC, "DESEDECMAC");
+  }
+
+  private static String info(boolean readsTables) {
+    if (Native.FAULT != null) {
+      return "nothing is offered: " + Native.FAULT.getMessage();
+    }
+    return "DES and triple DES (ECB, CBC), CBC-MAC, retail MAC, CMAC" + (readsTables ? "" : ", without tables");
+  }
+
+  boolean readsTables() {
+    return readsTables;
+  }
+
+  /**
+   * The provider without tables.
+   *
+   * @param argument {@code no_tables}
+   * @throws InvalidParameterException for any other argument
+   */
+  @Override
+  public Provider configure(String argument) {
+    if (!argument.equals(NO_TABLES)) {
+      throw new InvalidParameterException("the argument of the provider is " + NO_TABLES);
+    }
+    return new CukvasheProvider(false);
+  }
+
+  private void mac(MacAlgorithm algorithm, String name, String... aliases) {
+    add("Mac", name, List.of(aliases), Map.of("SupportedKeyFormats", "RAW"), provider -> new DesMac(provider, algorithm));
+  }
+
+  private void add(
+      String type, String name, List<String> aliases, Map<String, String> attributes, Function<CukvasheProvider, Object> maker) {
+    putService(new Made(this, type, name, aliases, attributes, maker));
+  }
+
+  /** A service whose objects are made without reflection, so that their classes need not be public. */
+  private static final class Made extends Service {
+    private final Function<CukvasheProvider, Object> maker;
+
+    Made(
+        CukvasheProvider provider,
+        String type,
+        String name,
+        List<String> aliases,
+        Map<String, String> attributes,
+        Function<CukvasheProvider, Object> maker) {
+      super(provider, type, name, "cukvashe.des." + type, aliases, attributes);
+      this.maker = maker;
+    }
+
+    @Override
+    public Object newInstance(Object parameter) {
+      if (parameter != null) {
+        throw new InvalidParameterException(getType() + " takes no parameter");
+      }
+      return maker.apply((CukvasheProvider) getProvider());
+    }
+  }
+}

@@ -1,0 +1,480 @@
+package cukvashe.des;
+
+import java.lang.invoke.MethodHandles;
+import java.lang.invoke.VarHandle;
+import java.nio.ByteBuffer;
+import java.nio.ByteOrder;
+import java.security.AlgorithmParameters;
+import java.security.InvalidAlgorithmParameterException;
+import java.security.InvalidKeyException;
+import java.security.Key;
+import java.security.KeyFactory;
+import java.security.NoSuchAlgorithmException;
+import java.security.ProviderException;
+import java.security.SecureRandom;
+import java.security.spec.AlgorithmParameterSpec;
+import java.security.spec.InvalidKeySpecException;
+import java.security.spec.InvalidParameterSpecException;
+import java.security.spec.PKCS8EncodedKeySpec;
+import java.security.spec.X509EncodedKeySpec;
+import java.util.Arrays;
+import java.util.Locale;
+import javax.crypto.BadPaddingException;
+import javax.crypto.Cipher;
+import javax.crypto.CipherSpi;
+import javax.crypto.IllegalBlockSizeException;
+import javax.crypto.NoSuchPaddingException;
+import javax.crypto.ShortBufferException;
+import javax.crypto.spec.IvParameterSpec;
+import javax.crypto.spec.SecretKeySpec;
+
+/**
+ * DES and triple DES in the modes of whole blocks, ECB and CBC.
+ *
+ * <p>All work is in place: the input is copied to where the output goes, after what is held, and the blocks there are encrypted or
+ * decrypted. So arrays may overlap in any way. What is held for the next call is saved before anything is written, and sizes are known
+ * before: a call that lacks room changes nothing. Faults come in SunJCE's order.
+ */
+final class DesCipher extends CipherSpi {
+  private static final VarHandle WORDS = MethodHandles.byteArrayViewVarHandle(long[].class, ByteOrder.BIG_ENDIAN);
+  private static final int BLOCK = Native.BLOCK_SIZE;
+
+  private final CukvasheProvider provider;
+  private final Algorithm algorithm;
+  private boolean isCbc;
+  private boolean pads = true;
+
+  private RoundKeys keys;
+  private boolean decrypts;
+  private boolean hasIv;
+  private long iv;
+  private long chain;
+
+  /** Bytes that wait for a whole block; in decryption with padding also a block that may be the last. */
+  private byte[] held = new byte[2 * BLOCK];
+
+  private byte[] spare = new byte[2 * BLOCK];
+  private int count;
+
+  DesCipher(CukvasheProvider provider, Algorithm algorithm) {
+    this.provider = provider;
+    this.algorithm = algorithm;
+  }
+
+  @Override
+  protected void engineSetMode(String mode) throws NoSuchAlgorithmException {
+    isCbc = mode.toUpperCase(Locale.ROOT).equals("CBC");
+    if (!isCbc && !mode.toUpperCase(Locale.ROOT).equals("ECB")) {
+      throw new NoSuchAlgorithmException("there is no mode " + mode);
+    }
+  }
+
+  @Override
+  protected void engineSetPadding(String padding) throws NoSuchPaddingException {
+    switch (padding.toUpperCase(Locale.ROOT)) {
+      case "NOPADDING":
+        pads = false;
+        break;
+      case "PKCS5PADDING":
+      case "PKCS7PADDING":
+        pads = true;
+        break;
+      default:
+        throw new NoSuchPaddingException("there is no padding " + padding);
+    }
+  }
+
+  @Override
+  protected int engineGetBlockSize() {
+    return BLOCK;
+  }
+
+  @Override
+  protected int engineGetKeySize(Key key) throws InvalidKeyException {
+    byte[] bytes = algorithm.bytesOf(key);
+    Arrays.fill(bytes, (byte) 0);
+    return bytes.length * 7;
+  }
+
+  @Override
+  protected int engineGetOutputSize(int length) {
+    int total = Math.addExact(count, length);
+    return pads && !decrypts ? Math.addExact(total, BLOCK - total % BLOCK) : total;
+  }
+
+  @Override
+  protected byte[] engineGetIV() {
+    if (!hasIv) {
+      return null;
+    }
+    byte[] bytes = new byte[BLOCK];
+    WORDS.set(bytes, 0, iv);
+    return bytes;
+  }
+
+  @Override
+  protected AlgorithmParameters engineGetParameters() {
+    if (!isCbc) {
+      return null;
+    }
+    byte[] bytes = hasIv ? engineGetIV() : random(null);
+    try {
+      AlgorithmParameters parameters = AlgorithmParameters.getInstance(algorithm.title, provider);
+      parameters.init(new IvParameterSpec(bytes));
+      return parameters;
+    } catch (NoSuchAlgorithmException | InvalidParameterSpecException impossible) {
+      throw new ProviderException(impossible);
+    }
+  }
+
+  private static byte[] random(SecureRandom random) {
+    byte[] bytes = new byte[BLOCK];
+    (random == null ? new SecureRandom() : random).nextBytes(bytes);
+    return bytes;
+  }
+
+  // -- Keys and vectors --
+
+  @Override
+  protected void engineInit(int opmode, Key key, SecureRandom random) throws InvalidKeyException {
+    try {
+      engineInit(opmode, key, (AlgorithmParameterSpec) null, random);
+    } catch (InvalidAlgorithmParameterException error) {
+      throw new InvalidKeyException(error.getMessage());
+    }
+  }
+
+  @Override
+  protected void engineInit(int opmode, Key key, AlgorithmParameters parameters, SecureRandom random)
+      throws InvalidKeyException, InvalidAlgorithmParameterException {
+    IvParameterSpec spec = null;
+    if (parameters != null) {
+      try {
+        spec = parameters.getParameterSpec(IvParameterSpec.class);
+      } catch (InvalidParameterSpecException error) {
+        throw new InvalidAlgorithmParameterException("the parameters have no initialization vector");
+      }
+    }
+    engineInit(opmode, key, spec, random);
+  }
+
+  @Override
+  protected void engineInit(int opmode, Key key, AlgorithmParameterSpec parameters, SecureRandom random)
+      throws InvalidKeyException, InvalidAlgorithmParameterException {
+    boolean isInverse = opmode == Cipher.DECRYPT_MODE || opmode == Cipher.UNWRAP_MODE;
+    byte[] vector = vectorOf(parameters);
+    if (isCbc && vector == null) {
+      if (isInverse) {
+        throw new InvalidAlgorithmParameterException("decryption needs an initialization vector");
+      }
+      vector = random(random);
+    }
+    byte[] bytes = algorithm.bytesOf(key);
+    RoundKeys made;
+    try {
+      made = new RoundKeys(bytes, provider.readsTables());
+    } finally {
+      Arrays.fill(bytes, (byte) 0);
+    }
+    if (keys != null) {
+      keys.wipe();
+    }
+    keys = made;
+    decrypts = isInverse;
+    hasIv = vector != null;
+    iv = vector == null ? 0 : (long) WORDS.get(vector, 0);
+    reset();
+  }
+
+  private byte[] vectorOf(AlgorithmParameterSpec parameters) throws InvalidAlgorithmParameterException {
+    if (parameters == null) {
+      return null;
+    }
+    if (!(parameters instanceof IvParameterSpec)) {
+      throw new InvalidAlgorithmParameterException("the parameters are not an IvParameterSpec");
+    }
+    byte[] vector = ((IvParameterSpec) parameters).getIV();
+    if (vector.length != BLOCK) {
+      throw new InvalidAlgorithmParameterException("an initialization vector has " + BLOCK + " bytes, not " + vector.length);
+    }
+    if (!isCbc) {
+      throw new InvalidAlgorithmParameterException("ECB takes no initialization vector");
+    }
+    return vector;
+  }
+
+  private void initialized() {
+    if (keys == null) {
+      throw new IllegalStateException("the cipher is not initialized");
+    }
+  }
+
+  private void reset() {
+    chain = iv;
+    count = 0;
+    Arrays.fill(held, (byte) 0);
+  }
+
+  // -- Blocks --
+
+  private int way() {
+    return (decrypts ? Native.DECRYPT : 0) | (isCbc ? Native.CBC : 0);
+  }
+
+  /** Of how many of the bytes that are here update makes something: whole blocks, and not the one that may be the last with padding. */
+  private int ready(int total) {
+    int most = pads && decrypts ? Math.max(0, total - BLOCK) : total;
+    return most - most % BLOCK;
+  }
+
+  private static void needs(int size, int room) throws ShortBufferException {
+    if (size > room) {
+      throw new ShortBufferException("the output needs " + size + " bytes");
+    }
+  }
+
+  /** Writes what is held and bytes of the input, {@code size} in all, and holds the other bytes. */
+  private void gather(byte[] input, int offset, int length, byte[] output, int at, int size) {
+    int ours = Math.min(count, size);
+    int theirs = size - ours;
+    int left = count - ours;
+    System.arraycopy(held, ours, spare, 0, left);
+    if (length != 0) { // else the input may be null, as Cipher.doFinal() gives it
+      System.arraycopy(input, offset + theirs, spare, left, length - theirs);
+      System.arraycopy(input, offset, output, at + ours, theirs);
+    }
+    System.arraycopy(held, 0, output, at, ours);
+    byte[] old = held;
+    held = spare;
+    spare = old;
+    Arrays.fill(spare, (byte) 0);
+    count = left + length - theirs;
+  }
+
+  /** Encrypts or decrypts {@code size} bytes of what is held and the input. */
+  private void work(byte[] input, int offset, int length, byte[] output, int at, int size) {
+    gather(input, offset, length, output, at, size);
+    if (size != 0) {
+      chain = keys.run(way(), chain, output, at, size);
+    }
+  }
+
+  @Override
+  protected byte[] engineUpdate(byte[] input, int offset, int length) {
+    initialized();
+    // An empty array where nothing comes out, and not null, though the contract allows it: callers of SunJCE never see that.
+    byte[] output = new byte[ready(Math.addExact(count, length))];
+    work(input, offset, length, output, 0, output.length);
+    return output;
+  }
+
+  @Override
+  protected int engineUpdate(byte[] input, int offset, int length, byte[] output, int at) throws ShortBufferException {
+    return advance(input, offset, length, output, at, output.length - at);
+  }
+
+  private int advance(byte[] input, int offset, int length, byte[] output, int at, int room) throws ShortBufferException {
+    initialized();
+    int size = ready(Math.addExact(count, length));
+    needs(size, room);
+    work(input, offset, length, output, at, size);
+    return size;
+  }
+
+  @Override
+  protected byte[] engineDoFinal(byte[] input, int offset, int length) throws IllegalBlockSizeException, BadPaddingException {
+    initialized();
+    byte[] output = new byte[engineGetOutputSize(length)];
+    try {
+      int size = finish(input, offset, length, output, 0, output.length);
+      if (size == output.length) {
+        return output;
+      }
+      byte[] cut = Arrays.copyOf(output, size);
+      Arrays.fill(output, (byte) 0);
+      return cut;
+    } catch (ShortBufferException impossible) {
+      throw new ProviderException(impossible);
+    }
+  }
+
+  @Override
+  protected int engineDoFinal(byte[] input, int offset, int length, byte[] output, int at)
+      throws ShortBufferException, IllegalBlockSizeException, BadPaddingException {
+    return finish(input, offset, length, output, at, output.length - at);
+  }
+
+  private int finish(byte[] input, int offset, int length, byte[] output, int at, int room)
+      throws ShortBufferException, IllegalBlockSizeException, BadPaddingException {
+    initialized();
+    int total = Math.addExact(count, length);
+    int padding = pads && !decrypts ? BLOCK - total % BLOCK : 0;
+    // What can't be long enough is short, whatever else is wrong.
+    needs(decrypts ? total - BLOCK : total + padding, room);
+    whole(total);
+    if (pads && decrypts && total != 0) {
+      return unpad(input, offset, length, output, at, room);
+    }
+    needs(total + padding, room);
+    gather(input, offset, length, output, at, total);
+    Arrays.fill(output, at + total, at + total + padding, (byte) padding);
+    if (total + padding != 0) {
+      keys.run(way(), chain, output, at, total + padding);
+    }
+    reset();
+    return total + padding;
+  }
+
+  private void whole(int total) throws IllegalBlockSizeException {
+    if (total % BLOCK != 0 && (decrypts || !pads)) {
+      throw new IllegalBlockSizeException(Status.BLOCKS.sentence());
+    }
+  }
+
+  /** Decrypts with padding. The last block comes first, since it says how long the plaintext is. */
+  private int unpad(byte[] input, int offset, int length, byte[] output, int at, int room)
+      throws ShortBufferException, BadPaddingException {
+    int before = count + length - BLOCK;
+    long last = keys.decrypted(word(before, input, offset));
+    if (isCbc) {
+      last ^= before == 0 ? chain : word(before - BLOCK, input, offset);
+    }
+    int padding = padding(last);
+    if (padding == 0) {
+      // The other blocks are decrypted all the same, so that it takes as long.
+      byte[] scratch = new byte[before];
+      work(input, offset, length, scratch, 0, before);
+      Arrays.fill(scratch, (byte) 0);
+      reset();
+      throw new BadPaddingException(Status.PADDING.sentence());
+    }
+    int size = before + BLOCK - padding;
+    needs(size, room);
+    work(input, offset, length, output, at, before);
+    for (int place = 0; place < BLOCK - padding; place++) {
+      output[at + before + place] = (byte) (last >>> 8 * (BLOCK - 1 - place));
+    }
+    reset();
+    return size;
+  }
+
+  /** The block at a place of what is held and the input together. */
+  private long word(int place, byte[] input, int offset) {
+    if (place >= count) {
+      return (long) WORDS.get(input, offset + place - count);
+    }
+    long word = 0;
+    for (int at = place; at < place + BLOCK; at++) {
+      word = word << 8 | (at < count ? held[at] : input[offset + at - count]) & 255;
+    }
+    return word;
+  }
+
+  /** How many bytes of padding a last block has, or 0. Every byte is looked at, whatever the others are. */
+  private static int padding(long last) {
+    int size = (int) last & 255;
+    int wrong = size - 1 >>> 31 | BLOCK - size >>> 31;
+    for (int at = 0; at < BLOCK; at++) {
+      int isPadding = at - size >> 31;
+      wrong |= isPadding & ((int) (last >>> 8 * at) & 255 ^ size);
+    }
+    return wrong == 0 ? size : 0;
+  }
+
+  // -- Buffers: what has no array is copied --
+
+  @Override
+  protected int engineUpdate(ByteBuffer input, ByteBuffer output) throws ShortBufferException {
+    try {
+      return across(input, output, false);
+    } catch (IllegalBlockSizeException | BadPaddingException impossible) {
+      throw new ProviderException(impossible);
+    }
+  }
+
+  @Override
+  protected int engineDoFinal(ByteBuffer input, ByteBuffer output)
+      throws ShortBufferException, IllegalBlockSizeException, BadPaddingException {
+    return across(input, output, true);
+  }
+
+  private int across(ByteBuffer input, ByteBuffer output, boolean isLast)
+      throws ShortBufferException, IllegalBlockSizeException, BadPaddingException {
+    initialized();
+    int length = input.remaining();
+    if (isLast) {
+      whole(Math.addExact(count, length)); // here SunJCE looks at that first
+    }
+    byte[] from = input.hasArray() ? input.array() : new byte[length];
+    byte[] to = output.hasArray() ? output.array() : new byte[engineGetOutputSize(length)];
+    int offset = input.hasArray() ? input.arrayOffset() + input.position() : 0;
+    int at = output.hasArray() ? output.arrayOffset() + output.position() : 0;
+    if (!input.hasArray()) {
+      input.duplicate().get(from);
+    }
+    try {
+      int size =
+          isLast
+              ? finish(from, offset, length, to, at, output.remaining())
+              : advance(from, offset, length, to, at, output.remaining());
+      input.position(input.limit());
+      if (output.hasArray()) {
+        output.position(output.position() + size);
+      } else {
+        output.put(to, 0, size);
+      }
+      return size;
+    } finally {
+      if (!input.hasArray()) {
+        Arrays.fill(from, (byte) 0);
+      }
+      if (!output.hasArray()) {
+        Arrays.fill(to, (byte) 0);
+      }
+    }
+  }
+
+  // -- Keys under keys --
+
+  @Override
+  protected byte[] engineWrap(Key key) throws IllegalBlockSizeException, InvalidKeyException {
+    byte[] bytes = key.getEncoded();
+    if (bytes == null || bytes.length == 0) {
+      throw new InvalidKeyException("the key that is to be wrapped has no encoding");
+    }
+    try {
+      return engineDoFinal(bytes, 0, bytes.length);
+    } catch (BadPaddingException impossible) {
+      throw new ProviderException(impossible);
+    } finally {
+      Arrays.fill(bytes, (byte) 0);
+    }
+  }
+
+  @Override
+  protected Key engineUnwrap(byte[] wrapped, String name, int type) throws InvalidKeyException, NoSuchAlgorithmException {
+    byte[] bytes;
+    try {
+      bytes = engineDoFinal(wrapped, 0, wrapped.length);
+    } catch (BadPaddingException | IllegalBlockSizeException error) {
+      reset();
+      throw new InvalidKeyException("what is to be unwrapped is no wrapped key: " + error.getMessage(), error);
+    }
+    try {
+      switch (type) {
+        case Cipher.SECRET_KEY:
+          return new SecretKeySpec(bytes, name);
+        case Cipher.PRIVATE_KEY:
+          return KeyFactory.getInstance(name).generatePrivate(new PKCS8EncodedKeySpec(bytes));
+        case Cipher.PUBLIC_KEY:
+          return KeyFactory.getInstance(name).generatePublic(new X509EncodedKeySpec(bytes));
+        default:
+          throw new InvalidKeyException("there is no type of keys " + type);
+      }
+    } catch (InvalidKeySpecException | IllegalArgumentException error) {
+      throw new InvalidKeyException("what is unwrapped is no key of " + name, error);
+    } finally {
+      Arrays.fill(bytes, (byte) 0);
+    }
+  }
+}
