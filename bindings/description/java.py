@@ -16,7 +16,7 @@ from .statuses import SAID, capitalized, short
 from .wrappers import wrapped
 
 # C for tests and buffers of its own, which Java does not take.
-NOT_TAKEN = {"wipe", "strerror", "pad", "unpad", "compare_tags"}
+NOT_TAKEN = {"wipe", "strerror", "pad", "compare_tags"}
 # Of the calls with a context, those that are made here: the others are the ones whose speed counts, which are written by hand.
 WITH_CONTEXT = ("_init", "_init_no_tables", "_records")
 

@@ -13,6 +13,7 @@ import cukvashe.des.KeyBlockHeader;
 import cukvashe.des.Keys;
 import cukvashe.des.MacAlgorithm;
 import cukvashe.des.Macs;
+import cukvashe.des.Padding;
 import cukvashe.des.Passwords;
 import cukvashe.des.Pin;
 import cukvashe.des.PinBlocks;
@@ -21,6 +22,7 @@ import cukvashe.des.PinTranslation;
 import cukvashe.des.PinVerification;
 import cukvashe.des.Status;
 import java.math.BigInteger;
+import java.nio.charset.StandardCharsets;
 import java.nio.file.Files;
 import java.nio.file.Path;
 import java.util.ArrayList;
@@ -28,6 +30,7 @@ import java.util.Arrays;
 import java.util.HashMap;
 import java.util.HexFormat;
 import java.util.List;
+import java.util.Locale;
 import java.util.Map;
 import java.util.Objects;
 import java.util.regex.Matcher;
@@ -119,7 +122,16 @@ public final class KnownCalls {
 
     HashFunction hash(Object name) throws NotInJava {
       for (HashFunction it : HashFunction.values()) {
-        if (it.name().toLowerCase(java.util.Locale.ROOT).equals(name)) {
+        if (it.name().toLowerCase(Locale.ROOT).equals(name)) {
+          return it;
+        }
+      }
+      throw new NotInJava();
+    }
+
+    Padding padding(int at) throws NotInJava {
+      for (Padding it : Padding.values()) {
+        if (it.name().toLowerCase(Locale.ROOT).equals(text(at))) {
           return it;
         }
       }
@@ -256,6 +268,8 @@ public final class KnownCalls {
         });
     CALLS.put("encrypt_each", it -> Blocks.encryptEach(it.size(0), it.bytes(1), it.bytes(2)));
     CALLS.put("decrypt_each", it -> Blocks.decryptEach(it.size(0), it.bytes(1), it.bytes(2)));
+    CALLS.put("pad", it -> it.padding(1).pad(it.bytes(0)));
+    CALLS.put("unpad", it -> it.padding(1).unpad(it.bytes(0)));
     CALLS.put("check_values", it -> Keys.checkValues(it.size(0), it.bytes(1)));
   }
 
@@ -388,7 +402,7 @@ public final class KnownCalls {
     }
     boolean isText = value instanceof String;
     // One character for each byte, so that texts and bytes are cut alike.
-    String text = isText ? (String) value : new String((byte[]) value, java.nio.charset.StandardCharsets.ISO_8859_1);
+    String text = isText ? (String) value : new String((byte[]) value, StandardCharsets.ISO_8859_1);
     if (whole.group(2) != null) {
       text = text.repeat(Integer.parseInt(whole.group(2)));
     }
@@ -400,7 +414,7 @@ public final class KnownCalls {
     if (whole.group(5) != null) {
       text = text.substring(0, Integer.parseInt(whole.group(5)));
     }
-    return isText ? text : text.getBytes(java.nio.charset.StandardCharsets.ISO_8859_1);
+    return isText ? text : text.getBytes(StandardCharsets.ISO_8859_1);
   }
 
   static String shown(Object value) {
@@ -449,7 +463,7 @@ public final class KnownCalls {
       String wanted = outcome;
       if (refuses) {
         String fault = outcome.split(" ")[1];
-        String status = STATUSES.getOrDefault(fault, fault.replaceAll("(?<=[a-z])(?=[A-Z])", "_").toUpperCase(java.util.Locale.ROOT));
+        String status = STATUSES.getOrDefault(fault, fault.replaceAll("(?<=[a-z])(?=[A-Z])", "_").toUpperCase(Locale.ROOT));
         boolean isOfType = OF_TYPES.contains(fault) && said.equals("! IllegalArgumentException");
         // In lists Java names what does not agree, not what is not whole.
         boolean isOfList = outcome.contains(" bytes are not whole ") && said.equals("! COUNTS");

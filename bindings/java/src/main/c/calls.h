@@ -264,6 +264,19 @@ static jint JNICALL call_tdes_ede3_decrypt_cbc_records(JNIEnv *env, jclass class
   return answer;
 }
 
+static jint JNICALL call_unpad(JNIEnv *env, jclass class, jbyteArray buffer, jint method, jlongArray unpaddedLength) {
+  (void)class;
+  struct array arrays[] = {
+    {buffer, 1, 0, false, NULL, 0},
+    {unpaddedLength, 8, 8, true, NULL, 0},
+  };
+  struct copies copies;
+  if (!copied(env, &copies, arrays, LENGTH_OF(arrays))) return 0;
+  int answer = cukvashe_unpad(arrays[0].at, arrays[0].length, method, arrays[1].at);
+  given_back(env, &copies, arrays, LENGTH_OF(arrays), answer == CUKVASHE_OK);
+  return answer;
+}
+
 static jint JNICALL call_weak_key_test(JNIEnv *env, jclass class, jbyteArray key) {
   (void)class;
   struct array arrays[] = {
@@ -1658,6 +1671,7 @@ static jint JNICALL call_tdes_ede3_open_salted(JNIEnv *env, jclass class, jint h
   {(char *)"tdesEde2DecryptCbcRecords", (char *)"([J[B[J[B)I", (void *)call_tdes_ede2_decrypt_cbc_records}, \
   {(char *)"tdesEde3EncryptCbcRecords", (char *)"([J[B[J[B)I", (void *)call_tdes_ede3_encrypt_cbc_records}, \
   {(char *)"tdesEde3DecryptCbcRecords", (char *)"([J[B[J[B)I", (void *)call_tdes_ede3_decrypt_cbc_records}, \
+  {(char *)"unpad", (char *)"([BI[J)I", (void *)call_unpad}, \
   {(char *)"weakKeyTest", (char *)"([B)I", (void *)call_weak_key_test}, \
   {(char *)"setOddParity", (char *)"([B)V", (void *)call_set_odd_parity}, \
   {(char *)"equalButParity", (char *)"([B[B)Z", (void *)call_equal_but_parity}, \

@@ -120,6 +120,8 @@ final class Native {
 
   static native int tdesEde3DecryptCbcRecords(long[] context, byte[] vectors, long[] counts, byte[] bytes);
 
+  static native int unpad(byte[] buffer, int method, long[] unpaddedLength);
+
   static native int weakKeyTest(byte[] key);
 
   static native void setOddParity(byte[] key);
