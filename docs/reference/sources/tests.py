@@ -16,6 +16,7 @@ PLACES = {
     "C": ("bindings/test", "bindings/testing", "bindings/c/test", "bindings/c/tests/**/*"),
     "Python": ("bindings/python/tests/**/*",),
     "Rust": ("bindings/rust/tests/**/*",),
+    "Java": ("bindings/java/test", "bindings/java/tests/**/*"),
     "JavaScript and the page": ("bindings/wasm/test", "bindings/wasm/tests/**/*"),
     "The provider for OpenSSL": ("bindings/openssl/test", "bindings/openssl/tests/**/*"),
     "Programs of `make`": ("bindings/programs/test", "bindings/programs/stored", "bindings/programs/tests/**/*"),
@@ -31,6 +32,7 @@ COMMENTS = {
     ".rs": r"((?://![^\n]*\n)+)",
     ".rt": r"((?://![^\n]*\n)+)",
     ".mjs": r"((?://[^\n]*\n)+)",
+    ".java": r"(?:import [^\n]*\n|\n)*/\*\*(.*?)\*/",
     "": r"(?:#![^\n]*\n)?((?:#[^\n]*\n)+)",
 }
 
