@@ -27,6 +27,7 @@ import java.nio.file.Files;
 import java.nio.file.Path;
 import java.util.ArrayList;
 import java.util.Arrays;
+import java.util.Collections;
 import java.util.HashMap;
 import java.util.HexFormat;
 import java.util.List;
@@ -190,10 +191,16 @@ public final class KnownCalls {
     CALLS.put("pin_decode_3", it -> PinBlocks.decode3(it.bytes(0), it.text(1)));
     CALLS.put(
         "pin_translate_to_0",
-        it -> PinTranslation.from(it.format(0), it.key("incoming_key")).to(PinFormat.ISO_0, it.key("outgoing_key")).translate(it.bytes(2), it.text(1)));
+        it ->
+            PinTranslation.from(it.format(0), it.key("incoming_key"))
+                .to(PinFormat.ISO_0, it.key("outgoing_key"))
+                .translate(it.bytes(2), it.text(1)));
     CALLS.put(
         "pin_translate_to_1",
-        it -> PinTranslation.from(PinFormat.ISO_1, it.key("incoming_key")).to(PinFormat.ISO_1, it.key("outgoing_key")).translate(it.bytes(0), null));
+        it ->
+            PinTranslation.from(PinFormat.ISO_1, it.key("incoming_key"))
+                .to(PinFormat.ISO_1, it.key("outgoing_key"))
+                .translate(it.bytes(0), null));
     CALLS.put(
         "pin_translate_to_3",
         it ->
@@ -451,7 +458,8 @@ public final class KnownCalls {
           }
         }
         Object answer = call.of(given);
-        said = "= " + (answer instanceof List<?> list && line.startsWith("unwrap") ? list.stream().map(KnownCalls::shown).collect(Collectors.joining(" ")) : shown(answer));
+        List<?> all = line.startsWith("unwrap") ? (List<?>) answer : Collections.singletonList(answer);
+        said = "= " + all.stream().map(KnownCalls::shown).collect(Collectors.joining(" "));
       } catch (CukvasheException error) {
         said = "! " + error.status();
         if (!error.getMessage().equals(error.status().sentence())) {

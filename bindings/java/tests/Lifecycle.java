@@ -29,7 +29,8 @@ public final class Lifecycle {
   static String owner(String transformation) throws Exception {
     Cipher cipher = Cipher.getInstance(transformation);
     // Without parameters: only here the provider is chosen.
-    cipher.init(Cipher.ENCRYPT_MODE, new SecretKeySpec(Arrays.copyOf(KEY, transformation.startsWith("AES") ? 16 : 24), transformation.split("/")[0]));
+    byte[] key = Arrays.copyOf(KEY, transformation.startsWith("AES") ? 16 : 24);
+    cipher.init(Cipher.ENCRYPT_MODE, new SecretKeySpec(key, transformation.split("/")[0]));
     return cipher.getProvider().getName();
   }
 

@@ -3,8 +3,8 @@ package cukvashe.des;
 import javax.crypto.SecretKey;
 
 /**
- * The keys of transactions: DUKPT with triple DES (ANSI X9.24-1:2009), the host's side. Keys have 16 bytes, key serial numbers (KSN) ten: put
- * bytes FF before a shorter one. {@link DukptTerminal} is the terminal's side.
+ * The keys of transactions: DUKPT with triple DES (ANSI X9.24-1:2009), the host's side. Keys have 16 bytes, key serial numbers (KSN) ten:
+ * put bytes FF before a shorter one. {@link DukptTerminal} is the terminal's side.
  */
 public final class Dukpt {
   private static final String SERIAL = "a key serial number";

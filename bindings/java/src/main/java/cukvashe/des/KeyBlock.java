@@ -7,8 +7,8 @@ import java.util.List;
 import javax.crypto.SecretKey;
 
 /**
- * Key blocks (ANSI X9.143, ASC X9 TR-31) of versions B and C, and of A, which is only read: a header, optional blocks, and a key of 8, 16 or
- * 24 bytes under a protection key (KBPK) of 16 or 24. A protection key of 24 bytes whose third part is the first is taken as one of 16.
+ * Key blocks (ANSI X9.143, ASC X9 TR-31) of versions B and C, and of A, which is only read: a header, optional blocks, and a key of 8, 16
+ * or 24 bytes under a protection key (KBPK) of 16 or 24. A protection key of 24 bytes whose third part is the first is taken as one of 16.
  */
 public final class KeyBlock {
   /** An optional block: a name of two characters, and its content. */

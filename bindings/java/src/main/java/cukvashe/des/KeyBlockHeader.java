@@ -1,9 +1,10 @@
 package cukvashe.des;
 
-import java.util.Objects;
-
 /** What a key block says of its key. */
 public final class KeyBlockHeader {
+  /** Where the characters of a header stand in the struct of C, whose texts end with a zero. */
+  private static final int[] PLACES = {0, 1, 2, 4, 5, 6, 7, 9};
+
   private final String fields;
 
   private KeyBlockHeader(String fields) {
@@ -28,7 +29,7 @@ public final class KeyBlockHeader {
     return new KeyBlockHeader("" + version + usage + algorithm + mode + keyVersion + exportability);
   }
 
-  /** Of a struct of C, in which texts end with a zero. */
+  /** Of a struct of C. */
   static KeyBlockHeader of(byte[] struct) {
     StringBuilder fields = new StringBuilder();
     for (int at : PLACES) {
@@ -36,8 +37,6 @@ public final class KeyBlockHeader {
     }
     return new KeyBlockHeader(fields.toString());
   }
-
-  private static final int[] PLACES = {0, 1, 2, 4, 5, 6, 7, 9};
 
   byte[] struct() {
     byte[] characters = Held.text(fields);
@@ -85,12 +84,13 @@ public final class KeyBlockHeader {
 
   @Override
   public int hashCode() {
-    return Objects.hash(fields);
+    return fields.hashCode();
   }
 
   @Override
   public String toString() {
-    return "version " + version() + ", usage " + usage() + ", algorithm " + algorithm() + ", mode " + mode() + ", key version " + keyVersion()
-        + ", exportability " + exportability();
+    return String.format(
+        "version %s, usage %s, algorithm %s, mode %s, key version %s, exportability %s",
+        version(), usage(), algorithm(), mode(), keyVersion(), exportability());
   }
 }

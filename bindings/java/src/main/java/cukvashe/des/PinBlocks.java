@@ -3,8 +3,8 @@ package cukvashe.des;
 import java.security.SecureRandom;
 
 /**
- * PIN blocks in clear (ISO 9564-1, formats 0 to 3): encrypt one as a single block, in ECB without padding, but for format 2, which goes to a
- * card. A PIN has 4 to 12 digits, an account number (PAN) 8 to 19, the last the check digit. {@link PinTranslation} translates encrypted
+ * PIN blocks in clear (ISO 9564-1, formats 0 to 3): encrypt one as a single block, in ECB without padding, but for format 2, which goes to
+ * a card. A PIN has 4 to 12 digits, an account number (PAN) 8 to 19, the last the check digit. {@link PinTranslation} translates encrypted
  * ones.
  */
 public final class PinBlocks {

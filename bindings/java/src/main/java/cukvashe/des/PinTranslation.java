@@ -4,8 +4,8 @@ import java.security.SecureRandom;
 import javax.crypto.SecretKey;
 
 /**
- * Translates encrypted PIN blocks (ISO 9564-1): decrypts one under the incoming key, and encrypts the block of its PIN under the outgoing key.
- * The PIN does not come out. Keys have 8, 16 or 24 bytes.
+ * Translates encrypted PIN blocks (ISO 9564-1): decrypts one under the incoming key, and encrypts the block of its PIN under the outgoing
+ * key. The PIN does not come out. Keys have 8, 16 or 24 bytes.
  *
  * <p>{@code PinTranslation.from(PinFormat.ISO_0, terminalKey).to(PinFormat.ISO_3, zoneKey).translate(block, account)}
  */

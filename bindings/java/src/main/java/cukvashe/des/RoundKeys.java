@@ -3,8 +3,8 @@ package cukvashe.des;
 import java.util.Arrays;
 
 /**
- * The round keys of a cipher: a context of C as an array on Java's heap, which each call copies to its stack. So nothing is to be freed, and
- * threads that share an object can misuse no memory.
+ * The round keys of a cipher: a context of C as an array on Java's heap, which each call copies to its stack. So nothing is to be freed,
+ * and threads that share an object can misuse no memory.
  */
 final class RoundKeys {
   private final long[] context;
