@@ -22,6 +22,11 @@ final class Library {
           : new UnsatisfiedLinkError("the native library has version " + version + ", and these classes have " + Native.VERSION);
     } catch (UnsatisfiedLinkError error) {
       return error;
+    } catch (LinkageError error) {
+      // As where a native library of another version lacks a method.
+      UnsatisfiedLinkError wrong = new UnsatisfiedLinkError("the native library is not that of these classes: " + error.getMessage());
+      wrong.initCause(error);
+      return wrong;
     }
   }
 
