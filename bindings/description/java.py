@@ -136,8 +136,7 @@ class Reader:
 
     def _by_fields(self, parameter, struct):
         words = self._arguments(struct.fields, parameter.name)
-        lines = textwrap.wrap(", ".join(words), 100, break_long_words=False, break_on_hyphens=False)
-        self.made.before.append(f"const {parameter.type.base} {parameter.name} = {{{' '.join(lines)}}};")
+        self.made.before.append(f"const {parameter.type.base} {parameter.name} = {{{', '.join(words)}}};")
         return f"&{parameter.name}"
 
 
