@@ -178,6 +178,9 @@ public final class Exceptions {
       return cbc(p, ENCRYPT, "NoPadding").update(buffer, buffer);
     });
     CALLS.put("update buffers, short", p -> cbc(p, ENCRYPT, "NoPadding").update(ByteBuffer.allocate(16), ByteBuffer.allocate(8)));
+    CALLS.put("doFinal buffers, short", p -> cbc(p, ENCRYPT, "NoPadding").doFinal(ByteBuffer.allocate(16), ByteBuffer.allocate(8)));
+    CALLS.put("doFinal buffers, 15 bytes and short", p -> cbc(p, ENCRYPT, "NoPadding").doFinal(ByteBuffer.allocate(15), ByteBuffer.allocate(0)));
+    CALLS.put("doFinal, 15 bytes and short", p -> cbc(p, ENCRYPT, "NoPadding").doFinal(new byte[15], 0, 15, new byte[0], 0));
     CALLS.put("updateAAD", p -> {
       cbc(p, ENCRYPT, "NoPadding").updateAAD(new byte[8]);
       return "none";
@@ -215,6 +218,10 @@ public final class Exceptions {
     });
     CALLS.put("factory DESede: translate AES", p -> SecretKeyFactory.getInstance("DESede", p).translateKey(key(24, "AES")));
     CALLS.put("factory DESede: translate DESede", p -> HexFormat.of().formatHex(SecretKeyFactory.getInstance("DESede", p).translateKey(key(24, "DESede")).getEncoded()));
+    CALLS.put("factory DESede: translate even parity", p -> {
+      SecretKey even = new SecretKeySpec(new byte[24], "DESede");
+      return HexFormat.of().formatHex(SecretKeyFactory.getInstance("DESede", p).translateKey(even).getEncoded()).substring(0, 16);
+    });
     CALLS.put("factory DESede: translate null", p -> SecretKeyFactory.getInstance("DESede", p).translateKey(null));
     CALLS.put("generator DES", p -> KeyGenerator.getInstance("DES", p).generateKey().getEncoded().length);
     CALLS.put("generator DESede", p -> KeyGenerator.getInstance("DESede", p).generateKey().getEncoded().length);
@@ -243,6 +250,11 @@ public final class Exceptions {
     CALLS.put("parameters, bad encoding", p -> {
       AlgorithmParameters parameters = AlgorithmParameters.getInstance("DESede", p);
       parameters.init(new byte[9]);
+      return parameters;
+    });
+    CALLS.put("parameters, another tag", p -> {
+      AlgorithmParameters parameters = AlgorithmParameters.getInstance("DESede", p);
+      parameters.init(new byte[] {2, 8, 0, 0, 0, 0, 0, 0, 0, 0});
       return parameters;
     });
     CALLS.put("parameters, encoded", p -> {

@@ -402,9 +402,6 @@ final class DesCipher extends CipherSpi {
       throws ShortBufferException, IllegalBlockSizeException, BadPaddingException {
     initialized();
     int length = input.remaining();
-    if (isLast) {
-      whole(Math.addExact(count, length)); // here SunJCE looks at that first
-    }
     byte[] from = input.hasArray() ? input.array() : new byte[length];
     byte[] to = output.hasArray() ? output.array() : new byte[engineGetOutputSize(length)];
     int offset = input.hasArray() ? input.arrayOffset() + input.position() : 0;
@@ -457,7 +454,6 @@ final class DesCipher extends CipherSpi {
     try {
       bytes = engineDoFinal(wrapped, 0, wrapped.length);
     } catch (BadPaddingException | IllegalBlockSizeException error) {
-      reset();
       throw new InvalidKeyException("what is to be unwrapped is no wrapped key: " + error.getMessage(), error);
     }
     try {
