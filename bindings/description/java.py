@@ -31,7 +31,7 @@ ELEMENTS = {"uint8_t": 1, "char": 1, "size_t": 8}
 
 # The classes of calls that are made, by the beginning of their names, and the calls whose names in Java are others.
 CLASSES = {"emv_": "Emv", "dukpt_": "Dukpt", "cvv": "CardVerification", "": "Keys"}
-NAMES = {"cvv": "value", "key_check_value": "checkValue", "short_key_check_value": "shortCheckValue"}
+NAMES = {"cvv": "cvv", "key_check_value": "checkValue", "short_key_check_value": "shortCheckValue"}
 PACKAGE = "bindings/java/src/main/java/cukvashe/des"
 
 

@@ -224,7 +224,7 @@ public final class KnownCalls {
           PinVerification.verifyOffset(it.key(0), (DecimalTable) it.places().get(1), it.bytes(2), it.pin(3), it.text(4));
           return "right";
         });
-    CALLS.put("cvv", it -> CardVerification.value(it.key(0), it.text(1), it.text(2), it.text(3)));
+    CALLS.put("cvv", it -> CardVerification.cvv(it.key(0), it.text(1), it.text(2), it.text(3)));
     CALLS.put("emv_card_key", it -> Emv.cardKey(it.key(0), it.text(1), it.text(2)));
     CALLS.put("emv_card_key_b", it -> Emv.cardKeyB(it.key(0), it.text(1), it.text(2)));
     CALLS.put("emv_application_key", it -> Emv.applicationKey(it.key(0), it.bytes(1)));

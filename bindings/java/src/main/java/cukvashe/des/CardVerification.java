@@ -16,7 +16,7 @@ public final class CardVerification {
    *     {@link Status#ACCOUNT_DIGIT}, {@link Status#EXPIRY_LENGTH}, {@link Status#EXPIRY_DIGIT},
    *     {@link Status#SERVICE_LENGTH}, {@link Status#SERVICE_DIGIT}
    */
-  public static String value(SecretKey key, String account, String expiry, String service) throws CukvasheException {
+  public static String cvv(SecretKey key, String account, String expiry, String service) throws CukvasheException {
     try (Held heldKey = Held.key(key, 16);
         Held made = Held.room(4)) {
       CukvasheException.check(Native.cvv(heldKey.bytes, Held.text(account), Held.text(expiry), Held.text(service),
