@@ -284,7 +284,7 @@ def method(it):
             yield f'    Held.sized({name}, {one.size}, "{one.what}");'
             words.append(name)
         elif one.kind == "response":
-            words.append(f"{name} == Direction.RESPONSE")
+            words.append(f"{name}.isResponse()")
         elif one.kind == "text":
             words.append(f"Held.text({name})")
         else:

@@ -5,5 +5,9 @@ public enum Direction {
   /** From the terminal to the host. */
   REQUEST,
   /** From the host to the terminal. */
-  RESPONSE
+  RESPONSE;
+
+  boolean isResponse() {
+    return this == RESPONSE;
+  }
 }

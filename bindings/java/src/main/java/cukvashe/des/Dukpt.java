@@ -106,7 +106,7 @@ public final class Dukpt {
   public static SecretKey macKey(SecretKey transaction, Direction direction) throws CukvasheException {
     try (Held heldTransaction = Held.key(transaction, 16);
         Held made = Held.room(16)) {
-      Native.dukptMacKey(heldTransaction.bytes, direction == Direction.RESPONSE, made.bytes);
+      Native.dukptMacKey(heldTransaction.bytes, direction.isResponse(), made.bytes);
       return made.key();
     }
   }
@@ -119,7 +119,7 @@ public final class Dukpt {
   public static SecretKey dataKey(SecretKey transaction, Direction direction) throws CukvasheException {
     try (Held heldTransaction = Held.key(transaction, 16);
         Held made = Held.room(16)) {
-      Native.dukptDataKey(heldTransaction.bytes, direction == Direction.RESPONSE, made.bytes);
+      Native.dukptDataKey(heldTransaction.bytes, direction.isResponse(), made.bytes);
       return made.key();
     }
   }
@@ -133,7 +133,7 @@ public final class Dukpt {
   public static SecretKey dataVariant(SecretKey transaction, Direction direction) throws CukvasheException {
     try (Held heldTransaction = Held.key(transaction, 16);
         Held made = Held.room(16)) {
-      Native.dukptDataVariant(heldTransaction.bytes, direction == Direction.RESPONSE, made.bytes);
+      Native.dukptDataVariant(heldTransaction.bytes, direction.isResponse(), made.bytes);
       return made.key();
     }
   }
