@@ -69,11 +69,17 @@ final class Native {
   static final int MD5 = 21;
   static final int SHA1 = 22;
   static final int SHA256 = 23;
+  static final int CTR = 31;
+  static final int OFB = 32;
+  static final int CFB1 = 40;
+  static final int CFB8 = 41;
+  static final int CFB64 = 48;
   static final int MAC_PADDING_1 = 1;
   static final int MAC_PADDING_2 = 2;
   static final int DES_WORDS = 17;
   static final int TDES_EDE2_WORDS = 33;
   static final int TDES_EDE3_WORDS = 49;
+  static final int STREAM_WORDS = 4;
   static final int CBC_MAC_DES_WORDS = 21;
   static final int CBC_MAC_TDES_EDE2_WORDS = 37;
   static final int CBC_MAC_TDES_EDE3_WORDS = 53;

@@ -94,7 +94,11 @@ public enum Status {
   /** The bytes end within the salt, or it does not have 0 or 8 bytes. */
   SALT_LENGTH("the bytes end within the salt, or it does not have 0 or 8 bytes"),
   /** The context is not one that the init of this type made. */
-  CONTEXT("the context is not one that the init of this type made");
+  CONTEXT("the context is not one that the init of this type made"),
+  /** The mode is not one that the call takes. */
+  MODE("the mode is not one that the call takes"),
+  /** The stream is not one that was begun. */
+  STREAM("the stream is not one that was begun");
 
   private static final Status[] BY_NUMBER = values();
 
