@@ -225,7 +225,12 @@ enum cukvashe_status {
  *
  * strerror gives a constant sentence for each status, and for other numbers. wipe writes zeros over `size` bytes, and
  * no compiler leaves that out.
+ *
+ * is_supported says whether this processor has all that the library's code takes: on x86-64 the features of x86-64-v2,
+ * elsewhere always. Where it is false, call nothing but version, strerror and wipe: other calls would end the program at
+ * an instruction that the processor does not have.
  */
+bool cukvashe_is_supported(void);
 const char *cukvashe_version(void);
 const char *cukvashe_strerror(int status);
 void cukvashe_wipe(void *pointer, size_t size);

@@ -73,13 +73,6 @@ static void take_configuration(struct provider *provider) {
   if (provider->small_stack) strcat(provider->build_info, " " SMALL_STACK);
 }
 
-/* The library's code is for x86-64-v2: an older processor must go on without it, and not end at an instruction. */
-static bool is_processor_new_enough(void) {
-  __builtin_cpu_init();
-  return __builtin_cpu_supports("ssse3") && __builtin_cpu_supports("sse4.1") && __builtin_cpu_supports("sse4.2") &&
-         __builtin_cpu_supports("popcnt");
-}
-
 /*
  * A known answer of DES ("Now is t"), as triple DES under a key of equal parts: of one block, and of a list, of more than
  * 128 blocks where vectors of 256 bits may be taken.
@@ -125,7 +118,8 @@ static bool may_serve(struct provider *provider) {
            "the provider is of version %s, the library in it of %s", CUKVASHE_VERSION, cukvashe_version());
     return false;
   }
-  if (!is_processor_new_enough()) return REFUSE(provider, PROV_R_NOT_SUPPORTED, "the processor is not of x86-64-v2");
+  /* An older processor must go on without it, and not end at an instruction. */
+  if (!cukvashe_is_supported()) return REFUSE(provider, PROV_R_NOT_SUPPORTED, "the processor is not of x86-64-v2");
   if (!self_test(provider)) return REFUSE(provider, PROV_R_SELF_TEST_KAT_FAILURE, NULL);
   return true;
 }

@@ -1,6 +1,6 @@
 /*
  * The C of the library that follows no rule (calls.c has the rest): the choice between two exports, by the length of a list and the processor;
- * the state of a terminal that has no key left; texts; and wiping.
+ * the state of a terminal that has no key left; whether the processor serves; texts; and wiping.
  */
 #include "internal.h"
 #include <string.h>
@@ -36,6 +36,15 @@ int cukvashe_dukpt_terminal_next_key(cukvashe_dukpt_terminal *terminal, uint8_t 
   const int result = cukvashe_unwiped_dukpt_terminal_next_key(terminal, serial, key);
   cukvashe_internal_wipe_stack(STACK_dukpt_terminal_next_key);
   return result;
+}
+
+bool cukvashe_is_supported(void) {
+#if HAS_WIDE
+  const struct processor words = cukvashe_internal_processor();
+  return cukvashe_internal_is_v2(&words);
+#else
+  return true;
+#endif
 }
 
 const char *cukvashe_version(void) { return CUKVASHE_VERSION; }

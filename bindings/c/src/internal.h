@@ -29,12 +29,13 @@ bool cukvashe_internal_takes_wide(size_t count);
 #define CHOOSE(COUNT, CALL, ...)                                                                                      \
   (cukvashe_internal_takes_wide(COUNT) ? cukvashe_wide_##CALL(__VA_ARGS__) : cukvashe_internal_##CALL(__VA_ARGS__))
 
-/* What decides whether a processor is of x86-64-v3: words that `cpuid` writes, and 0 for those that it does not have. */
+/* What decides which level of x86-64 a processor has: words that `cpuid` writes, and 0 for those that it does not have. */
 struct processor {
   uint32_t leaf_1_ecx, leaf_7_ebx, leaf_80000001_ecx;
   uint32_t xcr0; /* what the operating system saves (XGETBV of 0), or 0 if OSXSAVE is not set */
 };
 
+bool cukvashe_internal_is_v2(const struct processor *words);
 bool cukvashe_internal_is_v3(const struct processor *words);
 struct processor cukvashe_internal_processor(void);
 #else

@@ -1,4 +1,4 @@
-/* Which processor this is, if the library has wide calls. */
+/* Which processor this is, where there are several levels of it. */
 #include "internal.h"
 
 #if HAS_WIDE
@@ -19,7 +19,14 @@ struct processor cukvashe_internal_processor(void) {
 
 static bool has_all(uint32_t word, uint32_t bits) { return (word & bits) == bits; }
 
-/* The bits of x86-64-v3 beyond x86-64-v2 (the psABI's table of microarchitecture levels), and that the registers are saved. */
+/* The bits of x86-64-v2 (the psABI's table of microarchitecture levels). */
+bool cukvashe_internal_is_v2(const struct processor *words) {
+  const uint32_t sse3 = 1 << 0, ssse3 = 1 << 9, cmpxchg16b = 1 << 13, sse41 = 1 << 19, sse42 = 1 << 20, popcnt = 1 << 23;
+  const uint32_t lahf = 1 << 0;
+  return has_all(words->leaf_1_ecx, sse3 | ssse3 | cmpxchg16b | sse41 | sse42 | popcnt) && has_all(words->leaf_80000001_ecx, lahf);
+}
+
+/* The bits of x86-64-v3 beyond x86-64-v2, and that the registers are saved. */
 bool cukvashe_internal_is_v3(const struct processor *words) {
   const uint32_t fma = 1 << 12, movbe = 1 << 22, avx = 1 << 28, f16c = 1 << 29;
   const uint32_t bmi1 = 1 << 3, avx2 = 1 << 5, bmi2 = 1 << 8;

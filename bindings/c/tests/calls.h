@@ -1,4 +1,5 @@
 /* Each call of the header with arguments that it takes, by its name. Made by bindings/describe. */
+static void call_is_supported(void) { returned = cukvashe_is_supported(); }
 static void call_version(void) { returned = *cukvashe_version(); }
 static void call_strerror(void) { returned = *cukvashe_strerror(3); }
 static void call_wipe(void) { cukvashe_wipe((void *)rooms[0], sizeof blocks); }
@@ -375,6 +376,7 @@ static void call_mac_padding_2(void) { returned = cukvashe_mac_padding_2(); }
 
 /* The name of each call, the most that it uses of the stack, whether it wipes that, and whether it takes a list, and a context. */
 static const struct call calls[] = {
+    {"is_supported", call_is_supported, 6000, 0, 0, 0},
     {"version", call_version, 6000, 0, 0, 0},
     {"strerror", call_strerror, 6000, 0, 0, 0},
     {"wipe", call_wipe, 6000, 0, 0, 0},

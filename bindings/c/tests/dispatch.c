@@ -27,7 +27,7 @@ struct call {
 };
 
 static struct call last;
-static int calls, wipes, questions, is_v3;
+static int calls, wipes, questions, is_v2, is_v3;
 
 /* A status that no call has: it must come back as it is. */
 enum { STATUS = 4711 };
@@ -39,8 +39,17 @@ struct processor cukvashe_internal_processor(void) {
   return words;
 }
 
-bool cukvashe_internal_is_v3(const struct processor *words) {
+static void are_those(const struct processor *words) {
   CHECK(words->leaf_1_ecx == 1 && words->leaf_7_ebx == 2 && words->leaf_80000001_ecx == 3 && words->xcr0 == 4);
+}
+
+bool cukvashe_internal_is_v2(const struct processor *words) {
+  are_those(words);
+  return is_v2;
+}
+
+bool cukvashe_internal_is_v3(const struct processor *words) {
+  are_those(words);
   return is_v3;
 }
 #endif
@@ -449,6 +458,7 @@ int main(int count, char **words) {
   refuses_counts();
   for (size_t i = 0; i < sizeof lengths / sizeof *lengths; i++) hands_on_any_blocks(lengths[i]);
   CHECK(questions == HAS_WIDE);
+  for (is_v2 = 0; is_v2 < 2; is_v2++) CHECK(cukvashe_is_supported() == (is_v2 || !HAS_WIDE));
   hands_on_the_rest();
   hands_on_structs();
   hands_on_a_terminal();

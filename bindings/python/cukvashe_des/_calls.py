@@ -7,6 +7,7 @@ POINTER, SIZE, UINT64 = ctypes.c_void_p, ctypes.c_size_t, ctypes.c_uint64
 INT, BOOL, TEXT = ctypes.c_int, ctypes.c_bool, ctypes.c_char_p
 
 CALLS: Dict[str, Tuple[Any, ...]] = {
+    "is_supported": (BOOL,),
     "version": (TEXT,),
     "strerror": (TEXT, INT),
     "wipe": (None, POINTER, SIZE),

@@ -42,11 +42,12 @@ def _place() -> str:
 
 
 def _load() -> ctypes.CDLL:
-    """The library. Another version could need more memory for a context than this package gives it."""
+    """The library. Another version could need more memory for a context than this package gives it, and an
+    older processor would end the process."""
     place = _place()
     try:
         loaded = ctypes.CDLL(place)
-        ask = loaded.cukvashe_version
+        ask, is_supported = loaded.cukvashe_version, loaded.cukvashe_is_supported
     except (OSError, AttributeError) as error:
         build = "run `pip install ./bindings/python` or `make` in its repository"
         raise ImportError(f"{place} is not the library: {build}, or name it by CUKVASHE_DES_LIBRARY") from error
@@ -54,6 +55,9 @@ def _load() -> ctypes.CDLL:
     version = ask().decode("ascii")
     if version.split(".")[:2] != __version__.split(".")[:2]:
         raise ImportError(f"{place} has version {version}, and the package version {__version__}")
+    is_supported.restype = ctypes.c_bool
+    if not is_supported():
+        raise ImportError(f"{place} needs a processor of x86-64-v2 (SSE4.2), which this one is not")
     return loaded
 
 

@@ -213,6 +213,16 @@ class Package(unittest.TestCase):
                 else:
                     self.assertIs(_library._load(), library)
 
+    def test_old_processor(self):
+        """A library that does not support the processor is refused before any other call."""
+        library = mock.Mock()
+        library.cukvashe_version.return_value = cukvashe_des.__version__.encode()
+        library.cukvashe_is_supported.return_value = False
+        with mock.patch.object(ctypes, "CDLL", return_value=library):
+            self.assertRaisesRegex(ImportError, "needs a processor of x86-64-v2", _library._load)
+        self.assertIs(library.cukvashe_is_supported.restype, ctypes.c_bool)
+        self.assertIs(_library.function("is_supported")(), True)
+
 
 if __name__ == "__main__":
     unittest.main()

@@ -454,3 +454,15 @@ pub fn equal_but_parity<const SIZE: usize>(first: &[u8; SIZE], second: &[u8; SIZ
     // SAFETY: the pointers are of references, good for the length, which are only read.
     unsafe { ffi::cukvashe_equal_but_parity(first.as_ptr(), second.as_ptr(), SIZE) }
 }
+
+/// Whether this processor has all that the library's code takes: on x86-64 the features of x86-64-v2, elsewhere always. Where it
+/// is false, make no other call: the program would end at an instruction that the processor does not have.
+///
+/// ```
+/// assert!(cukvashe_des::is_supported());
+/// ```
+#[must_use]
+pub fn is_supported() -> bool {
+    // SAFETY: the call takes nothing.
+    unsafe { ffi::cukvashe_is_supported() }
+}

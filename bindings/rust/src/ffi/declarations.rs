@@ -88,6 +88,7 @@ pub struct KeyBlockParts {
 }
 
 extern "C" {
+    pub fn cukvashe_is_supported() -> bool;
     pub fn cukvashe_version() -> *const c_char;
     pub fn cukvashe_strerror(status: c_int) -> *const c_char;
     pub fn cukvashe_wipe(pointer: *mut c_void, size: usize);
