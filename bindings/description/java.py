@@ -18,7 +18,7 @@ from .wrappers import wrapped
 # C for tests and buffers of its own, which Java does not take.
 NOT_TAKEN = {"wipe", "strerror", "pad", "compare_tags"}
 # Of the calls with a context, those that are made here: the others are the ones whose speed counts, which are written by hand.
-WITH_CONTEXT = ("_init", "_init_no_tables", "_records")
+WITH_CONTEXT = ("_init", "_init_no_tables", "_records", "stream_begin")
 
 # By the bytes of an element: the type of an array in Java, in C, and in the name of a method's type.
 ARRAYS = {1: ("byte[]", "jbyteArray", "[B"), 8: ("long[]", "jlongArray", "[J")}

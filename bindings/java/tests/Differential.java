@@ -322,6 +322,37 @@ public final class Differential {
     }
   }
 
+  /** The modes without padding, in pieces of any length, by one call of the others. */
+  static void modes(int cases, Random random) throws Exception {
+    for (int number = 0; number < cases; number++) {
+      byte[] key = new byte[random.nextBoolean() ? 24 : 8];
+      byte[] iv = new byte[8];
+      random.nextBytes(key);
+      random.nextBytes(iv);
+      String name = key.length == 8 ? "DES" : "DESede";
+      String transformation = name + "/" + List.of("CTR", "OFB", "CFB", "CFB8", "OFB64", "CFB64").get(random.nextInt(6)) + "/NoPadding";
+      int opmode = random.nextBoolean() ? Cipher.ENCRYPT_MODE : Cipher.DECRYPT_MODE;
+      List<byte[]> messages = new ArrayList<>();
+      List<List<Step>> plans = new ArrayList<>();
+      List<List<Step>> whole = new ArrayList<>();
+      for (int message = 0; message < 1 + random.nextInt(3); message++) {
+        byte[] bytes = new byte[random.nextInt(random.nextInt(40) == 0 ? 20000 : 60)];
+        random.nextBytes(bytes);
+        messages.add(bytes);
+        plans.add(plan(random, bytes.length));
+        whole.add(List.of(new Step(true, Way.RETURNED, bytes.length, 0, 0)));
+      }
+      SecretKeySpec spec = new SecretKeySpec(key, name);
+      Trace ours = of(random.nextBoolean() ? TABLES : NO_TABLES, transformation, opmode, spec, iv, messages, plans);
+      for (Provider other : List.of(SUN, BC)) {
+        if (!of(other, transformation, opmode, spec, iv, messages, whole).messages.equals(ours.messages)) {
+          count("DIFFERS from " + other.getName() + " in " + transformation);
+        }
+      }
+      count(transformation);
+    }
+  }
+
   static byte[] mac(Mac mac, byte[] message, Random random) throws Exception {
     int from = 0;
     while (from < message.length) {
@@ -393,7 +424,8 @@ public final class Differential {
     int cases = Integer.parseInt(arguments[0]);
     Random random = new Random(Long.parseLong(arguments[1]));
     ciphers(cases, random);
-    macs(cases / 4, random);
+    macs(cases / 8, random);
+    modes(cases / 8, random);
     COUNTS.forEach((what, times) -> System.out.println(times + "\t" + what));
     for (String what : List.of("whole", "short buffer", "BadPaddingException", "IllegalBlockSizeException")) {
       if (!COUNTS.containsKey(what)) {

@@ -39,8 +39,8 @@ public final class Lifecycle {
     Provider first = Security.getProviders()[0];
     check(first.getName().equals("Cukvashe"), "the first provider is " + first);
     check(owner(CBC).equals("Cukvashe"), "DESede is of " + owner(CBC));
-    Cipher counter = Cipher.getInstance("DESede/CTR/NoPadding");
-    check(counter.getProvider().getName().equals("SunJCE"), "CTR is of " + counter.getProvider());
+    Cipher other = Cipher.getInstance("DESede/PCBC/NoPadding");
+    check(other.getProvider().getName().equals("SunJCE"), "PCBC is of " + other.getProvider());
     check(owner("AES/GCM/NoPadding").equals("SunJCE"), "AES is of " + owner("AES/GCM/NoPadding"));
     check(KeyGenerator.getInstance("TripleDES").getProvider() == first, "the generator is another's");
     try {

@@ -78,6 +78,19 @@ static jint JNICALL call_tdes_ede3_init_no_tables(JNIEnv *env, jclass class, jlo
   return answer;
 }
 
+static jint JNICALL call_stream_begin(JNIEnv *env, jclass class, jlongArray stream, jint mode, jbyteArray iv) {
+  (void)class;
+  struct array arrays[] = {
+    {stream, 8, sizeof(cukvashe_stream), true, NULL, 0},
+    {iv, 1, 8, false, NULL, 0},
+  };
+  struct copies copies;
+  if (!copied(env, &copies, arrays, LENGTH_OF(arrays))) return 0;
+  int answer = cukvashe_stream_begin(arrays[0].at, mode, arrays[1].at);
+  given_back(env, &copies, arrays, LENGTH_OF(arrays), answer == CUKVASHE_OK);
+  return answer;
+}
+
 static jint JNICALL call_des_encrypt_each(JNIEnv *env, jclass class, jbyteArray keys, jbyteArray blocks) {
   (void)class;
   struct array arrays[] = {
@@ -1659,6 +1672,7 @@ static jint JNICALL call_tdes_ede3_open_salted(JNIEnv *env, jclass class, jint h
   {(char *)"desInitNoTables", (char *)"([J[B)I", (void *)call_des_init_no_tables}, \
   {(char *)"tdesEde2InitNoTables", (char *)"([J[B)I", (void *)call_tdes_ede2_init_no_tables}, \
   {(char *)"tdesEde3InitNoTables", (char *)"([J[B)I", (void *)call_tdes_ede3_init_no_tables}, \
+  {(char *)"streamBegin", (char *)"([JI[B)I", (void *)call_stream_begin}, \
   {(char *)"desEncryptEach", (char *)"([B[B)I", (void *)call_des_encrypt_each}, \
   {(char *)"desDecryptEach", (char *)"([B[B)I", (void *)call_des_decrypt_each}, \
   {(char *)"tdesEde2EncryptEach", (char *)"([B[B)I", (void *)call_tdes_ede2_encrypt_each}, \

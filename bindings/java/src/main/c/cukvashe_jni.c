@@ -202,6 +202,46 @@ static jlong JNICALL blocks(JNIEnv *env, jclass class, jlongArray words, jint wa
   return (jlong)load(vector);
 }
 
+#define RUN_STREAM(NAME, CONTEXT)                                                                                      \
+  return decrypts ? cukvashe_##NAME##_decrypt_stream(CONTEXT, stream, data, length)                                    \
+                  : cukvashe_##NAME##_encrypt_stream(CONTEXT, stream, data, length);
+
+static int run_stream(const cipher *keys, jint count, bool decrypts, cukvashe_stream *stream, uint8_t *data, size_t length) {
+  switch ((size_t)count * 8) {
+  case sizeof(cukvashe_des): RUN_STREAM(des, &keys->des)
+  case sizeof(cukvashe_tdes_ede2): RUN_STREAM(tdes_ede2, &keys->ede2)
+  case sizeof(cukvashe_tdes_ede3): RUN_STREAM(tdes_ede3, &keys->ede3)
+  default: return CUKVASHE_ERR_CONTEXT;
+  }
+}
+
+/* The bytes that come next in a stream, in place, a piece after the other. */
+static void JNICALL next(JNIEnv *env, jclass class, jlongArray words, jlongArray state, jboolean decrypts, jbyteArray data, jint offset,
+                         jint length) {
+  (void)class;
+  cipher keys;
+  cukvashe_stream stream;
+  uint8_t copy[PIECE];
+  int status = CUKVASHE_OK;
+  jint count = take(env, words, &keys);
+  if (count == 0) return;
+  (*env)->GetLongArrayRegion(env, state, 0, sizeof stream / 8, (jlong *)stream.words);
+  for (jint done = 0, size; done < length && status == CUKVASHE_OK && !(*env)->ExceptionCheck(env); done += size) {
+    size = length - done < PIECE ? length - done : PIECE;
+    (*env)->GetByteArrayRegion(env, data, offset + done, size, (jbyte *)copy);
+    if ((*env)->ExceptionCheck(env)) break;
+    status = run_stream(&keys, count, decrypts != JNI_FALSE, &stream, copy, (size_t)size);
+    (*env)->SetByteArrayRegion(env, data, offset + done, size, (const jbyte *)copy);
+  }
+  if (!(*env)->ExceptionCheck(env)) {
+    (*env)->SetLongArrayRegion(env, state, 0, sizeof stream / 8, (const jlong *)stream.words);
+    if (status != CUKVASHE_OK) fails(env, status);
+  }
+  cukvashe_wipe(copy, (size_t)(length < PIECE ? length : PIECE));
+  cukvashe_wipe(&stream, sizeof stream);
+  cukvashe_wipe(&keys, 8 * (size_t)count);
+}
+
 /* -- MACs: all state is an array of words on Java's heap -- */
 
 typedef union {
@@ -294,6 +334,7 @@ static jstring JNICALL version(JNIEnv *env, jclass class) {
 static const JNINativeMethod methods[] = {
   {(char *)"block", (char *)"([JIJ)J", (void *)block},
   {(char *)"blocks", (char *)"([JIJ[BII)J", (void *)blocks},
+  {(char *)"next", (char *)"([J[JZ[BII)V", (void *)next},
   {(char *)"macUpdate", (char *)"(I[J[BII)V", (void *)mac_update},
   {(char *)"macFinal", (char *)"(I[J[BI)J", (void *)mac_final},
   {(char *)"version", (char *)"()Ljava/lang/String;", (void *)version},

@@ -7,8 +7,8 @@ import java.util.Map;
 import java.util.function.Function;
 
 /**
- * The provider {@code Cukvashe}: ciphers {@code DES} and {@code DESede} in ECB and CBC, without padding or with that of PKCS#5; CBC-MAC,
- * retail MAC and CMAC under the names of Bouncy Castle; key factories, key generators and parameters.
+ * The provider {@code Cukvashe}: ciphers {@code DES} and {@code DESede} in ECB and CBC, without padding or with that of PKCS#5, and in CTR,
+ * OFB, CFB and CFB8; CBC-MAC, retail MAC and CMAC under the names of Bouncy Castle; key factories, key generators and parameters.
  *
  * <p>{@code Security.insertProviderAt(new CukvasheProvider(), 1)} or {@code security.provider.1=Cukvashe} in {@code java.security} makes it
  * the first. With the argument {@code no_tables} no call reads a table at an address that depends on a key or data: {@code new
@@ -37,8 +37,7 @@ public final class CukvasheProvider extends Provider {
     for (Algorithm algorithm : Algorithm.values()) {
       List<String> aliases = algorithm == Algorithm.DESEDE ? List.of("TripleDES") : List.of();
       Map<String, String> attributes =
-          Map.of("SupportedModes", "ECB|CBC", "SupportedPaddings", "NOPADDING|PKCS5PADDING|PKCS7PADDING", "SupportedKeyFormats", "RAW");
-      // Other modes are services of their own, as DESede/CFB8.
+          Map.of("SupportedModes", Mode.NAMES, "SupportedPaddings", "NOPADDING|PKCS5PADDING|PKCS7PADDING", "SupportedKeyFormats", "RAW");
       add("Cipher", algorithm.title, aliases, attributes, provider -> new DesCipher(provider, algorithm));
       add("AlgorithmParameters", algorithm.title, aliases, Map.of(), provider -> new DesParameters());
       add("SecretKeyFactory", algorithm.title, aliases, Map.of(), provider -> new DesKeyFactory(algorithm));
@@ -68,7 +67,7 @@ public final class CukvasheProvider extends Provider {
     if (Native.FAULT != null) {
       return "nothing is offered: " + Native.FAULT.getMessage();
     }
-    return "DES and triple DES (ECB, CBC), CBC-MAC, retail MAC, CMAC" + (readsTables ? "" : ", without tables");
+    return "DES and triple DES (ECB, CBC, CTR, OFB, CFB, CFB8), CBC-MAC, retail MAC, CMAC" + (readsTables ? "" : ", without tables");
   }
 
   boolean readsTables() {

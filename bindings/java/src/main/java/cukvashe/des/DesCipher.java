@@ -29,7 +29,7 @@ import javax.crypto.spec.IvParameterSpec;
 import javax.crypto.spec.SecretKeySpec;
 
 /**
- * DES and triple DES in the modes of whole blocks, ECB and CBC.
+ * DES and triple DES in ECB, CBC, and the modes without padding, which hold no bytes.
  *
  * <p>All work is in place: the input is copied to where the output goes, after what is held, and the blocks there are encrypted or
  * decrypted. So arrays may overlap in any way. What is held for the next call is saved before anything is written, and sizes are known
@@ -41,7 +41,7 @@ final class DesCipher extends CipherSpi {
 
   private final CukvasheProvider provider;
   private final Algorithm algorithm;
-  private boolean isCbc;
+  private Mode mode = Mode.ECB;
   private boolean pads = true;
 
   private RoundKeys keys;
@@ -49,6 +49,9 @@ final class DesCipher extends CipherSpi {
   private boolean hasIv;
   private long iv;
   private long chain;
+
+  /** Where a mode without padding stands. */
+  private final long[] stream = new long[Native.STREAM_WORDS];
 
   /** Bytes that wait for a whole block; in decryption with padding also a block that may be the last. */
   private byte[] held = new byte[2 * BLOCK];
@@ -63,24 +66,16 @@ final class DesCipher extends CipherSpi {
 
   @Override
   protected void engineSetMode(String mode) throws NoSuchAlgorithmException {
-    isCbc = mode.toUpperCase(Locale.ROOT).equals("CBC");
-    if (!isCbc && !mode.toUpperCase(Locale.ROOT).equals("ECB")) {
-      throw new NoSuchAlgorithmException("there is no mode " + mode);
-    }
+    this.mode = Mode.of(mode);
+    pads &= !this.mode.isStream();
   }
 
   @Override
   protected void engineSetPadding(String padding) throws NoSuchPaddingException {
-    switch (padding.toUpperCase(Locale.ROOT)) {
-      case "NOPADDING":
-        pads = false;
-        break;
-      case "PKCS5PADDING":
-      case "PKCS7PADDING":
-        pads = true;
-        break;
-      default:
-        throw new NoSuchPaddingException("there is no padding " + padding);
+    String name = padding.toUpperCase(Locale.ROOT);
+    pads = name.equals("PKCS5PADDING") || name.equals("PKCS7PADDING");
+    if (pads ? mode.isStream() : !name.equals("NOPADDING")) {
+      throw new NoSuchPaddingException("there is no padding " + padding + " in " + mode);
     }
   }
 
@@ -114,7 +109,7 @@ final class DesCipher extends CipherSpi {
 
   @Override
   protected AlgorithmParameters engineGetParameters() {
-    if (!isCbc) {
+    if (mode == Mode.ECB) {
       return null;
     }
     byte[] bytes = hasIv ? engineGetIV() : random(null);
@@ -163,7 +158,7 @@ final class DesCipher extends CipherSpi {
       throws InvalidKeyException, InvalidAlgorithmParameterException {
     boolean isInverse = opmode == Cipher.DECRYPT_MODE || opmode == Cipher.UNWRAP_MODE;
     byte[] vector = vectorOf(parameters);
-    if (isCbc && vector == null) {
+    if (mode != Mode.ECB && vector == null) {
       if (isInverse) {
         throw new InvalidAlgorithmParameterException("decryption needs an initialization vector");
       }
@@ -197,7 +192,7 @@ final class DesCipher extends CipherSpi {
     if (vector.length != BLOCK) {
       throw new InvalidAlgorithmParameterException("an initialization vector has " + BLOCK + " bytes, not " + vector.length);
     }
-    if (!isCbc) {
+    if (mode == Mode.ECB) {
       throw new InvalidAlgorithmParameterException("ECB takes no initialization vector");
     }
     return vector;
@@ -213,18 +208,33 @@ final class DesCipher extends CipherSpi {
     chain = iv;
     count = 0;
     Arrays.fill(held, (byte) 0);
+    if (mode.isStream()) {
+      Native.streamBegin(stream, mode.number, engineGetIV());
+    }
   }
 
   // -- Blocks --
 
   private int way() {
-    return (decrypts ? Native.DECRYPT : 0) | (isCbc ? Native.CBC : 0);
+    return (decrypts ? Native.DECRYPT : 0) | (mode == Mode.CBC ? Native.CBC : 0);
+  }
+
+  /** Encrypts or decrypts bytes in place, in modes of blocks whole ones. */
+  private void run(byte[] data, int offset, int length) {
+    if (length == 0) {
+      return;
+    }
+    if (mode.isStream()) {
+      keys.next(stream, decrypts, data, offset, length);
+    } else {
+      chain = keys.run(way(), chain, data, offset, length);
+    }
   }
 
   /** Of how many of the bytes that are here update makes something: whole blocks, and not the one that may be the last with padding. */
   private int ready(int total) {
     int most = pads && decrypts ? Math.max(0, total - BLOCK) : total;
-    return most - most % BLOCK;
+    return mode.isStream() ? most : most - most % BLOCK;
   }
 
   private static void needs(int size, int room) throws ShortBufferException {
@@ -254,9 +264,7 @@ final class DesCipher extends CipherSpi {
   /** Encrypts or decrypts {@code size} bytes of what is held and the input. */
   private void work(byte[] input, int offset, int length, byte[] output, int at, int size) {
     gather(input, offset, length, output, at, size);
-    if (size != 0) {
-      chain = keys.run(way(), chain, output, at, size);
-    }
+    run(output, at, size);
   }
 
   @Override
@@ -310,7 +318,7 @@ final class DesCipher extends CipherSpi {
     int total = Math.addExact(count, length);
     int padding = pads && !decrypts ? BLOCK - total % BLOCK : 0;
     // What can't be long enough is short, whatever else is wrong.
-    needs(decrypts ? total - BLOCK : total + padding, room);
+    needs(decrypts && !mode.isStream() ? total - BLOCK : total + padding, room);
     whole(total);
     if (pads && decrypts && total != 0) {
       return unpad(input, offset, length, output, at, room);
@@ -318,15 +326,13 @@ final class DesCipher extends CipherSpi {
     needs(total + padding, room);
     gather(input, offset, length, output, at, total);
     Arrays.fill(output, at + total, at + total + padding, (byte) padding);
-    if (total + padding != 0) {
-      keys.run(way(), chain, output, at, total + padding);
-    }
+    run(output, at, total + padding);
     reset();
     return total + padding;
   }
 
   private void whole(int total) throws IllegalBlockSizeException {
-    if (total % BLOCK != 0 && (decrypts || !pads)) {
+    if (total % BLOCK != 0 && (decrypts || !pads) && !mode.isStream()) {
       throw new IllegalBlockSizeException(Status.BLOCKS.sentence());
     }
   }
@@ -336,7 +342,7 @@ final class DesCipher extends CipherSpi {
       throws ShortBufferException, BadPaddingException {
     int before = count + length - BLOCK;
     long last = keys.decrypted(word(before, input, offset));
-    if (isCbc) {
+    if (mode == Mode.CBC) {
       last ^= before == 0 ? chain : word(before - BLOCK, input, offset);
     }
     int padding = padding(last);

@@ -33,6 +33,9 @@ final class Native {
   /** Encrypts or decrypts whole blocks in place. The next vector. */
   static native long blocks(long[] context, int way, long iv, byte[] data, int offset, int length);
 
+  /** Encrypts or decrypts the bytes that come next in a stream, in place. */
+  static native void next(long[] context, long[] stream, boolean decrypts, byte[] data, int offset, int length);
+
   /** Adds bytes to the message. */
   static native void macUpdate(int mac, long[] context, byte[] data, int offset, int length);
 
@@ -101,6 +104,8 @@ final class Native {
   static native int tdesEde2InitNoTables(long[] context, byte[] key);
 
   static native int tdesEde3InitNoTables(long[] context, byte[] key);
+
+  static native int streamBegin(long[] stream, int mode, byte[] iv);
 
   static native int desEncryptEach(byte[] keys, byte[] blocks);
 

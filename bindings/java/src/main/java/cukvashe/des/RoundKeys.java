@@ -41,6 +41,11 @@ final class RoundKeys {
     return Native.blocks(context, way, iv, data, offset, length);
   }
 
+  /** Encrypts or decrypts the bytes that come next in a stream, in place. */
+  void next(long[] stream, boolean decrypts, byte[] data, int offset, int length) {
+    Native.next(context, stream, decrypts, data, offset, length);
+  }
+
   /** Encrypts or decrypts records in place; each vector becomes the last ciphertext block. The status. */
   int records(boolean decrypts, byte[] vectors, long[] counts, byte[] data) {
     switch (context.length) {
