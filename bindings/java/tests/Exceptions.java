@@ -181,6 +181,10 @@ public final class Exceptions {
     CALLS.put("doFinal buffers, short", p -> cbc(p, ENCRYPT, "NoPadding").doFinal(ByteBuffer.allocate(16), ByteBuffer.allocate(8)));
     CALLS.put("doFinal buffers, 15 bytes and short", p -> cbc(p, ENCRYPT, "NoPadding").doFinal(ByteBuffer.allocate(15), ByteBuffer.allocate(0)));
     CALLS.put("doFinal, 15 bytes and short", p -> cbc(p, ENCRYPT, "NoPadding").doFinal(new byte[15], 0, 15, new byte[0], 0));
+    CALLS.put("OFB, bytes of an update of 3", p -> {
+      return cipher(p, "DESede/OFB/NoPadding", ENCRYPT, key(24, "DESede"), IV).update(new byte[3]).length;
+    });
+    CALLS.put("CTR, PKCS5Padding", p -> Cipher.getInstance("DESede/CTR/PKCS5Padding", p));
     CALLS.put("updateAAD", p -> {
       cbc(p, ENCRYPT, "NoPadding").updateAAD(new byte[8]);
       return "none";
