@@ -341,24 +341,14 @@ static const JNINativeMethod methods[] = {
   CALLS_OF_HEADER
 };
 
-/* Whether this processor has what the library needs. Java runs on older ones too, where a call would end the program. */
-static bool is_supported(void) {
-#ifdef __x86_64__
-  __builtin_cpu_init();
-  return __builtin_cpu_supports("ssse3") && __builtin_cpu_supports("sse4.1") && __builtin_cpu_supports("sse4.2") &&
-         __builtin_cpu_supports("popcnt");
-#else
-  return true;
-#endif
-}
-
 /* The only export. The names of Java's methods are bound here, so one that has another type is refused when the library is loaded. */
 JNIEXPORT jint JNICALL JNI_OnLoad(JavaVM *machine, void *reserved) {
   (void)reserved;
   JNIEnv *env;
   if ((*machine)->GetEnv(machine, (void **)&env, JNI_VERSION_1_8) != JNI_OK) return JNI_ERR;
-  if (!is_supported()) {
-    throws(env, "java/lang/UnsatisfiedLinkError", "this processor lacks SSE4.2");
+  /* Java runs on older processors too, where a call would end the program. */
+  if (!cukvashe_is_supported()) {
+    throws(env, "java/lang/UnsatisfiedLinkError", "this processor lacks what x86-64-v2 has");
     return JNI_ERR;
   }
   jclass class = (*env)->FindClass(env, "cukvashe/des/Native");
