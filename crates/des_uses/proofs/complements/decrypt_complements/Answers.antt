@@ -29,5 +29,5 @@ returns-clause-processed g c =
     (g.met.C.KeyedCipher.decrypts_by_key cipher (complement key) (complement block)
     (IsKey-complement size key is_key) made (IsKey-complement 8 block is_block)) in
     ◌∙◌ {b = g.C.KeyedCipher.decryption (complement key) (complement block)}
-    (◌∙◌ {b = answers c.complement_bytes-2.new.bytes} c.decrypt_block.ensures processed)
+    (◌∙◌ {b = answers c.complement_bytes-2.new.bytes} c.decrypt_block.ensures answered)
     (g.met.C.Complementing.decryption_complements key block is_key is_block)

@@ -29,5 +29,5 @@ returns-clause-processed g c =
     (g.met.C.KeyedCipher.encrypts_by_key cipher (complement key) (complement block)
     (IsKey-complement size key is_key) made (IsKey-complement 8 block is_block)) in
     ◌∙◌ {b = g.C.KeyedCipher.encryption (complement key) (complement block)}
-    (◌∙◌ {b = answers c.complement_bytes-2.new.bytes} c.encrypt_block.ensures processed)
+    (◌∙◌ {b = answers c.complement_bytes-2.new.bytes} c.encrypt_block.ensures answered)
     (g.met.C.Complementing.encryption_complements key block is_key is_block)
