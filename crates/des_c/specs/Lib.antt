@@ -6,6 +6,7 @@ pub mod TranslationStatuses
 pub mod EmvStatuses
 pub mod KeyBlockStatuses
 pub mod KeyBlockTexts
+pub mod KeyWraps
 pub mod Formats
 pub mod Statuses
 pub mod Texts

@@ -18,6 +18,7 @@
 #![tactic(auto)]
 
 mod contexts;
+mod key_wrap;
 mod keys;
 mod lists;
 mod macs;
