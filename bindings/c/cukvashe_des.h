@@ -23,9 +23,10 @@
  *
  * STATUSES
  *
- * A call that can refuse its arguments returns CUKVASHE_OK, or a CUKVASHE_ERR_.., and then it has changed nothing. Each
- * section names its errors in order: the first that applies is returned. CUKVASHE_OK is 0, so `if` is true for a wrong
- * tag or PIN where it asks verify: let it ask is_tag or is_pin, which are true for the right one alone.
+ * A call that can refuse its arguments returns CUKVASHE_OK, or a CUKVASHE_ERR_.., and then it has changed nothing (but
+ * see KEY WRAP). Each section names its errors in order: the first that applies is returned. CUKVASHE_OK is 0, so `if`
+ * is true for a wrong tag or PIN where it asks verify: let it ask is_tag or is_pin, which are true for the right one
+ * alone.
  *
  * WHAT YOU MUST UPHOLD
  *
@@ -172,6 +173,8 @@ enum cukvashe_status {
   CUKVASHE_ERR_CONTEXT = 44,               /* the context is not one that the init of this type made */
   CUKVASHE_ERR_MODE = 45,                  /* the mode is not one that the call takes */
   CUKVASHE_ERR_STREAM = 46,                /* the stream is not one that was begun */
+  CUKVASHE_ERR_WRAPPED_LENGTH = 47,        /* the wrapped key does not have a length that it can have */
+  CUKVASHE_ERR_WRAPPED_KEY = 48,           /* the bytes are no key that was wrapped under the protection key */
 };
 
 /* Sizes, in bytes. */
@@ -438,6 +441,43 @@ CUKVASHE_CHECK int cukvashe_tdes_ede3_encrypt_stream_bits(const cukvashe_tdes_ed
 CUKVASHE_CHECK int cukvashe_tdes_ede3_decrypt_stream_bits(const cukvashe_tdes_ede3 *context, cukvashe_stream *stream,
                                                           uint8_t *data, size_t bits);
 void cukvashe_stream_position(const cukvashe_stream *stream, uint8_t iv[8], size_t *used);
+
+/*
+ * KEY WRAP
+ *
+ * A key encrypted and authenticated under a protection key, one of triple DES of 16 or 24 bytes: by the key wrap of CMS
+ * (RFC 3217, of keys of any number of blocks), and by TKW (NIST SP 800-38F, 7). Parity stays as it is, and nothing
+ * looks at it. No call reads a table (see SECRETS AND TIME).
+ *
+ * int cukvashe_cms_wrap_key(const uint8_t *protection, size_t protection_length, const uint8_t iv[8],
+ *                           const uint8_t *key, size_t key_length, uint8_t *wrapped, size_t capacity,
+ *                           size_t *wrapped_length)
+ * int cukvashe_tkw_wrap_key(const uint8_t *protection, size_t protection_length, const uint8_t *key,
+ *                           size_t key_length, uint8_t *wrapped, size_t capacity, size_t *wrapped_length)
+ *
+ * Writes the wrapped key, which is 16 bytes longer in CMS and 4 bytes in TKW, and its length to `wrapped_length`. `iv`
+ * is random. CMS takes keys of 8 bytes or a multiple, TKW keys of 8 bytes or more, a multiple of 4 below 2^30. Errors of
+ * cms_wrap_key: CUKVASHE_ERR_PROTECTION_KEY_LENGTH; _BLOCKS also if `key_length` is 0; _CAPACITY. Errors of
+ * tkw_wrap_key: CUKVASHE_ERR_PROTECTION_KEY_LENGTH, _KEY_LENGTH, _CAPACITY.
+ *
+ * int cukvashe_cms_unwrap_key(const uint8_t *protection, size_t protection_length, const uint8_t *wrapped,
+ *                             size_t wrapped_length, uint8_t *key, size_t capacity, size_t *key_length)
+ * int cukvashe_tkw_unwrap_key(const uint8_t *protection, size_t protection_length, const uint8_t *wrapped,
+ *                             size_t wrapped_length, uint8_t *key, size_t capacity, size_t *key_length)
+ *
+ * Writes the key, and its length to `key_length`. Errors of cms_unwrap_key: CUKVASHE_ERR_PROTECTION_KEY_LENGTH,
+ * _WRAPPED_LENGTH, _CAPACITY; _WRAPPED_KEY, and then zeros stand where the key would. Errors of tkw_unwrap_key:
+ * CUKVASHE_ERR_PROTECTION_KEY_LENGTH, _WRAPPED_LENGTH, _CAPACITY; _WRAPPED_KEY, and then zeros stand where the key would.
+ */
+CUKVASHE_CHECK int cukvashe_cms_wrap_key(const uint8_t *protection, size_t protection_length, const uint8_t iv[8],
+                                         const uint8_t *key, size_t key_length, uint8_t *wrapped, size_t capacity,
+                                         size_t *wrapped_length);
+CUKVASHE_CHECK int cukvashe_cms_unwrap_key(const uint8_t *protection, size_t protection_length, const uint8_t *wrapped,
+                                           size_t wrapped_length, uint8_t *key, size_t capacity, size_t *key_length);
+CUKVASHE_CHECK int cukvashe_tkw_wrap_key(const uint8_t *protection, size_t protection_length, const uint8_t *key,
+                                         size_t key_length, uint8_t *wrapped, size_t capacity, size_t *wrapped_length);
+CUKVASHE_CHECK int cukvashe_tkw_unwrap_key(const uint8_t *protection, size_t protection_length, const uint8_t *wrapped,
+                                           size_t wrapped_length, uint8_t *key, size_t capacity, size_t *key_length);
 
 /*
  * BLOCKS UNDER KEYS OF THEIR OWN

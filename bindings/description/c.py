@@ -52,6 +52,8 @@ class Library:
         """Whether the export takes and returns the same. A name that both have then stands at one place: of two texts that nothing but their
         names tells apart, one would be taken for the other."""
         export = self.exports[call.name]
+        if any("[[" in kind for _, kind in export.pairs):  # its numbers are of elements, the header's of bytes
+            return False
         names = [name_of(it) for it in export.arguments]
         shapes = [shape(it) for it in arguments_of(call)], [shape(it) for it in export.arguments]
         if shapes[0] != shapes[1] or call.result.base != export.result:

@@ -154,6 +154,8 @@ class OverExport:
         size = re.fullmatch(r"&(?:mut )?\[\[u8; (\d+)\]\]", kind)
         if size and own not in self.values and "length" in self.values and "size" in self.named:
             return [BLOCKS]
+        if size and "capacity" in self.values:
+            return [f"{self._taken('capacity')} / {size[1]}"]
         if size or "usize" in kind or "bool" in kind or "&[u8]" in kind[1:]:
             return [self._taken(self.count or "count")]
         if its.sizes:

@@ -21,6 +21,7 @@ BY_NAME = {
     "second": "others", "sequence": '"00"', "sequence_length": "2", "serial": "serial", "service": '"101"', "service_length": "3",
     "session": "key", "size": "sizeof blocks", "status": "3", "table": "&table", "tag_length": "8", "terminal": "&terminal",
     "transaction": "key", "translation": "&translations[0]", "value": "pin_digits", "value_length": "4",
+    "wrapped_length": "40",
 }  # fmt: skip
 # Of lists that have a length beside their count, the size of an element.
 ELEMENTS = {"keys_length": 16, "tags_length": 8, "expected_length": 8, "values_length": 3, "serials_length": 10, "vectors_length": 8}

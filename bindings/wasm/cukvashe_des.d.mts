@@ -141,6 +141,10 @@ export class IterationCount extends CukvasheError {}
 export class NotSalted extends CukvasheError {}
 /** The bytes end within the salt, or it does not have 0 or 8 bytes. */
 export class SaltLength extends CukvasheError {}
+/** The wrapped key does not have a length that it can have. */
+export class WrappedLength extends CukvasheError {}
+/** The bytes are no key that was wrapped under the protection key. */
+export class WrappedKey extends CukvasheError {}
 // This ends what bindings/describe made.
 
 // ---- Ciphers and MACs

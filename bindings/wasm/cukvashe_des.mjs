@@ -100,6 +100,8 @@ const SALT_LENGTH = 43;
 const CONTEXT = 44;
 const MODE = 45;
 const STREAM = 46;
+const WRAPPED_LENGTH = 47;
+const WRAPPED_KEY = 48;
 const SENTENCES = [
   "success",
   "the key does not have a length that the call takes",
@@ -148,6 +150,8 @@ const SENTENCES = [
   "the context is not one that the init of this type made",
   "the mode is not one that the call takes",
   "the stream is not one that was begun",
+  "the wrapped key does not have a length that it can have",
+  "the bytes are no key that was wrapped under the protection key",
 ];
 export const KeyLength = fault("KeyLength");
 export const BlockLength = fault("BlockLength");
@@ -188,6 +192,8 @@ export const HashName = fault("HashName");
 export const IterationCount = fault("IterationCount");
 export const NotSalted = fault("NotSalted");
 export const SaltLength = fault("SaltLength");
+export const WrappedLength = fault("WrappedLength");
+export const WrappedKey = fault("WrappedKey");
 const FAULTS = new Map([
   [KEY_LENGTH, KeyLength],
   [BLOCKS, BlockLength],
@@ -228,6 +234,8 @@ const FAULTS = new Map([
   [ITERATIONS, IterationCount],
   [NOT_SALTED, NotSalted],
   [SALT_LENGTH, SaltLength],
+  [WRAPPED_LENGTH, WrappedLength],
+  [WRAPPED_KEY, WrappedKey],
 ]);
 // This ends what bindings/describe made.
 

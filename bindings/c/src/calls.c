@@ -266,6 +266,38 @@ int cukvashe_tdes_ede3_decrypt_stream_bits(const cukvashe_tdes_ede3 *context, cu
   return cukvashe_internal_decrypt_stream_bits(context->words, 49, stream, data, bits / 8 + (bits % 8 != 0), bits);
 }
 
+int cukvashe_cms_wrap_key(const uint8_t *protection, size_t protection_length, const uint8_t iv[8], const uint8_t *key,
+    size_t key_length, uint8_t *wrapped, size_t capacity, size_t *wrapped_length) {
+  const int result = cukvashe_unwiped_cms_wrap_key(protection, protection_length, iv, key, key_length, wrapped,
+    capacity / 8, wrapped_length);
+  cukvashe_internal_wipe_stack(STACK_cms_wrap_key);
+  return result;
+}
+
+int cukvashe_cms_unwrap_key(const uint8_t *protection, size_t protection_length, const uint8_t *wrapped,
+    size_t wrapped_length, uint8_t *key, size_t capacity, size_t *key_length) {
+  const int result = cukvashe_unwiped_cms_unwrap_key(protection, protection_length, wrapped, wrapped_length, key,
+    capacity / 8, key_length);
+  cukvashe_internal_wipe_stack(STACK_cms_unwrap_key);
+  return result;
+}
+
+int cukvashe_tkw_wrap_key(const uint8_t *protection, size_t protection_length, const uint8_t *key, size_t key_length,
+    uint8_t *wrapped, size_t capacity, size_t *wrapped_length) {
+  const int result = cukvashe_unwiped_tkw_wrap_key(protection, protection_length, key, key_length, wrapped,
+    capacity / 4, wrapped_length);
+  cukvashe_internal_wipe_stack(STACK_tkw_wrap_key);
+  return result;
+}
+
+int cukvashe_tkw_unwrap_key(const uint8_t *protection, size_t protection_length, const uint8_t *wrapped,
+    size_t wrapped_length, uint8_t *key, size_t capacity, size_t *key_length) {
+  const int result = cukvashe_unwiped_tkw_unwrap_key(protection, protection_length, wrapped, wrapped_length, key,
+    capacity / 4, key_length);
+  cukvashe_internal_wipe_stack(STACK_tkw_unwrap_key);
+  return result;
+}
+
 int cukvashe_des_encrypt_each(const uint8_t *keys, size_t count, uint8_t *blocks, size_t length) {
   if (length % CUKVASHE_BLOCK_SIZE != 0) return CUKVASHE_ERR_BLOCKS;
   if (count != length / CUKVASHE_BLOCK_SIZE) return CUKVASHE_ERR_COUNTS;

@@ -110,6 +110,14 @@ int cukvashe_wide_decrypt_mode(const uint64_t *context, size_t context_count, ui
     uint8_t *bytes, size_t bytes_count);
 
 /* Those that have the name of a call of the header, which wipes after them: bindings/generate gives them these names. */
+int cukvashe_unwiped_cms_wrap_key(const uint8_t *protection, size_t protection_count, const uint8_t iv[8],
+    const uint8_t *key, size_t key_count, uint8_t *wrapped, size_t wrapped_count, size_t *wrapped_length);
+int cukvashe_unwiped_cms_unwrap_key(const uint8_t *protection, size_t protection_count, const uint8_t *wrapped,
+    size_t wrapped_count, uint8_t *key, size_t key_count, size_t *key_length);
+int cukvashe_unwiped_tkw_wrap_key(const uint8_t *protection, size_t protection_count, const uint8_t *key,
+    size_t key_count, uint8_t *wrapped, size_t wrapped_count, size_t *wrapped_length);
+int cukvashe_unwiped_tkw_unwrap_key(const uint8_t *protection, size_t protection_count, const uint8_t *wrapped,
+    size_t wrapped_count, uint8_t *key, size_t key_count, size_t *key_length);
 int cukvashe_unwiped_weak_key_test(const uint8_t *key, size_t key_length);
 void cukvashe_unwiped_set_odd_parity(uint8_t *key, size_t key_length);
 int cukvashe_unwiped_key_check_value(const uint8_t *key, size_t key_length, uint8_t value[3]);
@@ -182,6 +190,10 @@ enum {
   STACK_des_init_no_tables = 5650,
   STACK_tdes_ede2_init_no_tables = 5650,
   STACK_tdes_ede3_init_no_tables = 5650,
+  STACK_cms_wrap_key = 5650,
+  STACK_cms_unwrap_key = 5650,
+  STACK_tkw_wrap_key = 5650,
+  STACK_tkw_unwrap_key = 5650,
   STACK_des_encrypt_each = 26650,
   STACK_des_decrypt_each = 26650,
   STACK_tdes_ede2_encrypt_each = 26650,

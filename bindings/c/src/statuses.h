@@ -46,3 +46,5 @@
 [CUKVASHE_ERR_CONTEXT] = "the context is not one that the init of this type made",
 [CUKVASHE_ERR_MODE] = "the mode is not one that the call takes",
 [CUKVASHE_ERR_STREAM] = "the stream is not one that was begun",
+[CUKVASHE_ERR_WRAPPED_LENGTH] = "the wrapped key does not have a length that it can have",
+[CUKVASHE_ERR_WRAPPED_KEY] = "the bytes are no key that was wrapped under the protection key",

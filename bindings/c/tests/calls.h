@@ -101,6 +101,14 @@ static void call_tdes_ede3_encrypt_stream_bits(void) { returned = cukvashe_tdes_
 static void call_tdes_ede3_decrypt_stream_bits(void) { returned = cukvashe_tdes_ede3_decrypt_stream_bits((void *)contexts[2],
     &streams[1], (void *)rooms[0], 8 * count); }
 static void call_stream_position(void) { cukvashe_stream_position(&streams[0], (void *)rooms[0], (void *)rooms[1]); }
+static void call_cms_wrap_key(void) { returned = cukvashe_cms_wrap_key(key, 24, blocks, key, 24, (void *)rooms[0],
+    sizeof blocks, (void *)rooms[1]); }
+static void call_cms_unwrap_key(void) { returned = cukvashe_cms_unwrap_key(key, 24, blocks, 40, (void *)rooms[0],
+    sizeof blocks, (void *)rooms[1]); }
+static void call_tkw_wrap_key(void) { returned = cukvashe_tkw_wrap_key(key, 24, key, 24, (void *)rooms[0],
+    sizeof blocks, (void *)rooms[1]); }
+static void call_tkw_unwrap_key(void) { returned = cukvashe_tkw_unwrap_key(key, 24, blocks, 40, (void *)rooms[0],
+    sizeof blocks, (void *)rooms[1]); }
 static void call_des_encrypt_each(void) { returned = cukvashe_des_encrypt_each(keys, count, (void *)rooms[0],
     8 * count); }
 static void call_des_decrypt_each(void) { returned = cukvashe_des_decrypt_each(keys, count, (void *)rooms[0],
@@ -431,6 +439,10 @@ static const struct call calls[] = {
     {"tdes_ede3_encrypt_stream_bits", call_tdes_ede3_encrypt_stream_bits, 32000, 0, 1, 1},
     {"tdes_ede3_decrypt_stream_bits", call_tdes_ede3_decrypt_stream_bits, 32000, 0, 1, 1},
     {"stream_position", call_stream_position, 6000, 0, 0, 1},
+    {"cms_wrap_key", call_cms_wrap_key, 6000, 1, 0, 0},
+    {"cms_unwrap_key", call_cms_unwrap_key, 6000, 1, 0, 0},
+    {"tkw_wrap_key", call_tkw_wrap_key, 6000, 1, 0, 0},
+    {"tkw_unwrap_key", call_tkw_unwrap_key, 6000, 1, 0, 0},
     {"des_encrypt_each", call_des_encrypt_each, 27000, 1, 1, 0},
     {"des_decrypt_each", call_des_decrypt_each, 27000, 1, 1, 0},
     {"tdes_ede2_encrypt_each", call_tdes_ede2_encrypt_each, 27000, 1, 1, 0},

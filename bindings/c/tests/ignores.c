@@ -51,6 +51,10 @@ void ignores(void) {
   cukvashe_tdes_ede2_decrypt_stream_bits(0, 0, 0, 0);
   cukvashe_tdes_ede3_encrypt_stream_bits(0, 0, 0, 0);
   cukvashe_tdes_ede3_decrypt_stream_bits(0, 0, 0, 0);
+  cukvashe_cms_wrap_key(0, 0, 0, 0, 0, 0, 0, 0);
+  cukvashe_cms_unwrap_key(0, 0, 0, 0, 0, 0, 0);
+  cukvashe_tkw_wrap_key(0, 0, 0, 0, 0, 0, 0);
+  cukvashe_tkw_unwrap_key(0, 0, 0, 0, 0, 0, 0);
   cukvashe_des_encrypt_each(0, 0, 0, 0);
   cukvashe_des_decrypt_each(0, 0, 0, 0);
   cukvashe_tdes_ede2_encrypt_each(0, 0, 0, 0);

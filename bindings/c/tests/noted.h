@@ -266,6 +266,26 @@ int cukvashe_wide_decrypt_mode(const uint64_t *context, size_t context_count, ui
     (uintptr_t)iv, (uintptr_t)bytes, (uintptr_t)bytes_count));
 }
 #endif
+int cukvashe_unwiped_cms_wrap_key(const uint8_t *protection, size_t protection_count, const uint8_t iv[8],
+    const uint8_t *key, size_t key_count, uint8_t *wrapped, size_t wrapped_count, size_t *wrapped_length) {
+  return noted("unwiped cms_wrap_key", ARGUMENTS((uintptr_t)protection, (uintptr_t)protection_count, (uintptr_t)iv,
+    (uintptr_t)key, (uintptr_t)key_count, (uintptr_t)wrapped, (uintptr_t)wrapped_count, (uintptr_t)wrapped_length));
+}
+int cukvashe_unwiped_cms_unwrap_key(const uint8_t *protection, size_t protection_count, const uint8_t *wrapped,
+    size_t wrapped_count, uint8_t *key, size_t key_count, size_t *key_length) {
+  return noted("unwiped cms_unwrap_key", ARGUMENTS((uintptr_t)protection, (uintptr_t)protection_count,
+    (uintptr_t)wrapped, (uintptr_t)wrapped_count, (uintptr_t)key, (uintptr_t)key_count, (uintptr_t)key_length));
+}
+int cukvashe_unwiped_tkw_wrap_key(const uint8_t *protection, size_t protection_count, const uint8_t *key,
+    size_t key_count, uint8_t *wrapped, size_t wrapped_count, size_t *wrapped_length) {
+  return noted("unwiped tkw_wrap_key", ARGUMENTS((uintptr_t)protection, (uintptr_t)protection_count, (uintptr_t)key,
+    (uintptr_t)key_count, (uintptr_t)wrapped, (uintptr_t)wrapped_count, (uintptr_t)wrapped_length));
+}
+int cukvashe_unwiped_tkw_unwrap_key(const uint8_t *protection, size_t protection_count, const uint8_t *wrapped,
+    size_t wrapped_count, uint8_t *key, size_t key_count, size_t *key_length) {
+  return noted("unwiped tkw_unwrap_key", ARGUMENTS((uintptr_t)protection, (uintptr_t)protection_count,
+    (uintptr_t)wrapped, (uintptr_t)wrapped_count, (uintptr_t)key, (uintptr_t)key_count, (uintptr_t)key_length));
+}
 int cukvashe_unwiped_weak_key_test(const uint8_t *key, size_t key_length) {
   return noted("unwiped weak_key_test", ARGUMENTS((uintptr_t)key, (uintptr_t)key_length));
 }

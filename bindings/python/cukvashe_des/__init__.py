@@ -138,6 +138,8 @@ from ._faults import (
     VectorLengthError,
     VerificationError,
     WeakKeyError,
+    WrappedKeyError,
+    WrappedLengthError,
     WrongPinError,
 )
 # This ends what bindings/describe made.
@@ -205,17 +207,17 @@ __all__ = [
     "ProtectionKeyLengthError", "RetailMacDes", "SaltLengthError", "SegmentSizeError", "SequenceDigitError",
     "SequenceLengthError", "SerialLengthError", "ServiceDigitError", "ServiceLengthError", "StateLengthError", "Stream",
     "TAG_SIZE", "TableDigitError", "TableLengthError", "TableVarietyError", "TagMismatchError", "TdesEde2", "TdesEde3",
-    "VectorLengthError", "VerificationError", "WeakKeyError", "WrongPinError", "__version__", "bytes_to_key", "check_value",
-    "check_values", "cms_unwrap_key", "cms_wrap_key", "combine", "cvv", "decrypt_cbc_records", "decrypt_each",
-    "decrypt_each_into", "dukpt_data_key", "dukpt_data_variant", "dukpt_initial_key", "dukpt_is_usable", "dukpt_mac_key",
-    "dukpt_next_serial", "dukpt_pin_key", "dukpt_transaction_key", "dukpt_transaction_keys_from_base",
-    "emv_application_cryptogram", "emv_application_key", "emv_card_key", "emv_card_key_b", "emv_response_1", "emv_response_2",
-    "emv_session_key", "encrypt_cbc_records", "encrypt_each", "encrypt_each_into", "equal_but_parity", "is_weak_key",
-    "key_block_context", "key_block_header", "key_block_optional_blocks", "key_check_value", "macs", "macs_each", "natural_pin",
-    "open_salted", "pad", "pbkdf2", "pin_decode_0", "pin_decode_1", "pin_decode_2", "pin_decode_3", "pin_encode_0",
-    "pin_encode_1", "pin_encode_2", "pin_encode_3", "pin_offset", "pin_offset_verify", "pin_translate_to_0", "pin_translate_to_1",
-    "pin_translate_to_3", "pvv", "pvv_verify", "short_key_check_value", "tkw_unwrap_key", "tkw_wrap_key", "unpad",
-    "unwrap_key_block", "with_odd_parity", "wrap_key_block", "wrong_tags",
+    "VectorLengthError", "VerificationError", "WeakKeyError", "WrappedKeyError", "WrappedLengthError", "WrongPinError",
+    "__version__", "bytes_to_key", "check_value", "check_values", "cms_unwrap_key", "cms_wrap_key", "combine", "cvv",
+    "decrypt_cbc_records", "decrypt_each", "decrypt_each_into", "dukpt_data_key", "dukpt_data_variant", "dukpt_initial_key",
+    "dukpt_is_usable", "dukpt_mac_key", "dukpt_next_serial", "dukpt_pin_key", "dukpt_transaction_key",
+    "dukpt_transaction_keys_from_base", "emv_application_cryptogram", "emv_application_key", "emv_card_key", "emv_card_key_b",
+    "emv_response_1", "emv_response_2", "emv_session_key", "encrypt_cbc_records", "encrypt_each", "encrypt_each_into",
+    "equal_but_parity", "is_weak_key", "key_block_context", "key_block_header", "key_block_optional_blocks", "key_check_value",
+    "macs", "macs_each", "natural_pin", "open_salted", "pad", "pbkdf2", "pin_decode_0", "pin_decode_1", "pin_decode_2",
+    "pin_decode_3", "pin_encode_0", "pin_encode_1", "pin_encode_2", "pin_encode_3", "pin_offset", "pin_offset_verify",
+    "pin_translate_to_0", "pin_translate_to_1", "pin_translate_to_3", "pvv", "pvv_verify", "short_key_check_value",
+    "tkw_unwrap_key", "tkw_wrap_key", "unpad", "unwrap_key_block", "with_odd_parity", "wrap_key_block", "wrong_tags",
 ]
 # This ends what bindings/describe made.
 

@@ -210,6 +210,14 @@ class SaltLengthError(Error, ValueError):
     """The bytes end within the salt, or it does not have 0 or 8 bytes."""
 
 
+class WrappedLengthError(Error, ValueError):
+    """The wrapped key does not have a length that it can have."""
+
+
+class WrappedKeyError(VerificationError):
+    """The bytes are no key that was wrapped under the protection key."""
+
+
 # This ends what bindings/describe made.
 
 _FAULTS: Dict[int, Type[Error]] = {status: globals()[name] for status, name in _statuses.ERRORS.items()}

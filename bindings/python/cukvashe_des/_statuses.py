@@ -47,6 +47,8 @@ SALT_LENGTH = 43
 CONTEXT = 44
 MODE = 45
 STREAM = 46
+WRAPPED_LENGTH = 47
+WRAPPED_KEY = 48
 
 SENTENCES = (
     "success",
@@ -96,6 +98,8 @@ SENTENCES = (
     "the context is not one that the init of this type made",
     "the mode is not one that the call takes",
     "the stream is not one that was begun",
+    "the wrapped key does not have a length that it can have",
+    "the bytes are no key that was wrapped under the protection key",
 )
 
 # The error of each status that is one by itself.
@@ -139,4 +143,6 @@ ERRORS = {
     ITERATIONS: "IterationCountError",
     NOT_SALTED: "NotSaltedError",
     SALT_LENGTH: "SaltLengthError",
+    WRAPPED_LENGTH: "WrappedLengthError",
+    WRAPPED_KEY: "WrappedKeyError",
 }

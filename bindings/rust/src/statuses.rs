@@ -51,13 +51,15 @@ pub const SALT_LENGTH: c_int = 43;
 pub const CONTEXT: c_int = 44;
 pub const MODE: c_int = 45;
 pub const STREAM: c_int = 46;
+pub const WRAPPED_LENGTH: c_int = 47;
+pub const WRAPPED_KEY: c_int = 48;
 
 /// The sentence of a status.
 pub fn sentence(status: c_int) -> &'static str {
     SENTENCES[status as usize]
 }
 
-const SENTENCES: [&str; 47] = [
+const SENTENCES: [&str; 49] = [
     "success",
     "the key does not have a length that the call takes",
     "the length is not a multiple of 8 bytes",
@@ -105,4 +107,6 @@ const SENTENCES: [&str; 47] = [
     "the context is not one that the init of this type made",
     "the mode is not one that the call takes",
     "the stream is not one that was begun",
+    "the wrapped key does not have a length that it can have",
+    "the bytes are no key that was wrapped under the protection key",
 ];

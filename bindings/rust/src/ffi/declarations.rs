@@ -305,6 +305,43 @@ extern "C" {
         bits: usize,
     ) -> c_int;
     pub fn cukvashe_stream_position(stream: *const Stream, iv: *mut [u8; 8], used: *mut usize);
+    pub fn cukvashe_cms_wrap_key(
+        protection: *const u8,
+        protection_length: usize,
+        iv: *const [u8; 8],
+        key: *const u8,
+        key_length: usize,
+        wrapped: *mut u8,
+        capacity: usize,
+        wrapped_length: *mut usize,
+    ) -> c_int;
+    pub fn cukvashe_cms_unwrap_key(
+        protection: *const u8,
+        protection_length: usize,
+        wrapped: *const u8,
+        wrapped_length: usize,
+        key: *mut u8,
+        capacity: usize,
+        key_length: *mut usize,
+    ) -> c_int;
+    pub fn cukvashe_tkw_wrap_key(
+        protection: *const u8,
+        protection_length: usize,
+        key: *const u8,
+        key_length: usize,
+        wrapped: *mut u8,
+        capacity: usize,
+        wrapped_length: *mut usize,
+    ) -> c_int;
+    pub fn cukvashe_tkw_unwrap_key(
+        protection: *const u8,
+        protection_length: usize,
+        wrapped: *const u8,
+        wrapped_length: usize,
+        key: *mut u8,
+        capacity: usize,
+        key_length: *mut usize,
+    ) -> c_int;
     pub fn cukvashe_des_encrypt_each(keys: *const u8, count: usize, blocks: *mut u8, length: usize) -> c_int;
     pub fn cukvashe_des_decrypt_each(keys: *const u8, count: usize, blocks: *mut u8, length: usize) -> c_int;
     pub fn cukvashe_tdes_ede2_encrypt_each(keys: *const u8, count: usize, blocks: *mut u8, length: usize) -> c_int;

@@ -91,6 +91,75 @@ static jint JNICALL call_stream_begin(JNIEnv *env, jclass class, jlongArray stre
   return answer;
 }
 
+static jint JNICALL call_cms_wrap_key(JNIEnv *env, jclass class, jbyteArray protection, jbyteArray iv, jbyteArray key,
+    jbyteArray wrapped, jlongArray wrappedLength) {
+  (void)class;
+  struct array arrays[] = {
+    {protection, 1, 0, false, NULL, 0},
+    {iv, 1, 8, false, NULL, 0},
+    {key, 1, 0, false, NULL, 0},
+    {wrapped, 1, 0, true, NULL, 0},
+    {wrappedLength, 8, 8, true, NULL, 0},
+  };
+  struct copies copies;
+  if (!copied(env, &copies, arrays, LENGTH_OF(arrays))) return 0;
+  int answer = cukvashe_cms_wrap_key(arrays[0].at, arrays[0].length, arrays[1].at, arrays[2].at, arrays[2].length,
+      arrays[3].at, arrays[3].length, arrays[4].at);
+  given_back(env, &copies, arrays, LENGTH_OF(arrays), answer == CUKVASHE_OK);
+  return answer;
+}
+
+static jint JNICALL call_cms_unwrap_key(JNIEnv *env, jclass class, jbyteArray protection, jbyteArray wrapped,
+    jbyteArray key, jlongArray keyLength) {
+  (void)class;
+  struct array arrays[] = {
+    {protection, 1, 0, false, NULL, 0},
+    {wrapped, 1, 0, false, NULL, 0},
+    {key, 1, 0, true, NULL, 0},
+    {keyLength, 8, 8, true, NULL, 0},
+  };
+  struct copies copies;
+  if (!copied(env, &copies, arrays, LENGTH_OF(arrays))) return 0;
+  int answer = cukvashe_cms_unwrap_key(arrays[0].at, arrays[0].length, arrays[1].at, arrays[1].length, arrays[2].at,
+      arrays[2].length, arrays[3].at);
+  given_back(env, &copies, arrays, LENGTH_OF(arrays), answer == CUKVASHE_OK);
+  return answer;
+}
+
+static jint JNICALL call_tkw_wrap_key(JNIEnv *env, jclass class, jbyteArray protection, jbyteArray key,
+    jbyteArray wrapped, jlongArray wrappedLength) {
+  (void)class;
+  struct array arrays[] = {
+    {protection, 1, 0, false, NULL, 0},
+    {key, 1, 0, false, NULL, 0},
+    {wrapped, 1, 0, true, NULL, 0},
+    {wrappedLength, 8, 8, true, NULL, 0},
+  };
+  struct copies copies;
+  if (!copied(env, &copies, arrays, LENGTH_OF(arrays))) return 0;
+  int answer = cukvashe_tkw_wrap_key(arrays[0].at, arrays[0].length, arrays[1].at, arrays[1].length, arrays[2].at,
+      arrays[2].length, arrays[3].at);
+  given_back(env, &copies, arrays, LENGTH_OF(arrays), answer == CUKVASHE_OK);
+  return answer;
+}
+
+static jint JNICALL call_tkw_unwrap_key(JNIEnv *env, jclass class, jbyteArray protection, jbyteArray wrapped,
+    jbyteArray key, jlongArray keyLength) {
+  (void)class;
+  struct array arrays[] = {
+    {protection, 1, 0, false, NULL, 0},
+    {wrapped, 1, 0, false, NULL, 0},
+    {key, 1, 0, true, NULL, 0},
+    {keyLength, 8, 8, true, NULL, 0},
+  };
+  struct copies copies;
+  if (!copied(env, &copies, arrays, LENGTH_OF(arrays))) return 0;
+  int answer = cukvashe_tkw_unwrap_key(arrays[0].at, arrays[0].length, arrays[1].at, arrays[1].length, arrays[2].at,
+      arrays[2].length, arrays[3].at);
+  given_back(env, &copies, arrays, LENGTH_OF(arrays), answer == CUKVASHE_OK);
+  return answer;
+}
+
 static jint JNICALL call_des_encrypt_each(JNIEnv *env, jclass class, jbyteArray keys, jbyteArray blocks) {
   (void)class;
   struct array arrays[] = {
@@ -1673,6 +1742,10 @@ static jint JNICALL call_tdes_ede3_open_salted(JNIEnv *env, jclass class, jint h
   {(char *)"tdesEde2InitNoTables", (char *)"([J[B)I", (void *)call_tdes_ede2_init_no_tables}, \
   {(char *)"tdesEde3InitNoTables", (char *)"([J[B)I", (void *)call_tdes_ede3_init_no_tables}, \
   {(char *)"streamBegin", (char *)"([JI[B)I", (void *)call_stream_begin}, \
+  {(char *)"cmsWrapKey", (char *)"([B[B[B[B[J)I", (void *)call_cms_wrap_key}, \
+  {(char *)"cmsUnwrapKey", (char *)"([B[B[B[J)I", (void *)call_cms_unwrap_key}, \
+  {(char *)"tkwWrapKey", (char *)"([B[B[B[J)I", (void *)call_tkw_wrap_key}, \
+  {(char *)"tkwUnwrapKey", (char *)"([B[B[B[J)I", (void *)call_tkw_unwrap_key}, \
   {(char *)"desEncryptEach", (char *)"([B[B)I", (void *)call_des_encrypt_each}, \
   {(char *)"desDecryptEach", (char *)"([B[B)I", (void *)call_des_decrypt_each}, \
   {(char *)"tdesEde2EncryptEach", (char *)"([B[B)I", (void *)call_tdes_ede2_encrypt_each}, \

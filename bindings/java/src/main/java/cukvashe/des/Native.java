@@ -107,6 +107,14 @@ final class Native {
 
   static native int streamBegin(long[] stream, int mode, byte[] iv);
 
+  static native int cmsWrapKey(byte[] protection, byte[] iv, byte[] key, byte[] wrapped, long[] wrappedLength);
+
+  static native int cmsUnwrapKey(byte[] protection, byte[] wrapped, byte[] key, long[] keyLength);
+
+  static native int tkwWrapKey(byte[] protection, byte[] key, byte[] wrapped, long[] wrappedLength);
+
+  static native int tkwUnwrapKey(byte[] protection, byte[] wrapped, byte[] key, long[] keyLength);
+
   static native int desEncryptEach(byte[] keys, byte[] blocks);
 
   static native int desDecryptEach(byte[] keys, byte[] blocks);

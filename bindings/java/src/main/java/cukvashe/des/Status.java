@@ -98,7 +98,11 @@ public enum Status {
   /** The mode is not one that the call takes. */
   MODE("the mode is not one that the call takes"),
   /** The stream is not one that was begun. */
-  STREAM("the stream is not one that was begun");
+  STREAM("the stream is not one that was begun"),
+  /** The wrapped key does not have a length that it can have. */
+  WRAPPED_LENGTH("the wrapped key does not have a length that it can have"),
+  /** The bytes are no key that was wrapped under the protection key. */
+  WRAPPED_KEY("the bytes are no key that was wrapped under the protection key");
 
   private static final Status[] BY_NUMBER = values();
 
