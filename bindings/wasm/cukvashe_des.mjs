@@ -1695,18 +1695,18 @@ export function keyBlockOptionalBlocks(block, ...more) {
 
 // ---- Key wraps: the key wrap of CMS (RFC 3217), and TKW (NIST SP 800-38F) ---------------------------------------------
 
-// How many bytes a wrapped key has more than the key.
-const CMS_MORE = 16;
-const TKW_MORE = 4;
+// How many bytes a wrapped key has more than the key, and of how many is what a call writes: the blocks of CMS, the semiblocks of TKW.
+const CMS = { more: 16, unit: 8 };
+const TKW = { more: 4, unit: 4 };
 
-/** What a call makes of bytes, so many more of them, under a protection key. */
-function through(call, protection, given, more, vectors = []) {
+/** What a call makes of bytes, so many more of them, under a protection key. It takes the capacity in units. */
+function through(call, protection, given, { more, unit }, vectors = []) {
   const [held, bytes] = [bytesOf(protection, "a protection key"), bytesOf(given, "a key")];
   return inside((memory) => {
     const laid = [...memory.list(held), ...vectors.map((vector) => memory.put(vector)), ...memory.list(bytes)];
     const capacity = Math.max(bytes.length + more, 0);
     const [at, length] = [memory.room(capacity), memory.room(8)];
-    memory.call(call, ...laid, at, BigInt(capacity), length);
+    memory.call(call, ...laid, at, BigInt(Math.floor(capacity / unit)), length);
     return memory.taken(at, memory.word(length));
   });
 }
@@ -1715,22 +1715,22 @@ export function cmsWrapKey(protection, key, options = {}, ...more) {
   refuseMore(more);
   const { iv } = optionsOf(options, "iv");
   const vector = iv === undefined ? crypto.getRandomValues(new Uint8Array(BLOCK_SIZE)) : vectorOf(iv);
-  return through("cms_wrap_key", protection, key, CMS_MORE, [vector]);
+  return through("cms_wrap_key", protection, key, CMS, [vector]);
 }
 
 export function cmsUnwrapKey(protection, wrapped, ...more) {
   refuseMore(more);
-  return through("cms_unwrap_key", protection, wrapped, -CMS_MORE);
+  return through("cms_unwrap_key", protection, wrapped, { ...CMS, more: -CMS.more });
 }
 
 export function tkwWrapKey(protection, key, ...more) {
   refuseMore(more);
-  return through("tkw_wrap_key", protection, key, TKW_MORE);
+  return through("tkw_wrap_key", protection, key, TKW);
 }
 
 export function tkwUnwrapKey(protection, wrapped, ...more) {
   refuseMore(more);
-  return through("tkw_unwrap_key", protection, wrapped, -TKW_MORE);
+  return through("tkw_unwrap_key", protection, wrapped, { ...TKW, more: -TKW.more });
 }
 
 // ---- Keys from passwords, and what `openssl enc` encrypted under them -------------------------------------------------
