@@ -1,0 +1,3 @@
+module cukvashe
+
+go 1.19
