@@ -76,11 +76,21 @@ static bool is_written(const char *word, const void *room) {
   return memcmp(room, wanted, sizeof wanted) == 0;
 }
 
+/* Whether zeros stand where a refused key would. They go, so that nothing else may be written. */
+static bool takes_zeros(const char *name) {
+  static const uint8_t zeros[ROOM];
+  const size_t size = given[1].length - (strcmp(name, "cms_unwrap_key") == 0 ? 16 : 4);
+  const bool are_zeros = memcmp(rooms[0], zeros, size) == 0;
+  memset(rooms[0], PAINTED, size);
+  return are_zeros;
+}
+
 static void makes(const struct known *known, size_t repeated) {
   bool is_right;
   memset(rooms, PAINTED, sizeof rooms);
   for (int i = 0; i < WORDS && known->words[i]; i++) given[i] = word_of(known->words[i], repeated);
   is_right = known->call() == known->returns;
+  if (known->returns == CUKVASHE_ERR_WRAPPED_KEY) is_right = is_right && takes_zeros(known->name);
   for (int i = 0; i < ROOMS; i++) is_right = is_right && is_written(known->written[i], rooms[i]);
   for (int i = 0; i < WORDS && known->words[i]; i++) free(given[i].at);
   if (is_right) return;

@@ -7,7 +7,7 @@
 enum { MOST = 33, PAINT = 0x77 };
 
 /* The statuses that a call returned. */
-enum { LAST = CUKVASHE_ERR_STREAM };
+enum { LAST = CUKVASHE_ERR_WRAPPED_KEY };
 
 static int was_returned[LAST + 1];
 
@@ -390,6 +390,15 @@ static void returns_statuses_of_pins_and_cards(void) {
   CHECK(seen(cukvashe_emv_response_2(key, block, bytes, bytes, 9, made)) == CUKVASHE_ERR_DATA_LENGTH);
 }
 
+/* Those of key wraps. */
+static void returns_statuses_of_key_wraps(void) {
+  static const uint8_t key[16] = {0}, wrapped[24] = {0};
+  uint8_t made[8];
+  size_t length;
+  CHECK(seen(cukvashe_cms_unwrap_key(key, 16, wrapped, 23, made, 8, &length)) == CUKVASHE_ERR_WRAPPED_LENGTH);
+  CHECK(seen(cukvashe_cms_unwrap_key(key, 16, wrapped, 24, made, 8, &length)) == CUKVASHE_ERR_WRAPPED_KEY);
+}
+
 /* Those of key blocks. */
 static void returns_statuses_of_key_blocks(void) {
   static const uint8_t key[16] = {0};
@@ -551,6 +560,7 @@ int main(void) {
   returns_statuses();
   returns_statuses_of_pins_and_cards();
   returns_statuses_of_key_blocks();
+  returns_statuses_of_key_wraps();
   returns_statuses_of_passwords();
   has_sentences();
   has_numbers();

@@ -3,7 +3,7 @@
  * `secret_indexes calls` runs the calls that must give no report; each other word runs one that must give one: `short`, a list that
  * goes by tables, and `rest`, a list whose rest does, `chain` and `message`, of contexts with tables, which all read them so; `pin`, which
  * branches on whether all characters of a PIN are digits; `translation`, on whether a PIN block is right; `block`, on whether a MAC is;
- * `key`, where it is right, on the length of the key too; `file`, on the padding of what is opened under a password; `verification`, on
+ * `key`, where it is right, on the length of the key too; `unwrapped`, on whether a key was wrapped; `file`, on the padding of what is opened under a password; `verification`, on
  * whether a PIN is right; and `planted`, a lookup here.
  */
 #include "mac_calls.h"
@@ -305,6 +305,48 @@ static void keys_in_key_blocks(void) {
   for (int i = 0; i < 12; i++) (void)make_block(i, protection, block, sizeof block);
 }
 
+/* Hidden keys of some lengths, wrapped under hidden protection keys of both. */
+static void wrapped_keys(void) {
+  static const size_t lengths[] = {8, 16, 24, 40};
+  for (size_t size = 16; size <= 24; size += 8)
+    for (size_t i = 0; i < sizeof lengths / sizeof *lengths; i++) {
+      size_t length;
+      hide(key, sizeof key);
+      hide(iv, sizeof iv);
+      hide(data, 40);
+      CHECK(cukvashe_cms_wrap_key(key, size, iv, data, lengths[i], other, sizeof other, &length) == CUKVASHE_OK);
+      CHECK(cukvashe_tkw_wrap_key(key, size, data, lengths[i], other, sizeof other, &length) == CUKVASHE_OK);
+    }
+}
+
+/* The reports of one unwrapping under a hidden protection key. The bit of that number, if there is one, is changed. */
+static unsigned reports_of_unwrapping(bool is_tkw, size_t size, size_t bit) {
+  uint8_t wrapped[40];
+  size_t length, key_length;
+  random_bytes(key, sizeof key);
+  random_bytes(data, 24);
+  if (is_tkw) CHECK(cukvashe_tkw_wrap_key(key, size, data, 24, wrapped, sizeof wrapped, &length) == CUKVASHE_OK);
+  else CHECK(cukvashe_cms_wrap_key(key, size, iv, data, 24, wrapped, sizeof wrapped, &length) == CUKVASHE_OK);
+  if (bit < 8 * length) wrapped[bit / 8] ^= (uint8_t)(1 << bit % 8);
+  (void)VALGRIND_MAKE_MEM_UNDEFINED(key, sizeof key);
+  const unsigned before = VALGRIND_COUNT_ERRORS;
+  const int status = (is_tkw ? cukvashe_tkw_unwrap_key : cukvashe_cms_unwrap_key)(key, size, wrapped, length, other, 24, &key_length);
+  const unsigned reports = VALGRIND_COUNT_ERRORS - before;
+  CHECK(is_status(status, bit < 8 * length ? CUKVASHE_ERR_WRAPPED_KEY : CUKVASHE_OK));
+  return reports;
+}
+
+/* Whether something wraps a key decides a branch, whatever is wrong with it: as many reports for each changed bit. */
+static void unwrapped_keys(void) {
+  for (int is_tkw = 0; is_tkw < 2; is_tkw++)
+    for (size_t size = 16; size <= 24; size += 8) {
+      const unsigned reports = reports_of_unwrapping(is_tkw, size, 0);
+      CHECK(reports > 0);
+      for (size_t bit = 0; bit < 8 * 28; bit += 7) CHECK(reports_of_unwrapping(is_tkw, size, bit) == reports);
+    }
+  printf("no report of the place of a changed bit\n");
+}
+
 /* Whether the MAC of a block is right decides a branch, which is reported, and nothing else does of a block whose MAC is wrong: of one
    that is right the length of the key decides more. */
 static void opened_block(void) {
@@ -584,6 +626,7 @@ int main(int count, char **words) {
     values_of_cards();
     cryptograms_of_a_card();
     keys_in_key_blocks();
+    wrapped_keys();
     keys_of_passwords();
     lists_of_keys();
   } else if (strcmp(words[1], "short") == 0) {
@@ -602,6 +645,8 @@ int main(int count, char **words) {
     opened_block();
   } else if (strcmp(words[1], "key") == 0) {
     opened_key();
+  } else if (strcmp(words[1], "unwrapped") == 0) {
+    unwrapped_keys();
   } else if (strcmp(words[1], "file") == 0) {
     opened_file();
   } else if (strcmp(words[1], "verification") == 0) {
