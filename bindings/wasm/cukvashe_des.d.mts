@@ -606,8 +606,7 @@ export function cmsWrapKey(protection: Uint8Array, key: Uint8Array, options?: { 
  */
 export function cmsUnwrapKey(protection: Uint8Array, wrapped: Uint8Array): Uint8Array;
 /**
- * A key of 8 bytes or more, a multiple of 4, wrapped by TKW, which makes it 4 bytes longer. ProtectionKeyLength,
- * WrappedLength.
+ * A key of 8 bytes or more, a multiple of 4, wrapped by TKW, which makes it 4 bytes longer. ProtectionKeyLength, KeyLength.
  */
 export function tkwWrapKey(protection: Uint8Array, key: Uint8Array): Uint8Array;
 /** The key that TKW wrapped. ProtectionKeyLength, WrappedLength; WrappedKey if it was changed, or is under another key. */

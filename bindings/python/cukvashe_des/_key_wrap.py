@@ -47,7 +47,7 @@ def cms_unwrap_key(protection: ReadableBuffer, wrapped: ReadableBuffer) -> bytes
 
 def tkw_wrap_key(protection: ReadableBuffer, key: ReadableBuffer) -> bytes:
     """A key of 8 bytes or more, a multiple of 4, wrapped under a protection key (KEK) of 16 or 24 bytes by TKW (NIST SP 800-38F), which
-    makes it 4 bytes longer. ProtectionKeyLengthError, WrappedLengthError."""
+    makes it 4 bytes longer. ProtectionKeyLengthError, KeyLengthError."""
     return _through(_tkw_wrap, protection, key, _TKW_MORE)
 
 

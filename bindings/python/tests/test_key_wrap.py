@@ -5,6 +5,7 @@ from unittest import mock
 
 from cukvashe_des import (
     BlockLengthError,
+    KeyLengthError,
     ProtectionKeyLengthError,
     VerificationError,
     WrappedKeyError,
@@ -42,7 +43,7 @@ class KeyWraps(unittest.TestCase):
                     self.assertEqual(len(tkw_wrap_key(kek, key)), len(key) + 4)
                     self.assertEqual(tkw_unwrap_key(kek, tkw_wrap_key(kek, key)), key)
                 else:
-                    self.assertRaises((BlockLengthError, WrappedLengthError), tkw_wrap_key, kek, key)
+                    self.assertRaises(KeyLengthError, tkw_wrap_key, kek, key)
                     self.assertRaises(WrappedLengthError, tkw_unwrap_key, kek, bytes(4) + key)
             for length in range(16):
                 self.assertRaises(WrappedLengthError, cms_unwrap_key, kek, bytes(length))

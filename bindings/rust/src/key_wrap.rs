@@ -32,7 +32,7 @@ pub enum WrapError {
     NoRoom,
 }
 
-/// Why no key is unwrapped. Nothing of a key was written.
+/// Why no key is unwrapped. Nothing of a key was written; of `WrappedKey` zeros stand where it would.
 #[non_exhaustive]
 #[derive(Clone, Copy, Debug, PartialEq, Eq)]
 pub enum UnwrapError {

@@ -1,7 +1,7 @@
 //! The calls of bindings/known_calls.txt, which says what its lines are, but for those that the types of the arguments leave no place for.
 
 use crate::common::{bytes_of, known_calls};
-use cukvashe_des::key_wrap::{cms_unwrap, cms_wrap, tkw_unwrap, tkw_wrap};
+use cukvashe_des::key_wrap::{cms_unwrap, cms_wrap, tkw_unwrap, tkw_wrap, UnwrapError};
 use cukvashe_des::padding::{pad, unpad, Method};
 use cukvashe_des::passwords::Derivation;
 use cukvashe_des::payment::*;
@@ -378,9 +378,9 @@ fn made(name: &str, given: &Given) -> Option<Made> {
             let iv: &Block = given.named("iv")?;
             written(200, |wrapped| cms_wrap(given.last(0), iv, given.last(1), wrapped))?
         }
-        "cms_unwrap_key" => written(200, |key| cms_unwrap(given.last(0), given.last(1), key))?,
+        "cms_unwrap_key" => unwrapped(given.last(1).len().saturating_sub(16), |key| cms_unwrap(given.last(0), given.last(1), key))?,
         "tkw_wrap_key" => written(200, |wrapped| tkw_wrap(given.last(0), given.last(1), wrapped))?,
-        "tkw_unwrap_key" => written(200, |key| tkw_unwrap(given.last(0), given.last(1), key))?,
+        "tkw_unwrap_key" => unwrapped(given.last(1).len().saturating_sub(4), |key| tkw_unwrap(given.last(0), given.last(1), key))?,
         "pad" => pad(&mut [given.last(0), &[0x77; 20]].concat(), given.last(0).len(), given.at(1)?).made(),
         "unpad" => unpad(given.at(0)?, given.at(1)?).made(),
         "DukptTerminal" | "DukptTerminal.from_state" | "macs" | "macs_each" | "check_values" | "wrong_tags" => {
@@ -426,6 +426,18 @@ fn written<E: Error + Send + Sync>(room: usize, writes: impl FnOnce(&mut [u8]) -
     let made = writes(&mut buffer);
     assert!(buffer[*made.as_ref().unwrap_or(&0)..].iter().all(|byte| *byte == 0x77));
     Some(made.map(|count| buffer[..count].to_vec()).made())
+}
+
+/// The same of a key of so many bytes: zeros stand where a refused one would.
+fn unwrapped(size: usize, unwrap: impl FnOnce(&mut [u8]) -> Result<usize, UnwrapError>) -> Option<Made> {
+    written(200, |key| {
+        let made = unwrap(key);
+        if made == Err(UnwrapError::WrappedKey) {
+            assert!(key[..size].iter().all(|byte| *byte == 0));
+            key[..size].fill(0x77);
+        }
+        made
+    })
 }
 
 fn derivation(hash: &[u8], iterations: Option<u32>) -> Option<Derivation> {
