@@ -39,10 +39,10 @@
  * SECRETS AND TIME
  *
  * The calls of a context of init may read tables, those of one of init_no_tables read none; both answer alike, and a
- * copy is of its kind. With tables, MACs, CBC and CFB encryption, OFB and CFB1, and ECB, CTR, and CBC and CFB decryption
- * of a list whose number of blocks modulo 128 is 1 to 31 read them at addresses that depend on the key and the data;
- * without tables no call does, and MACs, CBC and CFB encryption, OFB, CFB1 and short lists take up to four times as long.
- * Take contexts without tables if others run programs on the processor.
+ * copy is of its kind. With tables, these read them at addresses that depend on the key and the data: MACs, CBC and CFB
+ * encryption, OFB and CFB1, which go block by block; ECB, CTR, and CBC and CFB decryption if the number of blocks modulo
+ * 128 is 1 to 31. Without tables no call does, and these take up to four times as long. Take contexts without tables if
+ * others run programs on the processor.
  *
  * Other calls, and those of records, read none. Calls branch on lengths, on the status that they return, and on account
  * and key serial numbers, dates, codes, fill digits and decimalization tables, which are not secret here; on anything
@@ -75,15 +75,16 @@
  * WHAT IS PROVED
  *
  * The exports are proved safe, and proved to answer as this header says, if you uphold the above: by FIPS 46-3, FIPS 81
- * (CBC, CFB, OFB) and the standards named below. bytes_to_key and open_salted follow OpenSSL. No standard defines the calls of
- * KEYS, check values, components, PIN verification and card verification values: their rules are the words below. The
- * proof is for Linux on x86-64 and aarch64; code for riscv64 and Windows is compiled from that for x86-64, and tested.
+ * (CBC, CFB, OFB) and the standards named below. bytes_to_key and open_salted follow OpenSSL. No standard defines the
+ * calls of KEYS, check values, components, PIN verification and card verification values: their rules are the words
+ * below. The proof is for Linux on x86-64 and aarch64; code for riscv64 and Windows is compiled from that for x86-64,
+ * and tested.
  *
- * cukvashe_stream_begin, _begin_ctr_at and _position, cukvashe_unpad, cukvashe_dukpt_is_usable, cukvashe_dukpt_next_serial,
- * cukvashe_decimal_table_init and _init_any, and cukvashe_key_block_header, _context and _optional_block are such exports. wipe, strerror and calls without arguments
- * are C. Others are C over hidden exports: it chooses the width of vectors, says which cipher or MAC is meant, reorders
- * arguments, takes them out of a struct, counts the blocks of a length, compares counts with lengths, and wipes the
- * stack.
+ * cukvashe_stream_begin, _begin_ctr_at and _position, cukvashe_unpad, cukvashe_dukpt_is_usable,
+ * cukvashe_dukpt_next_serial, cukvashe_decimal_table_init and _init_any, and cukvashe_key_block_header, _context and
+ * _optional_block are such exports. wipe, strerror and calls without arguments are C. Others are C over hidden exports:
+ * it chooses the width of vectors, says which cipher or MAC is meant, reorders arguments, takes them out of a struct,
+ * counts the blocks of a length, compares counts with lengths, and wipes the stack.
  */
 #ifndef CUKVASHE_DES_H
 #define CUKVASHE_DES_H
@@ -355,11 +356,11 @@ CUKVASHE_CHECK int cukvashe_tdes_ede3_decrypt_cbc_to(const cukvashe_tdes_ede3 *c
  *     CUKVASHE_CFB8    cipher feedback of 8 bits: "CFB" in PyCryptodome
  *     CUKVASHE_CFB1    cipher feedback of 1 bit
  *
- * or the number of a CFB between those of 8 and 64 bits: 42 is that of 16 bits, 47 of 56.
+ * or CUKVASHE_CFB1 + n: cipher feedback with segments of n bytes, 1 to 8.
  *
- * Never use a vector or a counter block twice under a key: of two texts that were encrypted alike the xor shows. In CTR
- * the next text begins behind the last counter block of this one. These modes authenticate nothing: who knows a text can
- * change the ciphertext so that it decrypts to any other.
+ * Never use a vector or a counter block twice under a key: two texts then reveal their xor. In CTR begin the next text
+ * after the last counter block of this one. These modes authenticate nothing: who knows a text can change the ciphertext
+ * so that it decrypts to any other.
  *
  * int cukvashe_NAME_encrypt_mode(const cukvashe_NAME *context, int mode, const uint8_t iv[8], uint8_t *data,
  *                                size_t length)
@@ -372,15 +373,15 @@ CUKVASHE_CHECK int cukvashe_tdes_ede3_decrypt_cbc_to(const cukvashe_tdes_ede3 *c
  * int cukvashe_stream_begin(cukvashe_stream *stream, int mode, const uint8_t iv[8])
  * void cukvashe_stream_begin_ctr_at(cukvashe_stream *stream, const uint8_t counter[8], uint64_t blocks)
  *
- * Begins a text that comes in pieces. begin_ctr_at begins it behind `blocks` blocks of 8 bytes from the counter block
- * `counter` on, so that a part can be decrypted without what stands before it. A stream is as secret as its text. Errors
+ * Begins a text that comes in pieces. begin_ctr_at begins it after `blocks` blocks of 8 bytes, of which `counter` is the
+ * first one's counter block, to decrypt a part without what stands before it. A stream is as secret as its text. Errors
  * of stream_begin: CUKVASHE_ERR_MODE.
  *
  * int cukvashe_NAME_encrypt_stream(const cukvashe_NAME *context, cukvashe_stream *stream, uint8_t *data, size_t length)
  * int cukvashe_NAME_decrypt_stream(const cukvashe_NAME *context, cukvashe_stream *stream, uint8_t *data, size_t length)
  *
- * Encrypts or decrypts in place the bytes that come next, any number of them: pieces become what the whole text becomes.
- * Give a stream one context and one direction. Errors of encrypt_stream and decrypt_stream: CUKVASHE_ERR_CONTEXT,
+ * Encrypts or decrypts the next bytes in place, any number of them: pieces become what the whole text becomes. Give a
+ * stream one context and one direction. Errors of encrypt_stream and decrypt_stream: CUKVASHE_ERR_CONTEXT,
  * _STREAM.
  *
  * int cukvashe_NAME_encrypt_stream_bits(const cukvashe_NAME *context, cukvashe_stream *stream, uint8_t *data,
