@@ -144,4 +144,10 @@ const (
 
 	// ErrStream: the stream is not one that was begun.
 	ErrStream Error = 46
+
+	// ErrWrappedLength: the wrapped key does not have a length that it can have.
+	ErrWrappedLength Error = 47
+
+	// ErrWrappedKey: the bytes are no key that was wrapped under the protection key.
+	ErrWrappedKey Error = 48
 )
