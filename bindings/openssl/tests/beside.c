@@ -453,20 +453,25 @@ static void compare_wraps(struct pair *pair) {
   end(pair);
 }
 
-/* By EVP_Cipher, without an output, which tells the length, and by a copy, which OpenSSL's own does not make. */
+/* Without an output, which tells the length. */
+static void compare_told_lengths(struct pair *pair, int length) {
+  EACH(who) ASK(who, EVP_Cipher(pair->context[who], NULL, input[OURS], (unsigned)length));
+  agree(pair);
+  EACH(who) ASK(who, EVP_CipherUpdate(pair->context[who], NULL, &pair->length[who], input[OURS], length));
+  agree(pair);
+  CHECK(pair->length[OURS] == pair->length[THEIRS]);
+}
+
+/* By EVP_Cipher, by the lengths that are told, and by a copy, which OpenSSL's own does not make. */
 static void compare_other_wraps(struct pair *pair) {
   static const uint8_t wrapping[24] = "a key of 24 bytes, any", key[25] = "keys of eight bytes each";
   uint8_t wrapped[48];
   EVP_CIPHER_CTX *copy = EVP_CIPHER_CTX_new();
   for (int encrypts = 0; encrypts < 2; encrypts++) {
     begin_wrap(pair, wrapping, encrypts);
-    for (int length = 1; length < 100; length++) {
-      EACH(who) ASK(who, EVP_Cipher(pair->context[who], NULL, input[OURS], (unsigned)length));
-      agree(pair);
-      EACH(who) ASK(who, EVP_CipherUpdate(pair->context[who], NULL, &pair->length[who], input[OURS], length));
-      agree(pair);
-      CHECK(pair->length[OURS] == pair->length[THEIRS]);
-    }
+    for (int length = 1; length < 100; length++) compare_told_lengths(pair, length);
+    /* Without an output nothing is read. A gibibyte is refused. */
+    for (int length = (1 << 30) - 16; length <= (1 << 30) + 16; length += 8) compare_told_lengths(pair, length);
     update_by_nothing(pair);
   }
   CHECK(EVP_CIPHER_CTX_copy(copy, pair->context[OURS]) == 1);
