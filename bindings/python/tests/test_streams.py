@@ -339,6 +339,27 @@ class Objects(WatchesWiping):
         whole = cipher.encrypt_ctr(bytes(6400), counter=IV)
         self.assertEqual(sorted(made), sorted(whole[at : at + 8] for at in range(0, 6400, 8)))
 
+    def test_turns(self):
+        """While a call changes the state, the stream is held: threads seldom meet there by themselves."""
+        cipher, held = TdesEde3(KEY), []
+        stream = Cfb(cipher, iv=IV, segment_size=1)
+        counter = Ctr(cipher, counter=IV)
+        calls = [(it.encrypt, TEXT) for it in (stream, counter)] + [(it.decrypt_into, bytearray(TEXT)) for it in (stream, counter)]
+        calls += [(stream.encrypt_bits, TEXT, 3), (stream.decrypt_bits, TEXT, 3), (counter.seek, 3)]
+        for call, *arguments in calls:
+            def of_call(*_, lock=call.__self__._turns):
+                held.append(lock.locked())
+                return 0
+
+            names = [f"{way}_stream{what}" for way in ("encrypt", "decrypt") for what in ("", "_bits")]
+            with mock.patch.dict(KINDS[TdesEde3].calls, dict.fromkeys(names, of_call)):
+                call(*arguments)
+        self.assertEqual(held, [True] * len(calls))
+        for name in ("copy", "close"):
+            counter._turns = mock.MagicMock()
+            getattr(counter, name)()
+            counter._turns.__enter__.assert_called_once_with()
+
 
 class Others(unittest.TestCase):
     """Random texts, cut at random, beside PyCryptodome and `cryptography`; CFB with segments of 1 bit beside the definition of FIPS 81 over
