@@ -111,6 +111,16 @@ class KnownAnswers(unittest.TestCase):
             self.assertRaises(TypeError, one.seek, position)
         self.assertEqual(one.encrypt(bytes(4)), stream[6:10])
 
+    def test_counter_is_kept(self):
+        """Where a stream seeks, its counter block is that of the beginning, in a copy too: the caller may have changed his own."""
+        cipher, counter = TdesEde3(KEY), bytearray(IV)
+        one = Ctr(cipher, counter=counter)
+        other = one.copy()
+        counter[:] = bytes(8)
+        for stream in (one, other):
+            stream.seek(11)
+            self.assertEqual(stream.encrypt(TEXT[11:]), cipher.encrypt_ctr(TEXT, counter=IV)[11:])
+
     def test_bits(self):
         """The bits of a text in pieces are those of the whole, and the others stay."""
         cipher = TdesEde3(KEY)
