@@ -1,3 +1,5 @@
+// Ciphers, streams, MACs and lists beside crypto/des and crypto/cipher, with their panics, in random pieces.
+
 package cukvashe
 
 import (
@@ -265,6 +267,21 @@ func TestKeySizes(t *testing.T) {
 	}
 	if !IsSupported() || Version() == "" {
 		t.Error("the processor, or the version")
+	}
+}
+
+// What answers alike differs in the mark of its context.
+func TestNoTables(t *testing.T) {
+	key := make([]byte, 16)
+	tables, _ := New(key)
+	none, _ := New(key, NoTables)
+	if tables.words == none.words {
+		t.Error("a block")
+	}
+	with, _ := NewMAC(CMAC, key)
+	without, _ := NewMAC(CMAC, key, NoTables)
+	if with.now == without.now {
+		t.Error("a MAC")
 	}
 }
 

@@ -1,3 +1,5 @@
+// Keys, DUKPT, PIN blocks and their translation, verification, EMV and key blocks: known answers and errors.
+
 package cukvashe
 
 import (
