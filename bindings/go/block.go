@@ -71,7 +71,7 @@ func newBlock(key []byte) (cipher.Block, error) {
 }
 
 // Wipe overwrites the round keys; then the Block serves no more.
-func (b *Block) Wipe() { C.cukvashe_wipe(unsafe.Pointer(b), C.size_t(unsafe.Sizeof(*b))) }
+func (b *Block) Wipe() { C.cukvashe_wipe(unsafe.Pointer(&b.words), C.size_t(unsafe.Sizeof(b.words))) }
 
 // BlockSize is 8.
 func (b *Block) BlockSize() int { return BlockSize }

@@ -288,12 +288,12 @@ func TestNoTables(t *testing.T) {
 func TestWipedObjectsServeNoMore(t *testing.T) {
 	block, _ := New(make([]byte, 24))
 	block.Wipe()
-	if block.words != (Block{}).words || panics(func() { block.EncryptECB(make([]byte, 8), make([]byte, 8)) }) == nil {
+	if block.words != (Block{}).words || panics(func() { block.EncryptECB(make([]byte, 8), make([]byte, 8)) }) != ErrContext.Error() {
 		t.Error("a block")
 	}
 	mac, _ := NewMAC(CMAC, make([]byte, 16))
 	mac.Wipe()
-	if mac.now != mac.empty || mac.now != (MAC{}).now || panics(func() { mac.Sum(nil) }) == nil {
+	if mac.now != mac.empty || mac.now != (MAC{}).now || panics(func() { mac.Sum(nil) }) != ErrContext.Error() {
 		t.Error("a MAC")
 	}
 	terminal := NewTerminal(InitialKey{1}, Serial{1})

@@ -83,7 +83,10 @@ func (m *MAC) Clone() *MAC {
 }
 
 // Wipe overwrites the round keys and the bytes of the message; then the MAC serves no more.
-func (m *MAC) Wipe() { C.cukvashe_wipe(unsafe.Pointer(m), C.size_t(unsafe.Sizeof(*m))) }
+func (m *MAC) Wipe() {
+	C.cukvashe_wipe(unsafe.Pointer(&m.empty), C.size_t(unsafe.Sizeof(m.empty)))
+	C.cukvashe_wipe(unsafe.Pointer(&m.now), C.size_t(unsafe.Sizeof(m.now)))
+}
 
 // Verify returns nil for the whole tag of the message alone. ErrTagMismatch.
 func (m *MAC) Verify(tag []byte) error { return m.VerifyTruncated(tag, TagSize) }
