@@ -385,14 +385,17 @@ func TestKnownMACs(t *testing.T) {
 				t.Fatal("sizes")
 			}
 		}
-		messages := [][]byte{message, nil, message}
+		mac, _ := NewMAC(algorithm(fields[0], fields[1]), key)
+		other := append([]byte{0x80, 1}, message...)
+		mac.Write(other)
+		messages := [][]byte{message, other, nil, message}
 		tags, err := MACs(algorithm(fields[0], fields[1]), key, messages)
-		if err != nil || !stdbytes.Equal(tags[0][:], tag) || tags[2] != tags[0] || size > 0 && tags[1] == tags[0] {
+		if err != nil || !stdbytes.Equal(tags[0][:], tag) || mac.Verify(tags[1][:]) != nil || tags[3] != tags[0] {
 			t.Fatal(line, tags, err)
 		}
-		keys := append(append(append([]byte{}, key...), make([]byte, len(key))...), key...)
+		keys := append(append(append([]byte{}, key...), key...), append(make([]byte, len(key)), key...)...)
 		each, err := MACsEach(algorithm(fields[0], fields[1]), keys, messages)
-		if err != nil || each[0] != tags[0] || each[2] != tags[0] || each[1] == tags[1] {
+		if err != nil || each[0] != tags[0] || each[1] != tags[1] || each[2] == tags[2] || each[3] != tags[0] {
 			t.Fatal(line, each, err)
 		}
 	}
