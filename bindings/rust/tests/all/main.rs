@@ -3,6 +3,7 @@
 mod ciphers;
 mod common;
 mod key_blocks;
+mod key_wraps;
 mod keys;
 mod known_calls;
 mod lists;
