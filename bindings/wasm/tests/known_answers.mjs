@@ -172,7 +172,8 @@ for (let count = 0; count < 600; count += 1) {
   if (count % 7 === 0) terminal = library.DukptTerminal.fromState(terminal.state());
 }
 
-// ---- Key blocks: of random padding, which is the engine's and hides the length of a key, with optional blocks of each kind and length
+// ---- Key blocks: of random padding, which is the engine's and hides the length of a key, with optional blocks of each kind and length.
+// The vector of a key wrap is the engine's too.
 
 for (const [version, optional] of [["B", []], ["C", [["KS", "00604B120F9292800000"]]], ["B", new Map([["KV", "ABCDEF"]])]]) {
   const of = { ...library.keyBlockHeader(BLOCK), version };
@@ -189,9 +190,10 @@ for (const [version, optional] of [["B", []], ["C", [["KS", "00604B120F929280000
 }
 const wraps = (options) => library.wrapKeyBlock(PROTECTION, library.keyBlockHeader(BLOCK), PAIR, options);
 crypto.getRandomValues = (bytes) => bytes.fill(0xa1);
-const withRandom = wraps();
+const [withRandom, withVector] = [wraps(), library.cmsWrapKey(PROTECTION, PAIR)];
 delete crypto.getRandomValues;
 assert.equal(withRandom, wraps({ padding: new Uint8Array(14).fill(0xa1) }));
+is(withVector, hex(library.cmsWrapKey(PROTECTION, PAIR, { iv: new Uint8Array(8).fill(0xa1) })));
 for (const length of [0, 1, 250, 251, 252, 9800]) {
   const content = " ~x".repeat(length).slice(0, length);
   const made = wraps({ optional: [["CT", content]] });
