@@ -1,11 +1,13 @@
-use Rattle.std.proofs.Common.{refl, rules}
+use Rattle.std.proofs.Common.{◌≡◌, ◌/◌, ◌-◌, ◌∙◌, length, drop, refl, rules, sym, take_at, true≢false}
 use Rattle.des_c.proofs.key_wrap.cukvashe_tkw_unwrap_key.Goals as goal
 
 pub returns-in-Ok-clause-accepted : goal.returns-in-Ok-clause-accepted
 returns-in-Ok-clause-accepted c = λ done other are under.
-    let found = (c.in-Ok.ensures.accepted other are (rw c.as_chunks.ensures.front under)).1 in
-    (refl, search (rules, found))
+    let count = length c.args.wrapped.now / 4 - 1 in
+    let long : length c.unwrap_tkw.new.key ≡ count = search rules in
+    let found = c.in-Ok.ensures.accepted other are (rw c.as_chunks.ensures.front under) in
+    (refl, take_at c.unwrap_tkw.new.key (drop count c.args.key.now) count long ∙ found.1)
 
 pub returns-in-Err-clause-accepted : goal.returns-in-Err-clause-accepted
 returns-in-Err-clause-accepted c = λ done other are under.
-    absurd (c.in-Err.ensures.accepted other are (rw c.as_chunks.ensures.front under)).0
+    absurd (true≢false (sym (c.in-Err.ensures.accepted other are (rw c.as_chunks.ensures.front under)).0))
