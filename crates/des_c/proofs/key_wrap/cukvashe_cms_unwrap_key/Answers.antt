@@ -8,5 +8,5 @@ returns-in-Ok-clause-unwrapped c = λ done.
     let found = c.in-Ok.ensures.unwrapped in (
       found.0,
       found.1,
-      rw (take_at c.unwrap_cms.new.key (drop count c.args.key.now) count long, c.as_chunks.ensures.front) found.2,
+      rw (take_at c.unwrap_cms.new.key (drop count c.args.key.now) count long, ← c.as_chunks.ensures.front) found.2,
     )
