@@ -390,6 +390,17 @@ static void returns_statuses_of_pins_and_cards(void) {
   CHECK(seen(cukvashe_emv_response_2(key, block, bytes, bytes, 9, made)) == CUKVASHE_ERR_DATA_LENGTH);
 }
 
+/* Those of streams. */
+static void returns_statuses_of_streams(void) {
+  static const uint8_t zeros[24] = {0};
+  cukvashe_tdes_ede3 context;
+  cukvashe_stream stream = {{0}};
+  uint8_t data[8] = {0};
+  CHECK(cukvashe_tdes_ede3_init(&context, zeros, sizeof zeros) == CUKVASHE_OK);
+  CHECK(seen(cukvashe_stream_begin(&stream, 0, zeros)) == CUKVASHE_ERR_MODE);
+  CHECK(seen(cukvashe_tdes_ede3_encrypt_stream(&context, &stream, data, sizeof data)) == CUKVASHE_ERR_STREAM);
+}
+
 /* Those of key wraps. */
 static void returns_statuses_of_key_wraps(void) {
   static const uint8_t key[16] = {0}, wrapped[24] = {0};
@@ -452,7 +463,8 @@ static const char *const words[] = {
     "protection key does not have", "key block is not as long as its header says", "version of the key block", "header does not end with",
     "optional blocks can't be read", "encrypted key data do not have", "0 to 9 or A to F", "MAC is not that of the key block",
     "padding of the key", "no optional block at this place", "hash function is not one", "number of iterations", "do not begin with Salted__",
-    "end within the salt, or it does not have 0 or 8 bytes", "context is not one",
+    "end within the salt, or it does not have 0 or 8 bytes", "context is not one", "mode is not one", "stream is not one",
+    "wrapped key does not have a length", "no key that was wrapped",
 };
 
 /* Every status was returned by some call, and has a sentence of its own; other numbers have one sentence. */
@@ -507,7 +519,7 @@ static void has_numbers(void) {
       CUKVASHE_ERR_OPTIONAL_BLOCK, CUKVASHE_ERR_KEY_DATA_LENGTH, CUKVASHE_ERR_KEY_BLOCK_DIGIT,
       CUKVASHE_ERR_KEY_BLOCK_MAC, CUKVASHE_ERR_PADDING_LENGTH, CUKVASHE_ERR_NO_OPTIONAL_BLOCK, CUKVASHE_ERR_HASH,
       CUKVASHE_ERR_ITERATIONS, CUKVASHE_ERR_NOT_SALTED, CUKVASHE_ERR_SALT_LENGTH, CUKVASHE_ERR_CONTEXT,
-      CUKVASHE_ERR_MODE, CUKVASHE_ERR_STREAM};
+      CUKVASHE_ERR_MODE, CUKVASHE_ERR_STREAM, CUKVASHE_ERR_WRAPPED_LENGTH, CUKVASHE_ERR_WRAPPED_KEY};
   CHECK(sizeof statuses / sizeof *statuses == LAST + 1);
   for (int i = 0; i <= LAST; i++) CHECK(statuses[i] == i);
   CHECK(CUKVASHE_BLOCK_SIZE == 8 && CUKVASHE_TAG_SIZE == 8);
@@ -560,6 +572,7 @@ int main(void) {
   returns_statuses();
   returns_statuses_of_pins_and_cards();
   returns_statuses_of_key_blocks();
+  returns_statuses_of_streams();
   returns_statuses_of_key_wraps();
   returns_statuses_of_passwords();
   has_sentences();
