@@ -23,9 +23,10 @@
  *
  * STATUSES
  *
- * A call that can refuse its arguments returns CUKVASHE_OK, or a CUKVASHE_ERR_.., and then it has changed nothing. Each
- * section names its errors in order: the first that applies is returned. CUKVASHE_OK is 0, so `if` is true for a wrong
- * tag or PIN where it asks verify: let it ask is_tag or is_pin, which are true for the right one alone.
+ * A call that can refuse its arguments returns CUKVASHE_OK, or a CUKVASHE_ERR_.., and then it has changed nothing (but
+ * see KEY WRAP). Each section names its errors in order: the first that applies is returned. CUKVASHE_OK is 0, so `if`
+ * is true for a wrong tag or PIN where it asks verify: let it ask is_tag or is_pin, which are true for the right one
+ * alone.
  *
  * WHAT YOU MUST UPHOLD
  *
@@ -38,10 +39,10 @@
  * SECRETS AND TIME
  *
  * The calls of a context of init may read tables, those of one of init_no_tables read none; both answer alike, and a
- * copy is of its kind. With tables, MACs, CBC encryption, and ECB and CBC decryption of a list whose number of blocks
- * modulo 128 is 1 to 31 read them at addresses that depend on the key and the data; without tables no call does, and
- * MACs, CBC encryption and short lists take up to four times as long. Take contexts without tables if others run
- * programs on the processor.
+ * copy is of its kind. With tables, these read them at addresses that depend on the key and the data: MACs, CBC and CFB
+ * encryption, OFB and CFB1, which go block by block; ECB, CTR, and CBC and CFB decryption if the number of blocks modulo
+ * 128 is 1 to 31. Without tables no call does, and these take up to four times as long. Take contexts without tables if
+ * others run programs on the processor.
  *
  * Other calls, and those of records, read none. Calls branch on lengths, on the status that they return, and on account
  * and key serial numbers, dates, codes, fill digits and decimalization tables, which are not secret here; on anything
@@ -67,21 +68,23 @@
  *
  *      6,000   any that is not named below
  *     27,000   _ecb, _ecb_to, _cbc, _cbc_to, _each, _check_values, _open_salted, key_block_
+ *     32,000   _mode, _stream, _stream_bits
  *     45,000   _macs, _macs_each, dukpt_transaction_keys_from_base
  *     66,000   _cbc_records
  *
  * WHAT IS PROVED
  *
  * The exports are proved safe, and proved to answer as this header says, if you uphold the above: by FIPS 46-3, FIPS 81
- * (CBC) and the standards named below. bytes_to_key and open_salted follow OpenSSL. No standard defines the calls of
- * KEYS, check values, components, PIN verification and card verification values: their rules are the words below. The
- * proof is for Linux on x86-64 and aarch64; code for riscv64 and Windows is compiled from that for x86-64, and tested.
+ * (CBC, CFB, OFB) and the standards named below. bytes_to_key and open_salted follow OpenSSL. No standard defines the
+ * calls of KEYS, check values, components, PIN verification and card verification values: their rules are the words
+ * below. The proof is for Linux on x86-64 and aarch64; code for riscv64 and Windows is compiled from that for x86-64,
+ * and tested.
  *
- * cukvashe_unpad, cukvashe_dukpt_is_usable, cukvashe_dukpt_next_serial, cukvashe_decimal_table_init and _init_any, and
- * cukvashe_key_block_header, _context and _optional_block are such exports. wipe, strerror and calls without arguments
- * are C. Others are C over hidden exports: it chooses the width of vectors, says which cipher or MAC is meant, reorders
- * arguments, takes them out of a struct, counts the blocks of a length, compares counts with lengths, and wipes the
- * stack.
+ * cukvashe_stream_begin, _begin_ctr_at and _position, cukvashe_unpad, cukvashe_dukpt_is_usable,
+ * cukvashe_dukpt_next_serial, cukvashe_decimal_table_init and _init_any, and cukvashe_key_block_header, _context and
+ * _optional_block are such exports. wipe, strerror and calls without arguments are C. Others are C over hidden exports:
+ * it chooses the width of vectors, says which cipher or MAC is meant, reorders arguments, takes them out of a struct,
+ * counts the blocks of a length, compares counts with lengths, and wipes the stack.
  */
 #ifndef CUKVASHE_DES_H
 #define CUKVASHE_DES_H
@@ -169,6 +172,10 @@ enum cukvashe_status {
   CUKVASHE_ERR_NOT_SALTED = 42,            /* the bytes do not begin with Salted__ */
   CUKVASHE_ERR_SALT_LENGTH = 43,           /* the bytes end within the salt, or it does not have 0 or 8 bytes */
   CUKVASHE_ERR_CONTEXT = 44,               /* the context is not one that the init of this type made */
+  CUKVASHE_ERR_MODE = 45,                  /* the mode is not one that the call takes */
+  CUKVASHE_ERR_STREAM = 46,                /* the stream is not one that was begun */
+  CUKVASHE_ERR_WRAPPED_LENGTH = 47,        /* the wrapped key does not have a length that it can have */
+  CUKVASHE_ERR_WRAPPED_KEY = 48,           /* the bytes are no key that was wrapped under the protection key */
 };
 
 /* Sizes, in bytes. */
@@ -203,6 +210,13 @@ enum cukvashe_status {
 #define CUKVASHE_SHA1 22
 #define CUKVASHE_SHA256 23
 
+/* The modes without padding. Cipher feedback with segments of n bytes, 1 to 8, has the number CUKVASHE_CFB1 + n. */
+#define CUKVASHE_CTR 31
+#define CUKVASHE_OFB 32
+#define CUKVASHE_CFB1 40
+#define CUKVASHE_CFB8 41
+#define CUKVASHE_CFB64 48
+
 /* The padding methods of MACs (ISO/IEC 9797-1:2011, 6.3): zeros; and a one bit, then zeros. */
 #define CUKVASHE_MAC_PADDING_1 1
 #define CUKVASHE_MAC_PADDING_2 2
@@ -215,7 +229,12 @@ enum cukvashe_status {
  *
  * strerror gives a constant sentence for each status, and for other numbers. wipe writes zeros over `size` bytes, and
  * no compiler leaves that out.
+ *
+ * is_supported says whether this processor has all that the library's code takes: on x86-64 the features of x86-64-v2,
+ * elsewhere always. Where it is false, call nothing but version, strerror and wipe: other calls would end the program at
+ * an instruction that the processor does not have.
  */
+bool cukvashe_is_supported(void);
 const char *cukvashe_version(void);
 const char *cukvashe_strerror(int status);
 void cukvashe_wipe(void *pointer, size_t size);
@@ -324,6 +343,142 @@ CUKVASHE_CHECK int cukvashe_tdes_ede3_encrypt_cbc_to(const cukvashe_tdes_ede3 *c
                                                      const uint8_t *input, uint8_t *output, size_t length);
 CUKVASHE_CHECK int cukvashe_tdes_ede3_decrypt_cbc_to(const cukvashe_tdes_ede3 *context, uint8_t iv[8],
                                                      const uint8_t *input, uint8_t *output, size_t length);
+
+/*
+ * MODES WITHOUT PADDING
+ *
+ * Counter mode (CTR), output feedback (OFB) and cipher feedback (CFB) by NIST SP 800-38A and FIPS 81: they take any
+ * number of bytes, and give as many. `mode` is one of
+ *
+ *     CUKVASHE_CTR     counter mode: `iv` is the first counter block, which goes up by 1 modulo 2^64
+ *     CUKVASHE_OFB     output feedback of 64 bits
+ *     CUKVASHE_CFB64   cipher feedback of 64 bits: "CFB" in OpenSSL, libgcrypt and the Python package cryptography
+ *     CUKVASHE_CFB8    cipher feedback of 8 bits: "CFB" in PyCryptodome
+ *     CUKVASHE_CFB1    cipher feedback of 1 bit
+ *
+ * or CUKVASHE_CFB1 + n: cipher feedback with segments of n bytes, 1 to 8.
+ *
+ * Never use a vector or a counter block twice under a key: two texts then reveal their xor. In CTR begin the next text
+ * after the last counter block of this one. These modes authenticate nothing: who knows a text can change the ciphertext
+ * so that it decrypts to any other.
+ *
+ * int cukvashe_NAME_encrypt_mode(const cukvashe_NAME *context, int mode, const uint8_t iv[8], uint8_t *data,
+ *                                size_t length)
+ * int cukvashe_NAME_decrypt_mode(const cukvashe_NAME *context, int mode, const uint8_t iv[8], uint8_t *data,
+ *                                size_t length)
+ *
+ * Encrypts or decrypts a whole text in place. Unlike in CBC, `iv` stays. Errors of encrypt_mode and decrypt_mode:
+ * CUKVASHE_ERR_CONTEXT, _MODE.
+ *
+ * int cukvashe_stream_begin(cukvashe_stream *stream, int mode, const uint8_t iv[8])
+ * void cukvashe_stream_begin_ctr_at(cukvashe_stream *stream, const uint8_t counter[8], uint64_t blocks)
+ *
+ * Begins a text that comes in pieces. begin_ctr_at begins it after `blocks` blocks of 8 bytes, of which `counter` is the
+ * first one's counter block, to decrypt a part without what stands before it. A stream is as secret as its text. Errors
+ * of stream_begin: CUKVASHE_ERR_MODE.
+ *
+ * int cukvashe_NAME_encrypt_stream(const cukvashe_NAME *context, cukvashe_stream *stream, uint8_t *data, size_t length)
+ * int cukvashe_NAME_decrypt_stream(const cukvashe_NAME *context, cukvashe_stream *stream, uint8_t *data, size_t length)
+ *
+ * Encrypts or decrypts the next bytes in place, any number of them: pieces become what the whole text becomes. Give a
+ * stream one context and one direction. Errors of encrypt_stream and decrypt_stream: CUKVASHE_ERR_CONTEXT,
+ * _STREAM.
+ *
+ * int cukvashe_NAME_encrypt_stream_bits(const cukvashe_NAME *context, cukvashe_stream *stream, uint8_t *data,
+ *                                       size_t bits)
+ * int cukvashe_NAME_decrypt_stream_bits(const cukvashe_NAME *context, cukvashe_stream *stream, uint8_t *data,
+ *                                       size_t bits)
+ *
+ * The same for the first `bits` bits at `data`, from the highest bit of the first byte on, in a stream of CUKVASHE_CFB1;
+ * the other bits of the last byte stay. Errors of encrypt_stream_bits and decrypt_stream_bits: CUKVASHE_ERR_CONTEXT,
+ * _STREAM; _MODE if the stream is of another mode.
+ *
+ * void cukvashe_stream_position(const cukvashe_stream *stream, uint8_t iv[8], size_t *used)
+ *
+ * Writes where a stream stands: in CTR the counter block, in OFB the last output block, in CFB the last eight bytes of
+ * the vector and the ciphertext; and how many bytes of the current output block are used. If `used` is 0, a stream that
+ * begins with this `iv` goes on from there.
+ */
+typedef struct {
+  uint64_t words[4];
+} cukvashe_stream;
+
+CUKVASHE_CHECK int cukvashe_des_encrypt_mode(const cukvashe_des *context, int mode, const uint8_t iv[8], uint8_t *data,
+                                             size_t length);
+CUKVASHE_CHECK int cukvashe_des_decrypt_mode(const cukvashe_des *context, int mode, const uint8_t iv[8], uint8_t *data,
+                                             size_t length);
+CUKVASHE_CHECK int cukvashe_tdes_ede2_encrypt_mode(const cukvashe_tdes_ede2 *context, int mode, const uint8_t iv[8],
+                                                   uint8_t *data, size_t length);
+CUKVASHE_CHECK int cukvashe_tdes_ede2_decrypt_mode(const cukvashe_tdes_ede2 *context, int mode, const uint8_t iv[8],
+                                                   uint8_t *data, size_t length);
+CUKVASHE_CHECK int cukvashe_tdes_ede3_encrypt_mode(const cukvashe_tdes_ede3 *context, int mode, const uint8_t iv[8],
+                                                   uint8_t *data, size_t length);
+CUKVASHE_CHECK int cukvashe_tdes_ede3_decrypt_mode(const cukvashe_tdes_ede3 *context, int mode, const uint8_t iv[8],
+                                                   uint8_t *data, size_t length);
+CUKVASHE_CHECK int cukvashe_stream_begin(cukvashe_stream *stream, int mode, const uint8_t iv[8]);
+void cukvashe_stream_begin_ctr_at(cukvashe_stream *stream, const uint8_t counter[8], uint64_t blocks);
+CUKVASHE_CHECK int cukvashe_des_encrypt_stream(const cukvashe_des *context, cukvashe_stream *stream, uint8_t *data,
+                                               size_t length);
+CUKVASHE_CHECK int cukvashe_des_decrypt_stream(const cukvashe_des *context, cukvashe_stream *stream, uint8_t *data,
+                                               size_t length);
+CUKVASHE_CHECK int cukvashe_tdes_ede2_encrypt_stream(const cukvashe_tdes_ede2 *context, cukvashe_stream *stream,
+                                                     uint8_t *data, size_t length);
+CUKVASHE_CHECK int cukvashe_tdes_ede2_decrypt_stream(const cukvashe_tdes_ede2 *context, cukvashe_stream *stream,
+                                                     uint8_t *data, size_t length);
+CUKVASHE_CHECK int cukvashe_tdes_ede3_encrypt_stream(const cukvashe_tdes_ede3 *context, cukvashe_stream *stream,
+                                                     uint8_t *data, size_t length);
+CUKVASHE_CHECK int cukvashe_tdes_ede3_decrypt_stream(const cukvashe_tdes_ede3 *context, cukvashe_stream *stream,
+                                                     uint8_t *data, size_t length);
+CUKVASHE_CHECK int cukvashe_des_encrypt_stream_bits(const cukvashe_des *context, cukvashe_stream *stream, uint8_t *data,
+                                                    size_t bits);
+CUKVASHE_CHECK int cukvashe_des_decrypt_stream_bits(const cukvashe_des *context, cukvashe_stream *stream, uint8_t *data,
+                                                    size_t bits);
+CUKVASHE_CHECK int cukvashe_tdes_ede2_encrypt_stream_bits(const cukvashe_tdes_ede2 *context, cukvashe_stream *stream,
+                                                          uint8_t *data, size_t bits);
+CUKVASHE_CHECK int cukvashe_tdes_ede2_decrypt_stream_bits(const cukvashe_tdes_ede2 *context, cukvashe_stream *stream,
+                                                          uint8_t *data, size_t bits);
+CUKVASHE_CHECK int cukvashe_tdes_ede3_encrypt_stream_bits(const cukvashe_tdes_ede3 *context, cukvashe_stream *stream,
+                                                          uint8_t *data, size_t bits);
+CUKVASHE_CHECK int cukvashe_tdes_ede3_decrypt_stream_bits(const cukvashe_tdes_ede3 *context, cukvashe_stream *stream,
+                                                          uint8_t *data, size_t bits);
+void cukvashe_stream_position(const cukvashe_stream *stream, uint8_t iv[8], size_t *used);
+
+/*
+ * KEY WRAP
+ *
+ * A key encrypted and authenticated under a protection key, one of triple DES of 16 or 24 bytes: by the key wrap of CMS
+ * (RFC 3217, of keys of any number of blocks), and by TKW (NIST SP 800-38F, 7). Parity stays as it is, and nothing
+ * looks at it. No call reads a table (see SECRETS AND TIME).
+ *
+ * int cukvashe_cms_wrap_key(const uint8_t *protection, size_t protection_length, const uint8_t iv[8],
+ *                           const uint8_t *key, size_t key_length, uint8_t *wrapped, size_t capacity,
+ *                           size_t *wrapped_length)
+ * int cukvashe_tkw_wrap_key(const uint8_t *protection, size_t protection_length, const uint8_t *key,
+ *                           size_t key_length, uint8_t *wrapped, size_t capacity, size_t *wrapped_length)
+ *
+ * Writes the wrapped key, which is 16 bytes longer in CMS and 4 bytes in TKW, and its length to `wrapped_length`. `iv`
+ * is random. CMS takes keys of 8 bytes or a multiple, TKW keys of 8 bytes or more, a multiple of 4 below 2^30. Errors of
+ * cms_wrap_key: CUKVASHE_ERR_PROTECTION_KEY_LENGTH; _BLOCKS also if `key_length` is 0; _CAPACITY. Errors of
+ * tkw_wrap_key: CUKVASHE_ERR_PROTECTION_KEY_LENGTH, _KEY_LENGTH, _CAPACITY.
+ *
+ * int cukvashe_cms_unwrap_key(const uint8_t *protection, size_t protection_length, const uint8_t *wrapped,
+ *                             size_t wrapped_length, uint8_t *key, size_t capacity, size_t *key_length)
+ * int cukvashe_tkw_unwrap_key(const uint8_t *protection, size_t protection_length, const uint8_t *wrapped,
+ *                             size_t wrapped_length, uint8_t *key, size_t capacity, size_t *key_length)
+ *
+ * Writes the key, and its length to `key_length`. Errors of cms_unwrap_key: CUKVASHE_ERR_PROTECTION_KEY_LENGTH,
+ * _WRAPPED_LENGTH, _CAPACITY; _WRAPPED_KEY, and then zeros stand where the key would. Errors of tkw_unwrap_key:
+ * CUKVASHE_ERR_PROTECTION_KEY_LENGTH, _WRAPPED_LENGTH, _CAPACITY; _WRAPPED_KEY, and then zeros stand where the key would.
+ */
+CUKVASHE_CHECK int cukvashe_cms_wrap_key(const uint8_t *protection, size_t protection_length, const uint8_t iv[8],
+                                         const uint8_t *key, size_t key_length, uint8_t *wrapped, size_t capacity,
+                                         size_t *wrapped_length);
+CUKVASHE_CHECK int cukvashe_cms_unwrap_key(const uint8_t *protection, size_t protection_length, const uint8_t *wrapped,
+                                           size_t wrapped_length, uint8_t *key, size_t capacity, size_t *key_length);
+CUKVASHE_CHECK int cukvashe_tkw_wrap_key(const uint8_t *protection, size_t protection_length, const uint8_t *key,
+                                         size_t key_length, uint8_t *wrapped, size_t capacity, size_t *wrapped_length);
+CUKVASHE_CHECK int cukvashe_tkw_unwrap_key(const uint8_t *protection, size_t protection_length, const uint8_t *wrapped,
+                                           size_t wrapped_length, uint8_t *key, size_t capacity, size_t *key_length);
 
 /*
  * BLOCKS UNDER KEYS OF THEIR OWN
@@ -1038,6 +1193,7 @@ CUKVASHE_CHECK int cukvashe_tdes_ede3_open_salted(int hash, size_t iterations, c
 size_t cukvashe_des_size(void);
 size_t cukvashe_tdes_ede2_size(void);
 size_t cukvashe_tdes_ede3_size(void);
+size_t cukvashe_stream_size(void);
 size_t cukvashe_cbc_mac_des_size(void);
 size_t cukvashe_cbc_mac_tdes_ede2_size(void);
 size_t cukvashe_cbc_mac_tdes_ede3_size(void);
@@ -1079,6 +1235,11 @@ int cukvashe_iso7816(void);
 int cukvashe_md5(void);
 int cukvashe_sha1(void);
 int cukvashe_sha256(void);
+int cukvashe_ctr(void);
+int cukvashe_ofb(void);
+int cukvashe_cfb1(void);
+int cukvashe_cfb8(void);
+int cukvashe_cfb64(void);
 int cukvashe_mac_padding_1(void);
 int cukvashe_mac_padding_2(void);
 

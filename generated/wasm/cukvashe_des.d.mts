@@ -38,8 +38,12 @@ export class NotLoaded extends CukvasheError {}
 export class NotSupported extends CukvasheError {}
 /** The module is not one that cukvashe_des.mjs was built with. */
 export class ModuleMismatch extends CukvasheError {}
-/** An initialization vector does not have 8 bytes. */
+/** An initialization vector, or a counter block, does not have 8 bytes. */
 export class VectorLength extends CukvasheError {}
+/** A segment of CFB does not have 1 bit, or 8, 16, 24, 32, 40, 48, 56 or 64. */
+export class SegmentSize extends CukvasheError {}
+/** A position in a stream is not 0 to 2^67 - 1. */
+export class Position extends CukvasheError {}
 /** A key serial number does not have ten bytes. */
 export class SerialLength extends CukvasheError {}
 /** There are not ten fill digits. */
@@ -137,6 +141,10 @@ export class IterationCount extends CukvasheError {}
 export class NotSalted extends CukvasheError {}
 /** The bytes end within the salt, or it does not have 0 or 8 bytes. */
 export class SaltLength extends CukvasheError {}
+/** The wrapped key does not have a length that it can have. */
+export class WrappedLength extends CukvasheError {}
+/** The bytes are no key that was wrapped under the protection key. */
+export class WrappedKey extends CukvasheError {}
 // This ends what bindings/describe made.
 
 // ---- Ciphers and MACs
@@ -147,8 +155,8 @@ declare abstract class Keyed {
 }
 
 /**
- * A block cipher (FIPS 46-3) under one key, of `keySize` bytes. Data are whole blocks of 8 bytes: `pad` and `unpad`
- * make them of other data. KeyLength.
+ * A block cipher (FIPS 46-3) under one key, of `keySize` bytes. ECB and CBC take whole blocks of 8 bytes: `pad` and
+ * `unpad` make them of other data. KeyLength.
  */
 declare abstract class Cipher extends Keyed {
   static readonly blockSize: 8;
@@ -167,6 +175,27 @@ declare abstract class Cipher extends Keyed {
    * in pieces, the last block of `data` is the vector of the next piece. VectorLength, BlockLength.
    */
   decryptCbc(data: Uint8Array, named: { iv: Uint8Array }): Uint8Array;
+  /**
+   * The data, of any length, encrypted by the counter mode from a first counter block of 8 bytes, of which the next ones
+   * are counted up as one number. Two texts whose counters meet give their xor away. VectorLength.
+   */
+  encryptCtr(data: Uint8Array, named: { counter: Uint8Array }): Uint8Array;
+  /** The data, decrypted by the counter mode. VectorLength. */
+  decryptCtr(data: Uint8Array, named: { counter: Uint8Array }): Uint8Array;
+  /**
+   * The data, of any length, encrypted by output feedback from an initialization vector of 8 bytes. Two texts from one
+   * vector give their xor away. VectorLength.
+   */
+  encryptOfb(data: Uint8Array, named: { iv: Uint8Array }): Uint8Array;
+  /** The data, decrypted by output feedback. VectorLength. */
+  decryptOfb(data: Uint8Array, named: { iv: Uint8Array }): Uint8Array;
+  /**
+   * The data, of any length, encrypted by cipher feedback from an initialization vector of 8 bytes, with segments of so
+   * many bits: by CFB alone PyCryptodome means 8, `node:crypto` 64. VectorLength, SegmentSize.
+   */
+  encryptCfb(data: Uint8Array, named: { iv: Uint8Array; segmentSize: Segment }): Uint8Array;
+  /** The data, decrypted by cipher feedback with segments of so many bits. VectorLength, SegmentSize. */
+  decryptCfb(data: Uint8Array, named: { iv: Uint8Array; segmentSize: Segment }): Uint8Array;
 }
 
 /** DES, under a key of 8 bytes. */
@@ -180,6 +209,44 @@ export class TdesEde2 extends Cipher {
 /** Triple DES: encryption, decryption, encryption, under the three parts of a key of 24 bytes. */
 export class TdesEde3 extends Cipher {
   static readonly keySize: 24;
+}
+
+/** The bits of a segment of CFB. */
+export type Segment = 1 | 8 | 16 | 24 | 32 | 40 | 48 | 56 | 64;
+
+/**
+ * Data that come in pieces of any length, under a cipher. Wherever they are cut, they become what they become as a
+ * whole. A stream goes on as long as its cipher is not closed; `close` forgets where it is, but not the cipher's key.
+ */
+declare abstract class Stream extends Keyed {
+  /** The bytes that come next, encrypted. */
+  encrypt(data: Uint8Array): Uint8Array;
+  /** The bytes that come next, decrypted. */
+  decrypt(data: Uint8Array): Uint8Array;
+  /** A stream that goes on from here by itself. */
+  copy(): this;
+}
+
+/** The counter mode from a first counter block, as encryptCtr. VectorLength. */
+export class Ctr extends Stream {
+  constructor(cipher: Cipher, named: { counter: Uint8Array });
+  /** Goes on at a byte of the text, from 0 on, of which no byte before it is needed. Position. */
+  seek(position: number | bigint): void;
+}
+/** Output feedback from an initialization vector, as encryptOfb. VectorLength. */
+export class Ofb extends Stream {
+  constructor(cipher: Cipher, named: { iv: Uint8Array });
+}
+/** Cipher feedback from an initialization vector, as encryptCfb. VectorLength, SegmentSize. */
+export class Cfb extends Stream {
+  constructor(cipher: Cipher, named: { iv: Uint8Array; segmentSize: Segment });
+  /**
+   * The data, of which so many bits, from the highest of the first byte on, are encrypted, with segments of 1 bit. The
+   * others stay. SegmentSize, DataLength.
+   */
+  encryptBits(data: Uint8Array, bits: number): Uint8Array;
+  /** The data, of which so many bits are decrypted. SegmentSize, DataLength. */
+  decryptBits(data: Uint8Array, bits: number): Uint8Array;
 }
 
 /** A message authentication code of a message that comes in pieces. */
@@ -526,6 +593,25 @@ export function keyBlockHeader(block: string | Uint8Array): KeyBlockHeader;
 /** The optional blocks of a key block, read with no key. Nothing is authenticated. Errors as of keyBlockHeader. */
 export function keyBlockOptionalBlocks(block: string | Uint8Array): [name: string, content: string][];
 
+// ---- Key wraps: the key wrap of CMS (RFC 3217), and TKW (NIST SP 800-38F). Protection keys (KEK) have 16 or 24 bytes
+
+/**
+ * A key of 8 bytes or a multiple, wrapped by the key wrap of CMS, which makes it 16 bytes longer. The initialization
+ * vector is random, or the one that is given. VectorLength, ProtectionKeyLength, BlockLength.
+ */
+export function cmsWrapKey(protection: Uint8Array, key: Uint8Array, options?: { iv?: Uint8Array }): Uint8Array;
+/**
+ * The key that the key wrap of CMS wrapped. Its parity is not tested. ProtectionKeyLength, WrappedLength; WrappedKey if
+ * it was changed, or is under another key.
+ */
+export function cmsUnwrapKey(protection: Uint8Array, wrapped: Uint8Array): Uint8Array;
+/**
+ * A key of 8 bytes or more, a multiple of 4, wrapped by TKW, which makes it 4 bytes longer. ProtectionKeyLength, KeyLength.
+ */
+export function tkwWrapKey(protection: Uint8Array, key: Uint8Array): Uint8Array;
+/** The key that TKW wrapped. ProtectionKeyLength, WrappedLength; WrappedKey if it was changed, or is under another key. */
+export function tkwUnwrapKey(protection: Uint8Array, wrapped: Uint8Array): Uint8Array;
+
 // ---- Keys from passwords, and what `openssl enc` encrypted under them. Passwords are bytes
 
 /**
@@ -613,4 +699,4 @@ export function macsEach(
 export function wrongTags(tags: Uint8Array, expected: Uint8Array): number[];
 
 // What has no value at run time: types alone.
-export type { Cipher, KeyBlockHeader, Mac };
+export type { Cipher, KeyBlockHeader, Mac, Stream };

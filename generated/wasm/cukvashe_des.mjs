@@ -21,8 +21,8 @@ export const BLOCK_SIZE = 8;
 export const TAG_SIZE = 8;
 
 // The SHA-256 of the modules that this file was built with: the one of a 64-bit memory, and the same of a 32-bit memory.
-const MODULE_SUM = "7773d5a40ff20f991ef1c23b8ce1e4c463104296bdeeeaa0effb1f767fe1db25";
-const NARROW_SUM = "febc162d074c9c1d5308469e58e4f96e3d9555d401f8b84a35236b949300d68c";
+const MODULE_SUM = "0d61c22aba2e4d0efa5bb99675e9cd621263badad162a1ab995320309365a311";
+const NARROW_SUM = "51b3159afe8664e07b4ff62e3e466192347ec3a89bd7f2530a32f4b2f2b3fc3a";
 
 // The bytes of the module's stack, which lies at its address 0. `build` links it so.
 const STACK_SIZE = 131072;
@@ -43,6 +43,8 @@ export const NotLoaded = fault("NotLoaded");
 export const NotSupported = fault("NotSupported");
 export const ModuleMismatch = fault("ModuleMismatch");
 export const VectorLength = fault("VectorLength");
+export const SegmentSize = fault("SegmentSize");
+export const Position = fault("Position");
 export const SerialLength = fault("SerialLength");
 export const WeakKey = fault("WeakKey");
 export const Closed = fault("Closed");
@@ -96,6 +98,10 @@ const ITERATIONS = 41;
 const NOT_SALTED = 42;
 const SALT_LENGTH = 43;
 const CONTEXT = 44;
+const MODE = 45;
+const STREAM = 46;
+const WRAPPED_LENGTH = 47;
+const WRAPPED_KEY = 48;
 const SENTENCES = [
   "success",
   "the key does not have a length that the call takes",
@@ -142,6 +148,10 @@ const SENTENCES = [
   "the bytes do not begin with Salted__",
   "the bytes end within the salt, or it does not have 0 or 8 bytes",
   "the context is not one that the init of this type made",
+  "the mode is not one that the call takes",
+  "the stream is not one that was begun",
+  "the wrapped key does not have a length that it can have",
+  "the bytes are no key that was wrapped under the protection key",
 ];
 export const KeyLength = fault("KeyLength");
 export const BlockLength = fault("BlockLength");
@@ -182,6 +192,8 @@ export const HashName = fault("HashName");
 export const IterationCount = fault("IterationCount");
 export const NotSalted = fault("NotSalted");
 export const SaltLength = fault("SaltLength");
+export const WrappedLength = fault("WrappedLength");
+export const WrappedKey = fault("WrappedKey");
 const FAULTS = new Map([
   [KEY_LENGTH, KeyLength],
   [BLOCKS, BlockLength],
@@ -222,6 +234,8 @@ const FAULTS = new Map([
   [ITERATIONS, IterationCount],
   [NOT_SALTED, NotSalted],
   [SALT_LENGTH, SaltLength],
+  [WRAPPED_LENGTH, WrappedLength],
+  [WRAPPED_KEY, WrappedKey],
 ]);
 // This ends what bindings/describe made.
 
@@ -275,11 +289,13 @@ function keyOf(key, ...sizes) {
   throw new KeyLength(`a key has ${sizes.join(" or ")} bytes, not ${bytes.length}`);
 }
 
-function vectorOf(iv) {
-  const bytes = bytesOf(iv, "an initialization vector");
+function vectorOf(iv, what = "an initialization vector") {
+  const bytes = bytesOf(iv, what);
   if (bytes.length === BLOCK_SIZE) return bytes;
-  throw new VectorLength(`an initialization vector has ${BLOCK_SIZE} bytes, not ${bytes.length}`);
+  throw new VectorLength(`${what} has ${BLOCK_SIZE} bytes, not ${bytes.length}`);
 }
+
+const counterOf = (counter) => vectorOf(counter, "a counter block");
 
 function serialOf(serial) {
   const bytes = bytesOf(serial, "a key serial number");
@@ -341,15 +357,15 @@ function namedOf(what, object, ...names) {
 const optionsOf = (options, ...names) => namedOf("options", options, ...names);
 
 /**
- * What a call takes by these names, all of them, after its data. By its place a vector would pass for data of its length,
- * and the data for a vector.
+ * What a call takes by these names, all of them, after its data, or after its cipher. By its place a vector would pass
+ * for data of its length, and the data for a vector.
  */
-function afterData(form, [options, ...more], ...names) {
+function afterData(form, [options, ...more], names, first = "the data come") {
   if (more.length === 0 && isOfNames(options) && hasNoOther(options, names)) {
     const values = names.map((name) => options[name]);
     if (!values.includes(undefined)) return values;
   }
-  throw new TypeError(`write ${form}: the data come first, the rest by name, and nothing else`);
+  throw new TypeError(`write ${form}: ${first} first, the rest by name, and nothing else`);
 }
 
 /** Refuses arguments that a call does not have. Passed over, they would be taken for a part of its answer. */
@@ -705,7 +721,7 @@ function contextAt({ words, algorithm }, at) {
   return algorithm === undefined ? [at, count] : [algorithm, at, count, at + 8n * count];
 }
 
-// Of each cipher, MAC, terminal and decimalization table its class, its kind, its context, which is null once it was
+// Of each cipher, stream, MAC, terminal and decimalization table its class, its kind, its context, which is null once it was
 // closed, and the instance that made it: of an instance in which a call did not end nobody knows what it had written. No
 // text of an object shows them.
 const states = new WeakMap();
@@ -741,6 +757,22 @@ if (Symbol.dispose !== undefined) Object.defineProperty(Keyed.prototype, Symbol.
 
 // ---- Ciphers --------------------------------------------------------------------------------------------------------
 
+const CTR = 31;
+const OFB = 32;
+const CFB1 = 40;
+
+// What says of CFB how it is called.
+const WITH_SEGMENT = "{ iv, segmentSize }), with the bits of a segment (by CFB alone PyCryptodome means 8, node:crypto 64)";
+
+/** The number of CFB with segments of so many bits. */
+function cfbOf(segmentSize) {
+  if (typeof segmentSize !== "number") throw new TypeError("segmentSize: a number of bits is needed");
+  if (segmentSize === 1 || (segmentSize % 8 === 0 && segmentSize >= 8 && segmentSize <= 64)) {
+    return CFB1 + Math.floor(segmentSize / 8);
+  }
+  throw new SegmentSize("a segment has 1 bit, or 8, 16, 24, 32, 40, 48, 56 or 64");
+}
+
 class Cipher extends Keyed {
   static blockSize = BLOCK_SIZE;
 
@@ -767,13 +799,43 @@ class Cipher extends Keyed {
   }
 
   encryptCbc(data, ...named) {
-    const [iv] = afterData("encryptCbc(data, { iv })", named, "iv");
+    const [iv] = afterData("encryptCbc(data, { iv })", named, ["iv"]);
     return answered(this, "internal_encrypt_cbc", data, [vectorOf(iv)]);
   }
 
   decryptCbc(data, ...named) {
-    const [iv] = afterData("decryptCbc(data, { iv })", named, "iv");
+    const [iv] = afterData("decryptCbc(data, { iv })", named, ["iv"]);
     return answered(this, "internal_decrypt_cbc", data, [vectorOf(iv)]);
+  }
+
+  encryptCtr(data, ...named) {
+    const [counter] = afterData("encryptCtr(data, { counter })", named, ["counter"]);
+    return inMode(this, "internal_encrypt_mode", CTR, counterOf(counter), data);
+  }
+
+  decryptCtr(data, ...named) {
+    const [counter] = afterData("decryptCtr(data, { counter })", named, ["counter"]);
+    return inMode(this, "internal_decrypt_mode", CTR, counterOf(counter), data);
+  }
+
+  encryptOfb(data, ...named) {
+    const [iv] = afterData("encryptOfb(data, { iv })", named, ["iv"]);
+    return inMode(this, "internal_encrypt_mode", OFB, vectorOf(iv), data);
+  }
+
+  decryptOfb(data, ...named) {
+    const [iv] = afterData("decryptOfb(data, { iv })", named, ["iv"]);
+    return inMode(this, "internal_decrypt_mode", OFB, vectorOf(iv), data);
+  }
+
+  encryptCfb(data, ...named) {
+    const [iv, size] = afterData(`encryptCfb(data, ${WITH_SEGMENT}`, named, ["iv", "segmentSize"]);
+    return inMode(this, "internal_encrypt_mode", cfbOf(size), vectorOf(iv), data);
+  }
+
+  decryptCfb(data, ...named) {
+    const [iv, size] = afterData(`decryptCfb(data, ${WITH_SEGMENT}`, named, ["iv", "segmentSize"]);
+    return inMode(this, "internal_decrypt_mode", cfbOf(size), vectorOf(iv), data);
   }
 }
 
@@ -796,6 +858,17 @@ function answered(cipher, call, data, vectors) {
   });
 }
 
+/** What a call makes of data of any length, in place, in a mode without padding. */
+function inMode(cipher, call, mode, vector, data) {
+  const bytes = bytesOf(data, "data");
+  return inside((memory) => {
+    const { kind, context } = memory.state(cipher, Cipher);
+    const [at, length] = memory.list(bytes);
+    memory.call(call, ...contextAt(kind, memory.put(context)), mode, memory.put(vector), at, length);
+    return memory.taken(at, bytes.length);
+  });
+}
+
 export class Des extends Cipher {
   static keySize = 8;
 }
@@ -814,6 +887,125 @@ kinds.set(TdesEde3, { keySize: 24, words: 49 });
 
 /** The kind of a class of ciphers, the first argument of a call. */
 const cipherOf = (Class) => kindOf(Class, Cipher, "the first argument");
+
+// ---- Streams: CTR, OFB and CFB of data that come in pieces -----------------------------------------------------------
+
+const STREAM_SIZE = 32;
+
+/** The beginning of a stream under a cipher, from a vector. */
+function begin(stream, cipher, mode, vector) {
+  const counter = vector.slice();
+  const state = inside((memory) => {
+    memory.state(cipher, Cipher, "the first argument");
+    const at = memory.room(STREAM_SIZE);
+    memory.call("stream_begin", at, mode, memory.put(counter));
+    return memory.taken(at, STREAM_SIZE);
+  });
+  keep(stream, Stream, { cipher, mode, counter }, state);
+}
+
+/** What a call makes of the bytes that come next; `bits` gives how many bits it takes, if it takes them. */
+function streamed(stream, call, data, bits = () => []) {
+  const bytes = bytesOf(data, "data");
+  return inside((memory) => {
+    const { kind: { cipher, mode }, context: state } = memory.state(stream, Stream);
+    const { kind, context } = memory.state(cipher, Cipher);
+    const counts = bits(mode, bytes);
+    const [[at, length], place] = [memory.list(bytes), memory.put(state)];
+    memory.call(call, ...contextAt(kind, memory.put(context)), place, at, length, ...counts);
+    memory.take(place, state);
+    return memory.taken(at, bytes.length);
+  });
+}
+
+class Stream extends Keyed {
+  encrypt(data, ...more) {
+    refuseMore(more, "encrypt takes data alone");
+    return streamed(this, "internal_encrypt_stream", data);
+  }
+
+  decrypt(data, ...more) {
+    refuseMore(more, "decrypt takes data alone");
+    return streamed(this, "internal_decrypt_stream", data);
+  }
+
+  copy(...more) {
+    refuseMore(more);
+    return inside((memory) => {
+      const { kind, context } = memory.state(this, Stream);
+      return keep(Object.create(Object.getPrototypeOf(this)), Stream, kind, context.slice());
+    });
+  }
+}
+
+/** A position in a stream, which may be a BigInt. */
+function positionOf(position) {
+  if (typeof position !== "number" && typeof position !== "bigint") throw new TypeError("a position: a number is needed");
+  const isWhole = typeof position === "bigint" || Number.isSafeInteger(position);
+  if (isWhole && position >= 0 && position < 2n ** 67n) return BigInt(position);
+  throw new Position("a position in a stream is 0 to 2^67 - 1");
+}
+
+const CIPHER_FIRST = "the cipher comes";
+
+export class Ctr extends Stream {
+  constructor(cipher, ...named) {
+    super();
+    const [counter] = afterData("new Ctr(cipher, { counter })", named, ["counter"], CIPHER_FIRST);
+    begin(this, cipher, CTR, counterOf(counter));
+  }
+
+  seek(position, ...more) {
+    refuseMore(more);
+    const place = positionOf(position);
+    const rest = place % 8n;
+    inside((memory) => {
+      const { kind: { cipher, counter }, context: state } = memory.state(this, Stream);
+      const { kind, context } = memory.state(cipher, Cipher);
+      const at = memory.room(STREAM_SIZE);
+      memory.call("stream_begin_ctr_at", at, memory.put(counter), place / 8n);
+      const skipped = memory.room(Number(rest));
+      memory.call("internal_encrypt_stream", ...contextAt(kind, memory.put(context)), at, skipped, rest);
+      memory.take(at, state);
+    });
+  }
+}
+
+export class Ofb extends Stream {
+  constructor(cipher, ...named) {
+    super();
+    const [iv] = afterData("new Ofb(cipher, { iv })", named, ["iv"], CIPHER_FIRST);
+    begin(this, cipher, OFB, vectorOf(iv));
+  }
+}
+
+export class Cfb extends Stream {
+  constructor(cipher, ...named) {
+    super();
+    const [iv, size] = afterData(`new Cfb(cipher, ${WITH_SEGMENT}`, named, ["iv", "segmentSize"], CIPHER_FIRST);
+    begin(this, cipher, cfbOf(size), vectorOf(iv));
+  }
+
+  encryptBits(data, bits, ...more) {
+    refuseMore(more);
+    return streamed(this, "internal_encrypt_stream_bits", data, bitsOf(bits));
+  }
+
+  decryptBits(data, bits, ...more) {
+    refuseMore(more);
+    return streamed(this, "internal_decrypt_stream_bits", data, bitsOf(bits));
+  }
+}
+
+/** Tests a number of bits, by a mode and by bytes. */
+function bitsOf(bits) {
+  if (typeof bits !== "number") throw new TypeError("the number of bits: a number is needed");
+  return (mode, bytes) => {
+    if (mode !== CFB1) throw new SegmentSize("bits are taken with segments of 1 bit alone");
+    if (Number.isInteger(bits) && bits >= 0 && bits <= 8 * bytes.length) return [BigInt(bits)];
+    throw new DataLength(`${bytes.length} bytes do not have so many bits`);
+  };
+}
 
 // ---- Message authentication codes -----------------------------------------------------------------------------------
 
@@ -1501,6 +1693,46 @@ export function keyBlockOptionalBlocks(block, ...more) {
   });
 }
 
+// ---- Key wraps: the key wrap of CMS (RFC 3217), and TKW (NIST SP 800-38F) ---------------------------------------------
+
+// How many bytes a wrapped key has more than the key, and of how many is what a call writes: the blocks of CMS, the semiblocks of TKW.
+const CMS = { more: 16, unit: 8 };
+const TKW = { more: 4, unit: 4 };
+
+/** What a call makes of bytes, so many more of them, under a protection key. It takes the capacity in units. */
+function through(call, protection, given, { more, unit }, vectors = []) {
+  const [held, bytes] = [bytesOf(protection, "a protection key"), bytesOf(given, "a key")];
+  return inside((memory) => {
+    const laid = [...memory.list(held), ...vectors.map((vector) => memory.put(vector)), ...memory.list(bytes)];
+    const capacity = Math.max(bytes.length + more, 0);
+    const [at, length] = [memory.room(capacity), memory.room(8)];
+    memory.call(call, ...laid, at, BigInt(Math.floor(capacity / unit)), length);
+    return memory.taken(at, memory.word(length));
+  });
+}
+
+export function cmsWrapKey(protection, key, options = {}, ...more) {
+  refuseMore(more);
+  const { iv } = optionsOf(options, "iv");
+  const vector = iv === undefined ? crypto.getRandomValues(new Uint8Array(BLOCK_SIZE)) : vectorOf(iv);
+  return through("cms_wrap_key", protection, key, CMS, [vector]);
+}
+
+export function cmsUnwrapKey(protection, wrapped, ...more) {
+  refuseMore(more);
+  return through("cms_unwrap_key", protection, wrapped, { ...CMS, more: -CMS.more });
+}
+
+export function tkwWrapKey(protection, key, ...more) {
+  refuseMore(more);
+  return through("tkw_wrap_key", protection, key, TKW);
+}
+
+export function tkwUnwrapKey(protection, wrapped, ...more) {
+  refuseMore(more);
+  return through("tkw_unwrap_key", protection, wrapped, { ...TKW, more: -TKW.more });
+}
+
 // ---- Keys from passwords, and what `openssl enc` encrypted under them -------------------------------------------------
 
 const HASHES = new Map([["md5", 21], ["sha1", 22], ["sha256", 23]]);
@@ -1632,7 +1864,7 @@ export function decryptCbcRecords(cipher, blocks, ...named) {
 
 function recorded(name, call, cipher, blocks, named) {
   const form = `${name}(cipher, blocks, { vectors, counts })`;
-  const [vectors, counts] = afterData(form, named, "vectors", "counts");
+  const [vectors, counts] = afterData(form, named, ["vectors", "counts"]);
   const sizes = numbersOf(counts, "counts");
   const chains = listOf(vectors, BLOCK_SIZE, VectorLength, "vectors");
   const given = listOf(blocks, BLOCK_SIZE, BlockLength, "blocks");
