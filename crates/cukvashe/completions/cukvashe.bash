@@ -13,7 +13,10 @@ _cukvashe() {
     2:'key-block '*) words='header unwrap wrap' ;;
     *)
       case "$command:$place:$3" in
-        'encrypt:1:'* | 'decrypt:1:'*) words='des-ecb des-cbc des-ede-ecb des-ede-cbc des-ede3-ecb des-ede3-cbc' ;;
+        'encrypt:1:'* | 'decrypt:1:'*)
+          words='des-ecb des-cbc des-cfb des-cfb8 des-ofb des-ctr des-ede-ecb des-ede-cbc des-ede-cfb des-ede-cfb8 des-ede-ofb des-ede-ctr
+          des-ede3-ecb des-ede3-cbc des-ede3-cfb des-ede3-cfb8 des-ede3-ofb des-ede3-ctr'
+          ;;
         'mac:1:'*) words='cbc-mac retail cmac' ;;
         'dukpt:2:'*) words='pin mac data data-variant' ;;
         'pin encode:1:'* | 'pin decode:1:'*) words='0 1 2 3' ;;
