@@ -1,0 +1,2 @@
+pub mod JoinedBlocks
+pub mod KnownAnswers

@@ -1,0 +1,5 @@
+pub mod ChainedBytes
+pub mod Mysql
+pub mod Pkcs5
+pub mod JavaTripleDes
+pub mod MysqlErrors

@@ -1,0 +1,33 @@
+-- The values of `DES_ENCRYPT`, as MySQL up to 5.7 and MariaDB have it (Item_func_des_encrypt, sql/item_strfunc.cc).
+use Rattle.std.specs.Prelude.{◌≡◌, ◌≢◌, ◌≤◌, ℕ, ◌+◌, ◌-◌, ◌%◌, List, [], ◌∷◌, ◌++◌, length, drop, replicate, get_or}
+use Rattle.md5.specs.Md5.{md5}
+use Rattle.des.specs.Triple.{EnciphersEde3}
+use Rattle.des_passwords.specs.BytesToKey.{bytes_to_key}
+use Rattle.des_columns.specs.ChainedBytes.{IsChained}
+
+-- the key of a key string, as EVP_BytesToKey makes it by MD5, with no salt and one iteration
+abbrev pub key_of : List ℕ → List ℕ
+key_of string = bytes_to_key md5 16 string [] 1 24
+
+-- the 1 to 8 bytes that complete a block, by the number of bytes past the last whole one: `*`, and their number as the last
+abbrev pub tail_after : ℕ → List ℕ
+tail_after past = replicate (7 - past) 42 ++ (8 - past) ∷ []
+
+abbrev pub padded : List ℕ → List ℕ
+padded text = text ++ tail_after (length text % 8)
+
+-- triple DES under a key takes padded text to the blocks of a value, chained from zeros
+abbrev pub Enciphered : List ℕ → List ℕ → List ℕ → Type 0
+Enciphered key plain blocks = IsChained (EnciphersEde3 key) (replicate 8 0) plain blocks
+
+-- the value of a text that is not empty: 128 and the number of the key, and the encrypted blocks
+abbrev pub IsValueOf : List ℕ → ℕ → List ℕ → List ℕ → Type 0
+IsValueOf key number text value = (get_or value 0 0 ≡ 128 + number) × Enciphered key (padded text) (drop 1 value)
+
+-- bytes that the server takes for encrypted: a byte with the highest bit, and one or more blocks
+abbrev pub HasForm : List ℕ → Type 0
+HasForm value = (9 ≤ length value) × (length value % 8 ≡ 1) × (128 ≤ get_or value 0 0)
+
+-- the last byte
+abbrev pub last_of : List ℕ → ℕ
+last_of value = get_or value (length value - 1) 0

@@ -1,0 +1,4 @@
+//! What servers and libraries wrote: MariaDB 10.11, and the ciphers of Java.
+
+mod mysql;
+mod passwords;
