@@ -1,5 +1,5 @@
 -- `PBEWithMD5AndTripleDES`, as Java's provider SunJCE derives key and vector (com.sun.crypto.provider.PBES1Core).
-use Rattle.std.specs.Prelude.{ℕ, zero, suc, ◌==◌, ◌&&◌, Bool, List, [], ◌∷◌, ◌++◌, take, drop, get_or, if◌then◌else◌}
+use Rattle.std.specs.Prelude.{ℕ, zero, suc, ◌==◌, ◌&&◌, Bool, List, [], ◌∷◌, ◌++◌, get_or, if◌then◌else◌}
 use Rattle.md5.specs.Md5.{md5}
 
 -- D n, where D 0 is a half of the salt and D (n + 1) = MD5 (D n || password)

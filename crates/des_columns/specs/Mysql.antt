@@ -1,5 +1,5 @@
 -- The values of `DES_ENCRYPT`, as MySQL up to 5.7 and MariaDB have it (Item_func_des_encrypt, sql/item_strfunc.cc).
-use Rattle.std.specs.Prelude.{◌≡◌, ◌≢◌, ◌≤◌, ℕ, ◌+◌, ◌-◌, ◌%◌, List, [], ◌∷◌, ◌++◌, length, drop, replicate, get_or}
+use Rattle.std.specs.Prelude.{◌≡◌, ◌≤◌, ℕ, ◌+◌, ◌-◌, ◌%◌, List, [], ◌∷◌, ◌++◌, length, drop, replicate, get_or}
 use Rattle.md5.specs.Md5.{md5}
 use Rattle.des.specs.Triple.{EnciphersEde3}
 use Rattle.des_passwords.specs.BytesToKey.{bytes_to_key}

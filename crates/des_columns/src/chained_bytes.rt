@@ -1,4 +1,4 @@
-//! Bytes that CBC chains, in place.
+//! Bytes that are whole blocks and that CBC chains, in place.
 
 ghost use Rattle.std.specs.Prelude.{◌≡◌, ◌*◌, length};
 ghost use Rattle.des_columns.specs.ChainedBytes.{IsChained};
@@ -7,8 +7,9 @@ use des::cipher::KeyBytes;
 use des_fast::many::ManyBlocks;
 use std::simd::prelude::*;
 
-// Encrypts bytes in place, chained from a vector, by way of as many blocks of room.
-pub(crate) fn encrypt_bytes<C: ManyBlocks + Drop>(
+/// Encrypts bytes in place, chained from a vector, by way of as many blocks of room. No table is
+/// read at an index that depends on the key or the bytes.
+pub fn encrypt_bytes<C: ManyBlocks + Drop>(
     key: &C::Key,
     iv: &[u8; 8],
     bytes: &mut [u8],
@@ -24,8 +25,8 @@ pub(crate) fn encrypt_bytes<C: ManyBlocks + Drop>(
     bytes.copy_from_slice(room.as_flattened());
 }
 
-// Decrypts bytes in place that were so encrypted.
-pub(crate) fn decrypt_bytes<C: ManyBlocks + Drop>(
+/// Decrypts bytes in place that were so encrypted.
+pub fn decrypt_bytes<C: ManyBlocks + Drop>(
     key: &C::Key,
     iv: &[u8; 8],
     bytes: &mut [u8],

@@ -1,4 +1,5 @@
-//! What servers and libraries wrote: MariaDB 10.11, and the ciphers of Java.
+//! What servers and libraries wrote: MariaDB 10.11, pgcrypto of PostgreSQL 15, and the ciphers of Java.
 
 mod mysql;
 mod passwords;
+mod pgcrypto;
