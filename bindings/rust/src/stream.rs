@@ -31,8 +31,7 @@ use crate::{Block, BlockCipher};
 use core::ffi::c_int;
 use core::fmt;
 
-/// A segment of CFB, which libraries mean different ones of by "CFB" alone: OpenSSL 64 bits, PyCryptodome 8; of RustCrypto
-/// `cfb_mode` takes 64 and `cfb8` 8.
+/// A segment of CFB. By "CFB" alone OpenSSL means 64 bits, PyCryptodome 8; RustCrypto's `cfb_mode` has 64, its `cfb8` 8.
 #[non_exhaustive]
 #[derive(Clone, Copy, Debug, PartialEq, Eq)]
 pub enum Segment {
@@ -94,8 +93,8 @@ sentences!(BitsError:
     BitsError::Segment => "the stream does not have segments of 1 bit",
 );
 
-/// Where a stream is in its text, for the calls of a [`BlockCipher`]. With it goes the cipher that began: under another one comes a
-/// text that nobody meant. [`Ctr`], [`Ofb`] and [`Cfb`] keep the cipher too. It is wiped when it is dropped; a clone goes on by itself.
+/// Where a stream is in its text, for the calls of a [`BlockCipher`]. Pass it with one cipher and in one direction: otherwise a wrong text
+/// comes out, and no error. [`Ctr`], [`Ofb`] and [`Cfb`] keep the cipher too. It is wiped when it is dropped; a clone goes on by itself.
 #[derive(Clone)]
 pub struct Stream {
     pub(crate) state: ffi::Stream,
