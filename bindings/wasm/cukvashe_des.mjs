@@ -239,7 +239,7 @@ const FAULTS = new Map([
 ]);
 // This ends what bindings/describe made.
 
-// What stands after a sentence that leaves it to the call.
+// What stands after a sentence that leaves it to the call, if the call does not say another.
 const TAKEN = new Map([
   [KEY_LENGTH, ": 8, 16 or 24 bytes"],
   [PADDING_METHOD, ": 1 or 2"],
@@ -248,14 +248,14 @@ const TAKEN = new Map([
 ]);
 
 /** The error of a status, with its sentence. */
-function faultOf(status) {
+function faultOf(status, taken = TAKEN) {
   const Fault = FAULTS.get(status);
-  return new Fault(SENTENCES[status] + (TAKEN.get(status) ?? ""));
+  return new Fault(SENTENCES[status] + (taken.get(status) ?? ""));
 }
 
 /** Throws the error of a status. */
-function check(status) {
-  if (status !== OK) throw faultOf(status);
+function check(status, taken = TAKEN) {
+  if (status !== OK) throw faultOf(status, taken);
 }
 
 // ---- Arguments: each is tested, and taken once, before anything is laid down ----------------------------------------
@@ -1706,8 +1706,11 @@ function through(call, protection, given, { more, unit }, vectors = []) {
     const laid = [...memory.list(held), ...vectors.map((vector) => memory.put(vector)), ...memory.list(bytes)];
     const capacity = Math.max(bytes.length + more, 0);
     const [at, length] = [memory.room(capacity), memory.room(8)];
-    memory.call(call, ...laid, at, BigInt(Math.floor(capacity / unit)), length);
+    check(memory.ask(call, ...laid, at, BigInt(Math.floor(capacity / unit)), length), WRAPPABLE);
     return memory.taken(at, memory.word(length));
+// The lengths of a key that TKW takes: CMS has another status for its own.
+const WRAPPABLE = new Map([[KEY_LENGTH, ": a multiple of 4 bytes, 8 at least"]]);
+
   });
 }
 

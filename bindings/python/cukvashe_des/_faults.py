@@ -222,7 +222,7 @@ class WrappedKeyError(VerificationError):
 
 _FAULTS: Dict[int, Type[Error]] = {status: globals()[name] for status, name in _statuses.ERRORS.items()}
 
-# What stands after a sentence that leaves it to the call.
+# What stands after a sentence that leaves it to the call, if the call does not say another.
 _TAKEN = {
     _statuses.KEY_LENGTH: ": 8, 16 or 24 bytes",
     _statuses.PADDING_METHOD: ": 1 or 2",
@@ -231,15 +231,15 @@ _TAKEN = {
 }
 
 
-def fault_of(status: int, hint: str = "") -> Error:
-    """The fault of a status, with its sentence."""
-    return _FAULTS[status](_statuses.SENTENCES[status] + _TAKEN.get(status, "") + hint)
+def fault_of(status: int, hint: str = "", taken: Dict[int, str] = _TAKEN) -> Error:
+    """The fault of a status, with its sentence, and what the call takes, where the sentence leaves it to the call."""
+    return _FAULTS[status](_statuses.SENTENCES[status] + taken.get(status, "") + hint)
 
 
-def check(status: int, hint: str = "") -> None:
+def check(status: int, hint: str = "", taken: Dict[int, str] = _TAKEN) -> None:
     """Raises the fault of a status. One that none of the calls here can return is a RuntimeError: the library is another one."""
     if status == _statuses.OK:
         return
     if status not in _FAULTS:
         raise RuntimeError(f"the library returned the status {status}, which this call has not")
-    raise fault_of(status, hint)
+    raise fault_of(status, hint, taken)

@@ -10,11 +10,14 @@ from ._calls import SIZE
 from ._data import BLOCK_SIZE, bytes_from, hint_of, no_text, room, secret_of, vector_of
 from ._faults import check
 from ._library import function
-from ._statuses import PROTECTION_KEY_LENGTH
+from ._statuses import KEY_LENGTH, PROTECTION_KEY_LENGTH
 from ._types import ReadableBuffer
 
 # How many bytes a wrapped key has more than the key.
 _CMS_MORE, _TKW_MORE = 16, 4
+
+# The lengths of a key that TKW takes: CMS has another status for its own.
+_TAKEN = {KEY_LENGTH: ": a multiple of 4 bytes, 8 at least"}
 
 _cms_wrap = function("cms_wrap_key")
 _cms_unwrap = function("cms_unwrap_key")
@@ -27,7 +30,7 @@ def _through(call: Callable[..., int], protection: ReadableBuffer, given: Readab
     with secret_of(no_text(protection)) as held, secret_of(no_text(given)) as bare:
         made, length = room(max(bare[1] + more, 0)), SIZE()
         status = call(*held, *vector, *bare, made, len(made), ctypes.byref(length))
-        check(status, hint_of(held[0], 16, 24) if status == PROTECTION_KEY_LENGTH else "")
+        check(status, hint_of(held[0], 16, 24) if status == PROTECTION_KEY_LENGTH else "", _TAKEN)
     return bytes_from(made, length.value)
 
 
