@@ -28,6 +28,10 @@ class PositionError(Error, ValueError):
     """A position in a stream is negative, or not less than 2^67."""
 
 
+class DirectionError(Error, ValueError):
+    """A stream of CFB has encrypted, and is to decrypt, or the other way round."""
+
+
 class SerialLengthError(Error, ValueError):
     """A key serial number does not have ten bytes."""
 

@@ -3,12 +3,12 @@
 # Annotations are evaluated here, as in _ciphers.py.
 
 import threading
-from typing import Any, TypeVar
+from typing import Any, Optional, TypeVar
 
 from ._calls import WORDS
 from ._ciphers import CFB1, CTR, OFB, Cipher, cfb_of, vectors_by_name
 from ._data import Keyed, context_type, copy_of, counter_of, pointer_to, vector_of, wiped_room, writable
-from ._faults import DataLengthError, PositionError, SegmentSizeError, check
+from ._faults import DataLengthError, DirectionError, PositionError, SegmentSizeError, check
 from ._library import function
 from ._types import ReadableBuffer, WriteableBuffer
 
@@ -31,7 +31,9 @@ class Stream(Keyed):
     they become what they become as a whole. A stream goes on as long as its cipher is not closed. Threads may share one: its calls
     take turns."""
 
-    __slots__ = ("_cipher", "_mode", "_vector", "_turns")
+    __slots__ = ("_cipher", "_mode", "_vector", "_turns", "_direction")
+
+    _direction: Optional[str]
 
     def __init__(self, *arguments: Any, **words: Any) -> None:
         raise TypeError("a stream is a Ctr, an Ofb or a Cfb")
@@ -43,6 +45,7 @@ class Stream(Keyed):
         state = _State()
         check(_begin(state, mode, vector))
         self._cipher, self._mode, self._vector, self._context, self._turns = cipher, mode, vector, state, threading.Lock()
+        self._direction = None
 
     def encrypt(self, data: ReadableBuffer) -> bytes:
         """The bytes that come next, encrypted."""
@@ -79,7 +82,7 @@ class Stream(Keyed):
         """A stream that goes on from here by itself."""
         other = object.__new__(type(self))
         with self._turns:
-            other._context = _State.from_buffer_copy(self._open())
+            other._context, other._direction = _State.from_buffer_copy(self._open()), self._direction
         other._cipher, other._mode, other._vector, other._turns = self._cipher, self._mode, self._vector, threading.Lock()
         return other
 
@@ -124,7 +127,8 @@ class Ofb(Stream):
 
 class Cfb(Stream):
     """Cipher feedback from an initialization vector of 8 bytes, with segments of 1, 8, 16, 24 .. or 64 bits: by CFB alone PyCryptodome means
-    8, OpenSSL and `cryptography` 64. VectorLengthError, SegmentSizeError."""
+    8, OpenSSL and `cryptography` 64. A stream that has encrypted does not decrypt, nor the other way round: DirectionError.
+    VectorLengthError, SegmentSizeError."""
 
     __slots__ = ()
 
@@ -140,6 +144,14 @@ class Cfb(Stream):
     def decrypt_bits(self, data: ReadableBuffer, bits: int) -> bytes:
         """The data, of which so many bits are decrypted, with segments of 1 bit. SegmentSizeError, DataLengthError."""
         return self._answer_bits("decrypt_stream_bits", copy_of(data), bits)
+
+    def _call(self, call: str, state: Any, place: Any, size: int) -> None:
+        direction = call.partition("_")[0]
+        if self._direction not in (None, direction):
+            raise DirectionError(f"this stream {self._direction}s: begin another to {direction}")
+        super()._call(call, state, place, size)
+        if size:
+            self._direction = direction
 
     def _answer_bits(self, call: str, given: bytearray, bits: int) -> bytes:
         if self._mode != CFB1:

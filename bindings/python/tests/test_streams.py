@@ -16,6 +16,7 @@ from cukvashe_des import (
     Ctr,
     DataLengthError,
     Des,
+    DirectionError,
     Ofb,
     PositionError,
     SegmentSizeError,
@@ -238,6 +239,29 @@ class Refused(unittest.TestCase):
                 self.assertRaisesRegex(SegmentSizeError, "^bits are taken with segments of 1 bit alone$", call, bytes(3), 5)
         self.assertEqual(stream.encrypt(TEXT), TdesEde3(KEY).encrypt_cfb(TEXT, iv=IV, segment_size=1))
 
+    def test_directions(self):
+        """CFB goes one way, once a byte or a bit has, and a copy the same way; CTR and OFB go either way."""
+        for mode, segment in modes():
+            encrypt, decrypt, begun = calls_of(TdesEde3(KEY), mode, segment, IV)
+            for way, other, whole in (("encrypt", "decrypt", encrypt), ("decrypt", "encrypt", decrypt)):
+                stream = begun()
+                getattr(stream, other)(b"")
+                first = getattr(stream, way)(TEXT[:5])
+                if mode == "cfb":
+                    for one in (stream, stream.copy()):
+                        data = bytearray(TEXT)
+                        calls = [(getattr(one, other), data), (getattr(one, other), b""), (getattr(one, f"{other}_into"), data)]
+                        calls += [(getattr(one, f"{other}_bits"), data, 3)] if segment == 1 else []
+                        for call, *arguments in calls:
+                            self.assertRaisesRegex(DirectionError, f"^this stream {way}s: begin another to {other}$", call, *arguments)
+                        self.assertEqual((data, first + getattr(one, way)(TEXT[5:])), (TEXT, whole(TEXT)))
+                else:
+                    self.assertEqual(first + getattr(stream, other)(TEXT[5:]), whole(TEXT))
+        stream = Cfb(TdesEde3(KEY), iv=IV, segment_size=1)
+        stream.encrypt_bits(TEXT, 0)
+        stream.decrypt_bits(TEXT, 1)
+        self.assertRaises(DirectionError, stream.encrypt_bits, TEXT, 1)
+
     def test_closed(self):
         """A stream ends with its cipher, or by itself; the cipher stays."""
         for mode, segment in modes():
@@ -354,8 +378,9 @@ class Objects(WatchesWiping):
         cipher, held = TdesEde3(KEY), []
         stream = Cfb(cipher, iv=IV, segment_size=1)
         counter = Ctr(cipher, counter=IV)
-        calls = [(it.encrypt, TEXT) for it in (stream, counter)] + [(it.decrypt_into, bytearray(TEXT)) for it in (stream, counter)]
-        calls += [(stream.encrypt_bits, TEXT, 3), (stream.decrypt_bits, TEXT, 3), (counter.seek, 3)]
+        other = stream.copy()
+        calls = [(it.encrypt, TEXT) for it in (stream, counter)] + [(it.decrypt_into, bytearray(TEXT)) for it in (other, counter)]
+        calls += [(stream.encrypt_bits, TEXT, 3), (other.decrypt_bits, TEXT, 3), (counter.seek, 3)]
         for call, *arguments in calls:
             def of_call(*_, lock=call.__self__._turns):
                 held.append(lock.locked())

@@ -17,6 +17,7 @@ KNOWN = (re.match("! ([A-Za-z]+) (.*)", line) for line in lines_of("bindings", "
 SENTENCES = {(known[1] + "Error", known[2]) for known in KNOWN} | {
     ("ClosedError", "the object was closed"),
     ("KeyLengthError", "the key does not have a length that the call takes: a multiple of 4 bytes, 8 at least"),
+    ("DirectionError", "this stream encrypts: begin another to decrypt"),
     ("PositionError", "a position in a stream is 0 to 2^67 - 1"),
     ("SegmentSizeError", "a segment has 1 bit, or 8, 16, 24, 32, 40, 48, 56 or 64"),
     ("VectorLengthError", "a counter block has 8 bytes, not #"),
@@ -143,6 +144,9 @@ class Texts(unittest.TestCase):
         for cut in (7, 15):
             names |= self.faults(opens, KEY, SALTED[:cut])
         names |= self.faults(cukvashe_des.Ctr(cukvashe_des.TdesEde3(KEY), counter=IV).seek, -1)
+        stream = cukvashe_des.Cfb(cukvashe_des.TdesEde3(KEY), iv=IV, segment_size=8)
+        stream.encrypt(MESSAGE)
+        names |= self.faults(stream.decrypt, MESSAGE)
         self.assertEqual(names, {fault.__name__ for fault in faults_of_package()} | {"TypeError"})
         self.assertLessEqual(self.sentences, SENTENCES)
 

@@ -637,9 +637,9 @@ for (const [name, it] of Object.entries(library)) {
   for (const Class of chainOf(it, Function.prototype)) {
     for (const method of methodsOf(Class)) takesNoMore(method, (...given) => it[method](...given), METHODS[method]());
   }
-  const object = new it(...words);
   for (const prototype of chainOf(it.prototype, Object.prototype)) {
     for (const method of methodsOf(prototype)) {
+      const object = new it(...words);
       const called = method === Symbol.dispose ? "close" : method;
       takesNoMore(called, (...given) => object[method](...given), METHODS[called](object));
     }

@@ -59,13 +59,16 @@ for (const [Mac, size, padding] of MACS) {
 for (const count of [0, 1, 128, 129, 300]) library.dukptTransactionKeysFromBase(of(16), SERIALS.subarray(0, 10 * count));
 for (const Cipher of [library.Des, library.TdesEde2, library.TdesEde3]) {
   const cipher = new Cipher(of(Cipher.keySize));
-  const streams = [new library.Ctr(cipher, { counter: of(8) }), new library.Ofb(cipher, { iv: of(8) })];
-  for (const segmentSize of [1, 8, 64]) streams.push(new library.Cfb(cipher, { iv: of(8), segmentSize }));
+  const begun = () => {
+    const streams = [new library.Ctr(cipher, { counter: of(8) }), new library.Ofb(cipher, { iv: of(8) })];
+    return [...streams, ...[1, 8, 64].map((segmentSize) => new library.Cfb(cipher, { iv: of(8), segmentSize }))];
+  };
+  const streams = { encrypt: begun(), decrypt: begun() };
   for (const length of [0, 3, 8, 1024, 1031, 2400]) {
-    streams[0].seek(length);
-    for (const stream of streams) stream.encrypt(stream.decrypt(of(length)));
-    streams[2].encryptBits(streams[2].decryptBits(of(length), 8 * length), 8 * length);
     for (const way of ["encrypt", "decrypt"]) {
+      streams[way][0].seek(length);
+      for (const stream of streams[way]) stream[way](of(length));
+      streams[way][2][`${way}Bits`](of(length), 8 * length);
       cipher[`${way}Ctr`](of(length), { counter: of(8) });
       cipher[`${way}Ofb`](of(length), { iv: of(8) });
       for (const segmentSize of [1, 8, 64]) cipher[`${way}Cfb`](of(length), { iv: of(8), segmentSize });

@@ -144,6 +144,34 @@ for (const mode of MODES) {
   assert.deepEqual([JSON.stringify(copy), Object.keys(copy)], ["{}", []]);
 }
 
+// CFB goes one way, once a byte or a bit has, and a copy the same way; CTR and OFB go either way.
+for (const mode of MODES) {
+  const [name, named] = [NAMES[mode[0]], namedOf(mode, IV)];
+  for (const [way, other] of [["encrypt", "decrypt"], ["decrypt", "encrypt"]]) {
+    const stream = new library[name](cipher, named);
+    stream[other](new Uint8Array(0));
+    const first = hex(stream[way](TEXT.subarray(0, 5)));
+    const wanted = hex(cipher[`${way}${name}`](TEXT, named));
+    if (mode[0] !== "cfb") {
+      assert.equal(first + hex(stream[other](TEXT.subarray(5))), wanted);
+      continue;
+    }
+    for (const one of [stream, stream.copy()]) {
+      const calls = [[other, TEXT], [other, new Uint8Array(0)], ...(mode[1] === 1 ? [[`${other}Bits`, TEXT, 3]] : [])];
+      for (const [call, ...words] of calls) {
+        throwsFault(() => one[call](...words), "Direction", `this stream ${way}s: begin another to ${other}`);
+      }
+      assert.equal(first + hex(one[way](TEXT.subarray(5))), wanted);
+    }
+  }
+}
+const bits = new library.Cfb(cipher, { iv: IV, segmentSize: 1 });
+bits.encryptBits(TEXT, 0);
+const unused = bits.copy();
+bits.decryptBits(TEXT, 1);
+throwsFault(() => bits.encryptBits(TEXT, 1), "Direction");
+unused.encryptBits(TEXT, 1);
+
 // A stream of a cipher that a caller derives, and a class of streams that he derives.
 const derived = new (class extends library.Ofb {})(new (class extends library.Des {})(KEY.subarray(0, 8)), { iv: IV });
 is(derived.copy().encrypt(TEXT), hex(new library.Des(KEY.subarray(0, 8)).encryptOfb(TEXT, { iv: IV })));
