@@ -44,6 +44,8 @@ export class VectorLength extends CukvasheError {}
 export class SegmentSize extends CukvasheError {}
 /** A position in a stream is not 0 to 2^67 - 1. */
 export class Position extends CukvasheError {}
+/** A stream of CFB has encrypted, and is to decrypt, or the other way round. */
+export class Direction extends CukvasheError {}
 /** A key serial number does not have ten bytes. */
 export class SerialLength extends CukvasheError {}
 /** There are not ten fill digits. */
@@ -237,7 +239,10 @@ export class Ctr extends Stream {
 export class Ofb extends Stream {
   constructor(cipher: Cipher, named: { iv: Uint8Array });
 }
-/** Cipher feedback from an initialization vector, as encryptCfb. VectorLength, SegmentSize. */
+/**
+ * Cipher feedback from an initialization vector, as encryptCfb. A stream that has encrypted does not decrypt, nor the
+ * other way round: Direction. VectorLength, SegmentSize.
+ */
 export class Cfb extends Stream {
   constructor(cipher: Cipher, named: { iv: Uint8Array; segmentSize: Segment });
   /**

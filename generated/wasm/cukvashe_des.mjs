@@ -45,6 +45,7 @@ export const ModuleMismatch = fault("ModuleMismatch");
 export const VectorLength = fault("VectorLength");
 export const SegmentSize = fault("SegmentSize");
 export const Position = fault("Position");
+export const Direction = fault("Direction");
 export const SerialLength = fault("SerialLength");
 export const WeakKey = fault("WeakKey");
 export const Closed = fault("Closed");
@@ -239,7 +240,7 @@ const FAULTS = new Map([
 ]);
 // This ends what bindings/describe made.
 
-// What stands after a sentence that leaves it to the call.
+// What stands after a sentence that leaves it to the call, if the call does not say another.
 const TAKEN = new Map([
   [KEY_LENGTH, ": 8, 16 or 24 bytes"],
   [PADDING_METHOD, ": 1 or 2"],
@@ -248,14 +249,14 @@ const TAKEN = new Map([
 ]);
 
 /** The error of a status, with its sentence. */
-function faultOf(status) {
+function faultOf(status, taken = TAKEN) {
   const Fault = FAULTS.get(status);
-  return new Fault(SENTENCES[status] + (TAKEN.get(status) ?? ""));
+  return new Fault(SENTENCES[status] + (taken.get(status) ?? ""));
 }
 
 /** Throws the error of a status. */
-function check(status) {
-  if (status !== OK) throw faultOf(status);
+function check(status, taken = TAKEN) {
+  if (status !== OK) throw faultOf(status, taken);
 }
 
 // ---- Arguments: each is tested, and taken once, before anything is laid down ----------------------------------------
@@ -901,19 +902,27 @@ function begin(stream, cipher, mode, vector) {
     memory.call("stream_begin", at, mode, memory.put(counter));
     return memory.taken(at, STREAM_SIZE);
   });
-  keep(stream, Stream, { cipher, mode, counter }, state);
+  keep(stream, Stream, { cipher, mode, counter, direction: null }, state);
 }
 
-/** What a call makes of the bytes that come next; `bits` gives how many bits it takes, if it takes them. */
-function streamed(stream, call, data, bits = () => []) {
+/**
+ * What a direction, "encrypt" or "decrypt", makes of the bytes that come next; `bits` gives how many bits it takes, if it takes them. CFB
+ * goes on in the direction of its first bytes.
+ */
+function streamed(stream, direction, data, bits = () => []) {
   const bytes = bytesOf(data, "data");
   return inside((memory) => {
-    const { kind: { cipher, mode }, context: state } = memory.state(stream, Stream);
-    const { kind, context } = memory.state(cipher, Cipher);
-    const counts = bits(mode, bytes);
+    const { kind: of, context: state } = memory.state(stream, Stream);
+    const { kind, context } = memory.state(of.cipher, Cipher);
+    const counts = bits(of.mode, bytes);
+    if (of.mode >= CFB1 && of.direction !== null && of.direction !== direction) {
+      throw new Direction(`this stream ${of.direction}s: begin another to ${direction}`);
+    }
     const [[at, length], place] = [memory.list(bytes), memory.put(state)];
+    const call = `internal_${direction}_stream${counts.length === 0 ? "" : "_bits"}`;
     memory.call(call, ...contextAt(kind, memory.put(context)), place, at, length, ...counts);
     memory.take(place, state);
+    if ((counts[0] ?? length) > 0) of.direction = direction;
     return memory.taken(at, bytes.length);
   });
 }
@@ -921,19 +930,19 @@ function streamed(stream, call, data, bits = () => []) {
 class Stream extends Keyed {
   encrypt(data, ...more) {
     refuseMore(more, "encrypt takes data alone");
-    return streamed(this, "internal_encrypt_stream", data);
+    return streamed(this, "encrypt", data);
   }
 
   decrypt(data, ...more) {
     refuseMore(more, "decrypt takes data alone");
-    return streamed(this, "internal_decrypt_stream", data);
+    return streamed(this, "decrypt", data);
   }
 
   copy(...more) {
     refuseMore(more);
     return inside((memory) => {
       const { kind, context } = memory.state(this, Stream);
-      return keep(Object.create(Object.getPrototypeOf(this)), Stream, kind, context.slice());
+      return keep(Object.create(Object.getPrototypeOf(this)), Stream, { ...kind }, context.slice());
     });
   }
 }
@@ -988,12 +997,12 @@ export class Cfb extends Stream {
 
   encryptBits(data, bits, ...more) {
     refuseMore(more);
-    return streamed(this, "internal_encrypt_stream_bits", data, bitsOf(bits));
+    return streamed(this, "encrypt", data, bitsOf(bits));
   }
 
   decryptBits(data, bits, ...more) {
     refuseMore(more);
-    return streamed(this, "internal_decrypt_stream_bits", data, bitsOf(bits));
+    return streamed(this, "decrypt", data, bitsOf(bits));
   }
 }
 
@@ -1699,6 +1708,9 @@ export function keyBlockOptionalBlocks(block, ...more) {
 const CMS = { more: 16, unit: 8 };
 const TKW = { more: 4, unit: 4 };
 
+// The lengths of a key that TKW takes: CMS has another status for its own.
+const WRAPPABLE = new Map([[KEY_LENGTH, ": a multiple of 4 bytes, 8 at least"]]);
+
 /** What a call makes of bytes, so many more of them, under a protection key. It takes the capacity in units. */
 function through(call, protection, given, { more, unit }, vectors = []) {
   const [held, bytes] = [bytesOf(protection, "a protection key"), bytesOf(given, "a key")];
@@ -1706,7 +1718,7 @@ function through(call, protection, given, { more, unit }, vectors = []) {
     const laid = [...memory.list(held), ...vectors.map((vector) => memory.put(vector)), ...memory.list(bytes)];
     const capacity = Math.max(bytes.length + more, 0);
     const [at, length] = [memory.room(capacity), memory.room(8)];
-    memory.call(call, ...laid, at, BigInt(Math.floor(capacity / unit)), length);
+    check(memory.ask(call, ...laid, at, BigInt(Math.floor(capacity / unit)), length), WRAPPABLE);
     return memory.taken(at, memory.word(length));
   });
 }
