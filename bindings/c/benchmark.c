@@ -1,7 +1,7 @@
 /*
  * Nanoseconds for a block of 8 bytes of one call on a message, beside OpenSSL's EVP and libgcrypt: DES and triple DES (EDE, three parts),
- * each block by itself (ECB), chained (CBC), and triple DES by the modes without padding. With the word `ways`, nanoseconds for a block of lists about as long as a batch, by each
- * of the ways that the library chooses from. Keys are set before the clock runs, which is that of the process; the least of many short
+ * each block by itself (ECB), chained (CBC), and triple DES by the modes without padding. With the word `ways`, nanoseconds for a block of
+ * lists about as long as a batch, by each of the ways that the library chooses from. Keys are set before the clock runs, which is that of the process; the least of many short
  * runs counts. An empty cell is a way that there is not.
  *
  *   benchmark [RUNS] [ways]

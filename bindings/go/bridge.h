@@ -12,7 +12,7 @@
 #endif
 #include <cukvashe_des.h>
 
-/* CALL of the cipher whose key has so many parts of 8 bytes. */
+/* CALL of the cipher whose key has `parts` parts of 8 bytes. */
 #define BRIDGE_CIPHER(CALL)                \
   switch (parts) {                         \
   case 1: return CALL(des);                \
@@ -84,7 +84,7 @@ static inline int bridge_combine(int parts, const uint8_t *components, size_t le
 /* MACs by the numbers of their algorithms in ISO/IEC 9797-1. */
 enum { BRIDGE_CBC_MAC = 1, BRIDGE_RETAIL_MAC = 3, BRIDGE_CMAC = 5 };
 
-/* CALL of the MAC of an algorithm whose key has so many parts, with `, method` where it takes a padding method. */
+/* CALL of the MAC of `algorithm` whose key has `parts` parts, with `, method` if it takes a padding method. */
 #define BRIDGE_MAC(CALL)                                                  \
   switch (10 * algorithm + parts) {                                       \
   case 10 * BRIDGE_CBC_MAC + 1: return CALL(cbc_mac_des, , method);       \

@@ -3,8 +3,8 @@
  * `secret_indexes calls` runs the calls that must give no report; each other word runs one that must give one: `short`, a list that
  * goes by tables, and `rest`, a list whose rest does, `chain` and `message`, of contexts with tables, which all read them so; `pin`, which
  * branches on whether all characters of a PIN are digits; `translation`, on whether a PIN block is right; `block`, on whether a MAC is;
- * `key`, where it is right, on the length of the key too; `unwrapped`, on whether a key was wrapped; `file`, on the padding of what is opened under a password; `verification`, on
- * whether a PIN is right; and `planted`, a lookup here.
+ * `key`, where it is right, on the length of the key too; `unwrapped`, on whether a key was wrapped; `file`, on the padding of what is
+ * opened under a password; `verification`, on whether a PIN is right; and `planted`, a lookup here.
  */
 #include "mac_calls.h"
 #include <valgrind/memcheck.h>

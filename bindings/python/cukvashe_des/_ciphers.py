@@ -41,7 +41,7 @@ def vectors_by_name(call: _Call) -> _Call:
 
 
 def cfb_of(segment_size: int) -> int:
-    """The number of CFB with segments of so many bits."""
+    """The number of the mode CFB with segments of `segment_size` bits."""
     if not isinstance(segment_size, int) or isinstance(segment_size, bool):
         raise TypeError("segment_size is a number of bits")
     if segment_size != 1 and segment_size not in range(8, 65, 8):
@@ -113,7 +113,7 @@ class Cipher(Keyed):
 
     @vectors_by_name
     def decrypt_cfb(self, data: ReadableBuffer, *, iv: ReadableBuffer, segment_size: int) -> bytes:
-        """The data, decrypted by cipher feedback with segments of so many bits. VectorLengthError, SegmentSizeError."""
+        """The data, decrypted by cipher feedback with segments of `segment_size` bits. VectorLengthError, SegmentSizeError."""
         return self._streamed("decrypt_mode", cfb_of(segment_size), data, vector_of(iv))
 
     def encrypt_ecb_into(self, data: WriteableBuffer) -> None:

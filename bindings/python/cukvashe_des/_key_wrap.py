@@ -26,7 +26,7 @@ _tkw_unwrap = function("tkw_unwrap_key")
 
 
 def _through(call: Callable[..., int], protection: ReadableBuffer, given: ReadableBuffer, more: int, *vector: Any) -> bytes:
-    """What a call makes of bytes, so many more of them, under a protection key."""
+    """What a call makes of bytes under a protection key: `more` bytes more than were given."""
     with secret_of(no_text(protection)) as held, secret_of(no_text(given)) as bare:
         made, length = room(max(bare[1] + more, 0)), SIZE()
         status = call(*held, *vector, *bare, made, len(made), ctypes.byref(length))

@@ -137,12 +137,12 @@ class Cfb(Stream):
         self._start(cipher, cfb_of(segment_size), vector_of(iv))
 
     def encrypt_bits(self, data: ReadableBuffer, bits: int) -> bytes:
-        """The data, of which so many bits, from the highest of the first byte on, are encrypted, with segments of 1 bit. The others
-        stay. SegmentSizeError, DataLengthError."""
+        """The data with the first `bits` bits encrypted, in segments of 1 bit. Bit 1 is the highest of the first byte; later bits are
+        unchanged. SegmentSizeError, DataLengthError."""
         return self._answer_bits("encrypt_stream_bits", copy_of(data), bits)
 
     def decrypt_bits(self, data: ReadableBuffer, bits: int) -> bytes:
-        """The data, of which so many bits are decrypted, with segments of 1 bit. SegmentSizeError, DataLengthError."""
+        """The data with the first `bits` bits decrypted, as `encrypt_bits` encrypts. SegmentSizeError, DataLengthError."""
         return self._answer_bits("decrypt_stream_bits", copy_of(data), bits)
 
     def _call(self, call: str, state: Any, place: Any, size: int) -> None:

@@ -110,7 +110,7 @@ impl Stream {
         stream
     }
 
-    /// CTR from a first counter block, with so many blocks behind it.
+    /// CTR from the first counter block `counter`, with `blocks` blocks behind it.
     #[must_use]
     pub fn ctr_at(counter: &Block, blocks: u64) -> Stream {
         let mut stream = Stream { state: ffi::Stream::empty() };
@@ -193,12 +193,12 @@ impl<C: BlockCipher> Cfb<C> {
         self.cipher.decrypt_stream(&mut self.stream, data);
     }
 
-    /// Encrypts so many bits, from the highest of the first byte on, in place, with segments of 1 bit. The others stay.
+    /// Encrypts the first `bits` bits in place, in segments of 1 bit. Bit 1 is the highest of the first byte; later bits are unchanged.
     pub fn encrypt_bits(&mut self, data: &mut [u8], bits: usize) -> Result<(), BitsError> {
         self.cipher.encrypt_stream_bits(&mut self.stream, data, bits)
     }
 
-    /// Decrypts so many bits in place, as `encrypt_bits`.
+    /// Decrypts the first `bits` bits in place, as `encrypt_bits` encrypts.
     pub fn decrypt_bits(&mut self, data: &mut [u8], bits: usize) -> Result<(), BitsError> {
         self.cipher.decrypt_stream_bits(&mut self.stream, data, bits)
     }

@@ -378,9 +378,13 @@ fn made(name: &str, given: &Given) -> Option<Made> {
             let iv: &Block = given.named("iv")?;
             written(200, |wrapped| cms_wrap(given.last(0), iv, given.last(1), wrapped))?
         }
-        "cms_unwrap_key" => unwrapped(given.last(1).len().saturating_sub(16), |key| cms_unwrap(given.last(0), given.last(1), key))?,
+        "cms_unwrap_key" => {
+            unwrapped(given.last(1).len().saturating_sub(16), |key| cms_unwrap(given.last(0), given.last(1), key))?
+        }
         "tkw_wrap_key" => written(200, |wrapped| tkw_wrap(given.last(0), given.last(1), wrapped))?,
-        "tkw_unwrap_key" => unwrapped(given.last(1).len().saturating_sub(4), |key| tkw_unwrap(given.last(0), given.last(1), key))?,
+        "tkw_unwrap_key" => {
+            unwrapped(given.last(1).len().saturating_sub(4), |key| tkw_unwrap(given.last(0), given.last(1), key))?
+        }
         "pad" => pad(&mut [given.last(0), &[0x77; 20]].concat(), given.last(0).len(), given.at(1)?).made(),
         "unpad" => unpad(given.at(0)?, given.at(1)?).made(),
         "DukptTerminal" | "DukptTerminal.from_state" | "macs" | "macs_each" | "check_values" | "wrong_tags" => {

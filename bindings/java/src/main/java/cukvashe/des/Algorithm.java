@@ -19,7 +19,7 @@ enum Algorithm {
     return title.equalsIgnoreCase(name) || this == DESEDE && "TripleDES".equalsIgnoreCase(name);
   }
 
-  /** Whether a key may have so many bytes. */
+  /** Whether a key may have {@code size} bytes. */
   boolean takes(int size) {
     return this == DES ? size == 8 : size == 16 || size == 24;
   }
