@@ -7,8 +7,8 @@ import unittest
 import cukvashe_des
 from cukvashe_des import Des, KeyBlockHeader
 
-from .values import ACCOUNT, BLOCK, BLOCK_HEADER, CALLS, IV, KEY, LISTS, MESSAGE, OBJECTS, PADDED_MACS, SALTED
-from .values import faults_of_package, in_places, lines_of, opens, to_format_0
+from .values import ACCOUNT, BLOCK, BLOCK_HEADER, FUNCTIONS, IV, KEY, LISTS, MESSAGE, OBJECTS, PADDED_MACS, SALTED
+from .values import faults_of_package, in_places, lines_of, methods, opens, to_format_0
 
 
 # Each error and its text, which tells a length, here #, and nothing else that is not the same at every call: those of the known calls, and
@@ -77,8 +77,8 @@ class Texts(unittest.TestCase):
         self.sentences = set()
 
     def calls(self):
-        """Every call of the package, those in place and those of closed objects too."""
-        calls = OBJECTS + CALLS + LISTS
+        """Every call of the package, those in place and those of closed objects too. The objects are its own: calls change them."""
+        calls = OBJECTS + FUNCTIONS + methods() + LISTS
         calls += [(call, (Des, KEY, bytearray(MESSAGE))) for call in (cukvashe_des.encrypt_each_into, cukvashe_des.decrypt_each_into)]
         for kind, arguments in OBJECTS:
             made, closed = kind(*arguments), kind(*arguments)
