@@ -30,9 +30,7 @@ fn main() -> Result<(), Box<dyn Error>> {
     };
     let cipher = TdesEde3::new(&read_key(key_file)?);
     for record in fs::read(file)?.chunks_mut(8 + SIZE) {
-        let (vector, data) = record
-            .split_first_chunk_mut()
-            .ok_or("the file ends within a record")?;
+        let (vector, data) = record.split_first_chunk_mut().ok_or("the file ends within a record")?;
         cipher.decrypt_cbc(vector, data)?; // the vector becomes the last block
         println!("{}", String::from_utf8_lossy(unpad(data, Method::Pkcs7)?));
     }

@@ -6,11 +6,7 @@ use std::thread;
 
 /// The calls take 256 blocks at a time, or 128, so the parts are multiples of 256 blocks. The last one is what is left.
 fn decrypt_in(threads: NonZeroUsize, cipher: &TdesEde3, blocks: &mut [Block]) {
-    let part = blocks
-        .len()
-        .div_ceil(threads.get())
-        .next_multiple_of(256)
-        .max(256);
+    let part = blocks.len().div_ceil(threads.get()).next_multiple_of(256).max(256);
     thread::scope(|scope| {
         for blocks in blocks.chunks_mut(part) {
             scope.spawn(|| cipher.decrypt_blocks(blocks));
@@ -19,18 +15,8 @@ fn decrypt_in(threads: NonZeroUsize, cipher: &TdesEde3, blocks: &mut [Block]) {
 }
 
 fn main() -> Result<(), Box<dyn std::error::Error>> {
-    let key = [
-        0x0123456789abcdefu64,
-        0x23456789abcdef01,
-        0x456789abcdef0123,
-    ]
-    .map(u64::to_be_bytes);
-    let sealed = [
-        0xa826fd8ce53b855fu64,
-        0xcce21c8112256fe6,
-        0x68d5c05dd9b6b900,
-    ]
-    .map(u64::to_be_bytes);
+    let key = [0x0123456789abcdefu64, 0x23456789abcdef01, 0x456789abcdef0123].map(u64::to_be_bytes);
+    let sealed = [0xa826fd8ce53b855fu64, 0xcce21c8112256fe6, 0x68d5c05dd9b6b900].map(u64::to_be_bytes);
     let cipher = TdesEde3::new_from_slice(key.as_flattened())?;
     // thread::available_parallelism() says how many threads run at once on this machine.
     for threads in (1..=4).filter_map(NonZeroUsize::new) {
