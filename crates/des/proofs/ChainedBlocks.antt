@@ -36,7 +36,7 @@ Chains-weaker P Q iv p q weaker chains = record {
   chained = λ n from to. weaker _ _ (chains.chained n from to);
 }
 
--- where encryption makes blocks of blocks, the block before each place of a chained list is a block
+-- if encryption makes blocks of blocks, the block before each place of a chained list is a block
 IsBlock-before_chained : (encryption : List ℕ → List ℕ) (iv : List ℕ) (p q : List (List ℕ)) → IsBlock iv → All IsBlock p
     → ((block : List ℕ) → IsBlock block → IsBlock (encryption block)) → Cbc encryption iv p q
     → (n : ℕ) → n ≤ length p → IsBlock (block_before iv q n)

@@ -13,7 +13,7 @@ pub next_vector-append : (vector : List ℕ) (blocks more : List (List ℕ))
 next_vector-append vector [] more = refl
 next_vector-append vector (block ∷ blocks) more = next_vector-append block blocks more
 
--- where there are blocks, it is the last of them
+-- if there are blocks, it is the last of them
 pub next_vector-last : (vector : List ℕ) (blocks : List (List ℕ)) (k : ℕ) → k + 1 ≡ length blocks
     → next_vector vector blocks ≡ get_or blocks k []
 next_vector-last vector [] k same = absurd (omega arith)

@@ -26,7 +26,7 @@ AreUnchanged n c d = (rotate c n ≡ c) × (rotate d n ≡ d)
 abbrev AreConstant : List Bool → List Bool → Type 0
 AreConstant c d = AreUnchanged 1 c d
 
--- halves with a value at each place are constant, where their round keys are copies of one
+-- halves with a value at each place are constant, if their round keys are copies of one
 constant-placed : (round_key : List Bool) (value : ℕ → Bool)
     → schedule_of_halves (map value c_places) (map value d_places) ≡ replicate 16 round_key
     → AreConstant (map value c_places) (map value d_places)

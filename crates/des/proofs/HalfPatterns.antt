@@ -42,6 +42,6 @@ at_listed_halves test each c d c_size d_size c_listed d_listed =
     ap₂ test c_known.1.1 d_known.1.1
     ∙ at_bits 3 (λ d. test (half_pattern c_known.0) (half_pattern d)) d_known.0 at_c d_known.1.0
 
--- lists of bits are equal where the test of them says so
+-- lists of bits are equal if the test of them says so
 pub same_bits : (bits others : List Bool) → pointwise beq bits others ≡ true → bits ≡ others
 same_bits bits others = (slice_eq-Decides booleans_Decides bits others _ refl).0

@@ -62,7 +62,7 @@ module _ (key : List ℕ) (parts : List (List ℕ)) (cut : parts ≡ first_chunk
       rw (earlier, ← part_at i within) found.1.1 in
       inr (k + 1, (i + 1, ((omega arith, omega arith), (omega arith, omega arith), omega arith, agree)))
 
-  -- where no part agrees with a listed key, and none with a part before it, the key is not refused
+  -- if no part agrees with a listed key, and none with a part before it, the key is not refused
   pub not_refused : ((i : ℕ) → i < length key / 8
       → ¬ (ContainsAgreeing listed_keys (get_or parts i [])) × ¬ (ContainsAgreeing (take i parts) (get_or parts i [])))
       → ¬ (IsRefusedByList key)

@@ -53,7 +53,7 @@ unfolding bits_of select substitute_by box_entry number_of cipher_function xor_b
     round_key c_half d_half rotate shifts_through key_schedule after_rounds through_rounds
 computed answer = through_rounds (key_schedule (bits_of_word answer.0)) (bits_of_word answer.1)
 
--- where that is the ciphertext, DES takes the plaintext to it
+-- if that is the ciphertext, DES takes the plaintext to it
 IsAnswered-computed : (answers : List Answer) → map computed answers ≡ map (λ answer. bits_of_word answer.2) answers
     → All IsAnswered answers
 unfolding IsAnswered computed

@@ -1,4 +1,4 @@
--- Linear maps whose images lie under a mask: the images shifted or rotated, and those of two maps joined by or, where the
+-- Linear maps whose images lie under a mask: the images shifted or rotated, and those of two maps joined by or, if the
 -- masks share no bit.
 use Rattle.std.proofs.Common.{◌≡◌, ℕ, ◌-◌, ◌*◌, ◌/◌, ◌%◌, ◌^◌, bit_and, bit_or, bit_xor, ap, ap₂, sym, ◌∙◌, arith, add-zero, pow_pos}
 use Rattle.std.specs.Int.{bit_at}

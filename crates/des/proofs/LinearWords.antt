@@ -1,5 +1,5 @@
 -- Linear maps of words, which take the xor of two words to the xor of their images: masks, shifts and what is made of
--- them. Such a map selects bits by a list of positions where it does so for the words with one bit.
+-- them. Such a map selects bits by a list of positions if it does so for the words with one bit.
 use Rattle.std.proofs.Common.{◌≡◌, ℕ, zero, suc, ◌-◌, ◌*◌, ◌/◌, ◌%◌, ◌^◌, ◌<◌, Bool, false, List, [], ◌∷◌, ◌++◌, map, length, get_or, bit_and, bit_xor, refl, ap, ap₂, sym, ◌∙◌, arith, add-zero, one-mul, pow_pos, pow-suc, inl, inr}
 use Rattle.std.specs.Int.{bit_at}
 use Rattle.std.specs.Int.Bits.{xor_shifted}

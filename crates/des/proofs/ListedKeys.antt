@@ -91,7 +91,7 @@ ContainsAgreeing-listed key listed =
 
 -- ---- refused keys
 
--- what is so exactly where a key is refused by the list is so exactly where it is refused by the class
+-- what is so exactly if a key is refused by the list is so exactly if it is refused by the class
 pub refused_by_class : (key : List ℕ) (Verdict : Type 0) → AreBytes key → Verdict ↔ IsRefusedByList key
     → Verdict ↔ IsRefused key
 refused_by_class key Verdict bytes by_list = (

@@ -1,5 +1,5 @@
 -- The parity bits of bytes and of words, the lowest bit of each byte: keys of eight bytes agree outside parity exactly
--- where the upper bits of their bytes are equal, and exactly where their words are equal under the mask of the other
+-- if the upper bits of their bytes are equal, and exactly if their words are equal under the mask of the other
 -- bits.
 use Rattle.std.proofs.Common.{◌≡◌, ◌↔◌, ℕ, zero, suc, ◌+◌, ◌-◌, ◌*◌, ◌/◌, ◌%◌, ◌<◌, ◌==◌, min, false, List, [], ◌∷◌, length, get_or, slice_index, bit_and, bit_xor, count_ones, IsTrue, refl, ap, ap₂, sym, ◌∙◌, arith}
 use Rattle.std.specs.Int.{bit_at, w64, from_be_bytes}
@@ -20,7 +20,7 @@ use Rattle.des.specs.Laws.BlockBits.{slice_index-lt}
 use Rattle.des.proofs.ByteArrays.{IsKey-array}
 use Rattle.des.proofs.BitParts.{IsPositionIn, get_or-bits_of, bit-bits_of, same_below}
 
--- two bits are equal where their tests are
+-- two bits are equal if their tests are
 same_from_tests : (a b : ℕ) → a < 2 → b < 2 → (a == 1) ≡ (b == 1) → a ≡ b
 same_from_tests a b p q same = grind (arith, nat_tests)
 
@@ -40,7 +40,7 @@ upper_bit (byte ∷ bytes) (suc i) k index within below place =
     get_or-append_right (bits_of 8 byte) (bits_of_bytes bytes) 8 index false (length-bits_of 8 byte) (omega arith)
     ∙ upper_bit bytes i k (index - 8) (omega arith) below (omega arith)
 
--- keys of eight bytes agree outside parity exactly where the upper bits of their bytes are equal
+-- keys of eight bytes agree outside parity exactly if the upper bits of their bytes are equal
 AgreeOutsideParity-upper_bits : (key other : List ℕ) → IsKey 8 key → IsKey 8 other
     → AgreeOutsideParity key other ↔ ((i : ℕ) → i < 8 → get_or key i 0 / 2 ≡ get_or other i 0 / 2)
 AgreeOutsideParity-upper_bits key other is_key is_other = (
@@ -97,7 +97,7 @@ IsTheOne-odd_parity key result eight small result_eight each =
 abbrev outside_parity : ℕ
 outside_parity = 0xfefefefefefefefe
 
--- a bit of the masked sum modulo 2 of two words is zero exactly where it is a parity bit or the words have it alike
+-- a bit of the masked sum modulo 2 of two words is zero exactly if it is a parity bit or the words have it alike
 masked-zero : (a b k : ℕ) → k < 64 → (bit_at (bit_and (bit_xor a b) outside_parity) k ≡ 0)
     ↔ (¬ (k % 8 ≡ 0) → (bit_at a k == 1) ≡ (bit_at b k == 1))
 masked-zero a b k below =
@@ -116,7 +116,7 @@ bit-word : (key : List ℕ) (word position : ℕ) → IsKey 8 key → word ≡ f
 bit-word key word position is_key same inside =
     rw (bits_of_bytes-from_be key is_key.0 (slice_index-lt key is_key.1), ← same) (bit-bits_of 64 word position inside)
 
--- keys of eight bytes agree outside parity exactly where the masked sum modulo 2 of their words is zero
+-- keys of eight bytes agree outside parity exactly if the masked sum modulo 2 of their words is zero
 pub AgreeOutsideParity-masked : (key other : List ℕ) (a b : ℕ) → IsKey 8 key → IsKey 8 other
     → a ≡ from_be_bytes w64 key → b ≡ from_be_bytes w64 other
     → IsTrue (bit_and (bit_xor a b) outside_parity == 0) ↔ AgreeOutsideParity key other

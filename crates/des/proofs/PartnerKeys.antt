@@ -16,7 +16,7 @@ use Rattle.des.proofs.Graphs.{IsGraphOf-encryption, IsGraphOf-decryption}
 use Rattle.des.proofs.RoundKeyPlaces.{key_schedule-halves}
 use Rattle.des.proofs.ReversedRoundKeys.{reversed_from_turned, turned_from_reversed}
 
--- two keys are partners exactly where the one's round keys are the other's in the opposite order
+-- two keys are partners exactly if the one's round keys are the other's in the opposite order
 reversed_round_keys : (key partner : List ℕ) → ArePartners key partner ↔ (key_schedule (bits_of_bytes partner) ≡ reverse (key_schedule (bits_of_bytes key)))
 reversed_round_keys key partner = (
   λ partners.
@@ -36,7 +36,7 @@ reversed_round_keys key partner = (
       record { repeats = (turned.0, turned.1); c_rotated = turned.2; d_rotated = turned.3 },
 )
 
--- a list of round keys is that of another key in the opposite order exactly where each is the one with the number from
+-- a list of round keys is that of another key in the opposite order exactly if each is the one with the number from
 -- the end
 reversed_by_number : (key partner : List Bool) → (key_schedule partner ≡ reverse (key_schedule key))
     ↔ ((i : ℕ) → 1 ≤ i → i ≤ 16 → round_key partner i ≡ round_key key (17 - i))
@@ -70,7 +70,7 @@ decryption-partner key partner partners block =
     (ap reverse ((reversed_round_keys key partner).0 partners)
     ∙ reverse-reverse (key_schedule (bits_of_bytes key)))
 
--- DES under a key takes a block to another exactly where DES under its partner takes the other to the first
+-- DES under a key takes a block to another exactly if DES under its partner takes the other to the first
 Enciphers-partners : (key partner : List ℕ) → IsKey 8 key → IsKey 8 partner → ArePartners key partner → (x y : List ℕ)
     → Enciphers key x y ↔ Enciphers partner y x
 Enciphers-partners key partner is_key partner_is_key partners x y =

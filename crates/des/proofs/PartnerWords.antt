@@ -48,12 +48,12 @@ HoldsHalves-rotated {word} {c} {d} once holds fits rotates = record {
   bits = rotates c d holds.c_size holds.d_size holds.bits;
 }
 
--- words are equal where their bits are
+-- words are equal if their bits are
 same_word : (a b : ℕ) → a < 2 ^ 64 → b < 2 ^ 64 → bits_of_word a ≡ bits_of_word b → a ≡ b
 same_word a b a_small b_small same =
     sym (number_of-bits_of_word a a_small) ∙ ap number_of same ∙ number_of-bits_of_word b b_small
 
--- two words that hold halves are equal exactly where the halves are
+-- two words that hold halves are equal exactly if the halves are
 same_halves : {a b : ℕ} {c d c_other d_other : List Bool} → HoldsHalves a c d → HoldsHalves b c_other d_other
     → (a ≡ b) ↔ ((c ≡ c_other) × (d ≡ d_other))
 same_halves {a} {b} {c} {d} {c_other} {d_other} first second = (

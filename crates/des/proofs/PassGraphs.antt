@@ -82,7 +82,7 @@ IsGraphOf-through f1 b1 f2 b2 f3 First Second Third p1 p2 g1 g2 g3 = λ x y. (
       ),
 )
 
--- where a fact holds, the relation with the fact beside it is as the relation is
+-- if a fact holds, the relation with the fact beside it is as the relation is
 module _ (Fact : Type 0) (fact : Fact) where
   pub IsGraphOf-beside : (answer : List ℕ → List ℕ) (Answers : List ℕ → List ℕ → Type 0) → IsGraphOf answer Answers
       → IsGraphOf answer (λ x y. Fact × Answers x y)

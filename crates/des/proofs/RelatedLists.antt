@@ -40,7 +40,7 @@ AnswersEach-turned Answers (block ∷ blocks) [] each = absurd each
 AnswersEach-turned Answers (block ∷ blocks) (answer ∷ answers) each =
     (each.0, AnswersEach-turned Answers blocks answers each.1)
 
--- the same where the function undoes: it answers a list with the one list to which the list is the answer
+-- the same if the function undoes: it answers a list with the one list to which the list is the answer
 pub IsTheOne-map_turned : (f : List ℕ → List ℕ) (Answers : List ℕ → List ℕ → Type 0)
     → IsGraphOf f (λ answer block. Answers block answer)
     → (answers : List (List ℕ)) → All IsBlock answers

@@ -12,7 +12,7 @@ abbrev pub repeated : (Bool → Bool) → ℕ → List Bool → List Bool
 repeated step zero front = []
 repeated step (suc count) front = front ++ repeated step count (map step front)
 
--- where the bits after the first n are the step at the bits from the first on, they go on from the first n
+-- if the bits after the first n are the step at the bits from the first on, they go on from the first n
 goes_on : (step : Bool → Bool) (n count : ℕ) (front rest last : List Bool) → length front ≡ n → length rest ≡ n * count
     → rest ++ last ≡ map step (front ++ rest) → rest ≡ repeated step count (map step front)
 goes_on step n zero front [] last front_size rest_size same = refl
@@ -21,7 +21,7 @@ goes_on step n (suc count) front rest last front_size rest_size same =
     let next : List Bool = map step front in
     let later : List Bool = drop n rest in
     let next_size : length next ≡ n = length-map front step ∙ front_size in
-    let room : length rest ≡ n * count + n = rest_size ∙ mul-suc n count in
+    let fits : length rest ≡ n * count + n = rest_size ∙ mul-suc n count in
     let split : rest ++ last ≡ next ++ map step rest = same ∙ map-append step front rest in
     let first : take n rest ≡ next =
     sym (take-append-le n rest last (omega arith)) ∙ ap (take n) split ∙ take_at next (map step rest) n next_size in
@@ -33,12 +33,12 @@ goes_on step n (suc count) front rest last front_size rest_size same =
     ∙ ap (λ bits. next ++ bits)
     (goes_on step n count next later last next_size (omega (arith, length-drop n rest)) after)
 
--- where a rotation by n places is a step at each bit, the first n bits repeat with that step
+-- if a rotation by n places is a step at each bit, the first n bits repeat with that step
 pub repeated_from_rotate : (step : Bool → Bool) (n count : ℕ) (bits : List Bool) → length bits ≡ n * suc count
     → rotate bits n ≡ map step bits → bits ≡ repeated step (suc count) (take n bits)
 unfolding rotate
 repeated_from_rotate step n count bits size same =
-    let room : length bits ≡ n * count + n = size ∙ mul-suc n count in
+    let fits : length bits ≡ n * count + n = size ∙ mul-suc n count in
     sym (take-append-drop n bits)
     ∙ ap (λ rest. take n bits ++ rest)
     (goes_on step n count (take n bits) (drop n bits) (take n bits) (length-take-le n bits (omega arith))

@@ -75,7 +75,7 @@ walks =
     (30 ∷ 101 ∷ 32 ∷ 103 ∷ 38 ∷ 109 ∷ 36 ∷ 93 ∷ 42 ∷ 99 ∷ 44 ∷ 111 ∷ 46 ∷ 85 ∷
     34 ∷ 97 ∷ 40 ∷ 105 ∷ 48 ∷ 107 ∷ 50 ∷ 87 ∷ 52 ∷ 89 ∷ 54 ∷ 91 ∷ 56 ∷ 95 ∷ []) ∷ []
 
--- halves with a value at each place are turned, where the round keys are in the opposite order
+-- halves with a value at each place are turned, if the round keys are in the opposite order
 turned-placed : (value other : ℕ → Bool)
     → AreReversed (map value c_places) (map value d_places) (map other c_places) (map other d_places)
     → AreTurned (map value c_places) (map value d_places) (map other c_places) (map other d_places)

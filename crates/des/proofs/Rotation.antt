@@ -16,20 +16,20 @@ rotate-rotate m n half within =
 
 -- a number of k bits, shifted to the left in a word of w bits and masked, keeps its lowest k bits
 and_mask-shl : (m k w x : ℕ) → k + m ≤ w → x < 2 ^ k → bit_and (x * 2 ^ m % 2 ^ w) (2 ^ k - 1) ≡ x * 2 ^ m % 2 ^ k
-and_mask-shl m k w x room within =
-    rw (shl_whole x k m w within room) (and_mask (x * 2 ^ m) k)
+and_mask-shl m k w x fits within =
+    rw (shl_whole x k m w within fits) (and_mask (x * 2 ^ m) k)
 
 -- the shifts both ways give a number of k bits again
 pub or_shifts-lt : (m n k w x : ℕ) → k + m ≤ w → x < 2 ^ k
     → bit_or (bit_and (x * 2 ^ m % 2 ^ w) (2 ^ k - 1)) (x / 2 ^ n) < 2 ^ k
-or_shifts-lt m n k w x room within =
-    rw (and_mask-shl m k w x room within)
+or_shifts-lt m n k w x fits within =
+    rw (and_mask-shl m k w x fits within)
     (or_lt k (x * 2 ^ m % 2 ^ k) (x / 2 ^ n) (mod_below (x * 2 ^ m) (2 ^ k) (pow_pos k)) (omega (arith, shr_le x n)))
 
 -- the shifts both ways rotate the bits
 pub bits_of-or_shifts : (m n k w x : ℕ) → m + n ≡ k → k + m ≤ w → x < 2 ^ k
     → bits_of k (bit_or (bit_and (x * 2 ^ m % 2 ^ w) (2 ^ k - 1)) (x / 2 ^ n)) ≡ rotate (bits_of k x) m
 unfolding rotate
-bits_of-or_shifts m n k w x same room within =
-    rw (and_mask-shl m k w x room within, ← same, drop-bits_of m n x, take-bits_of m n x, add_comm m n)
+bits_of-or_shifts m n k w x same fits within =
+    rw (and_mask-shl m k w x fits within, ← same, drop-bits_of m n x, take-bits_of m n x, add_comm m n)
     (bits_of-or_shl n m x (x / 2 ^ n) (shr_below x m n (rw same within)))

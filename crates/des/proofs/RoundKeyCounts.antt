@@ -30,7 +30,7 @@ word_of round_key = number_of (round_key ++ zeros 16)
 abbrev are_unchanged : List Bool → List Bool → Bool
 are_unchanged c d = pointwise beq (rotate c 2) c && pointwise beq (rotate d 2) d
 
--- whether four different words hold the round keys that halves give, where they are not unchanged
+-- whether four different words hold the round keys that halves give, if they are not unchanged
 abbrev are_four : List Bool → List Bool → Bool
 are_four c d =
     elim (are_unchanged c d) [
@@ -68,7 +68,7 @@ module _ (words : List ℕ) (key : List Bool) (small : All (λ word. word < 2 ^ 
   count-pos : 1 ≤ distinct_count nat_eq words
   count-pos = rw count (count_of-pos (map word_of (schedule_of_halves (c_half key) (d_half key))) (omega arith))
 
-  -- where there is one, the halves are unchanged by rotation by one
+  -- if there is one, the halves are unchanged by rotation by one
   constant_from_one : distinct_count nat_eq words ≡ 1 → AreUnchanged 1 (c_half key) (d_half key)
   unfolding round_keys_of
   constant_from_one one =
@@ -79,7 +79,7 @@ module _ (words : List ℕ) (key : List Bool) (small : All (λ word. word < 2 ^ 
       sym (key_schedule-halves key) ∙ sym (round_keys_of-HoldRoundKeys words key held) ∙ ap round_keys_of copies in
       constant_halves _ (c_half key) (d_half key) (length-c_half key) (length-d_half key) same
 
-  -- there are at most as many as there are remainders, where the halves are their first n bits 1 + times times and
+  -- there are at most as many as there are remainders, if the halves are their first n bits 1 + times times and
   -- any round keys so given are by remainders
   count-le : (n times : ℕ) → n * suc times ≡ 28
       → ((c d : ℕ → Bool) → AreByRemainders n (repeated (λ b. b) (suc times) (map c (range_with_len 0 n)))
@@ -106,12 +106,12 @@ module _ (words : List ℕ) (key : List Bool) (small : All (λ word. word < 2 ^ 
       count ∙ ap (λ keys. count_of (map word_of keys)) here ∙ ap count_of (map-map word_of (key_at c d) rests) in
       rw same_count (count_of-map word rests)
 
-  -- there is one exactly where the halves are unchanged by rotation by one
+  -- there is one exactly if the halves are unchanged by rotation by one
   pub one_round_key : (distinct_count nat_eq words ≡ 1) ↔ AreUnchanged 1 (c_half key) (d_half key)
   unfolding rotate select
   one_round_key = (constant_from_one, λ same. omega (arith, count-pos, count-le 1 27 refl (λ c d. refl) same))
 
-  -- there are two where they are unchanged by rotation by two, but not both by one
+  -- there are two if they are unchanged by rotation by two, but not both by one
   pub two_round_keys : rotate (c_half key) 2 ≡ c_half key → rotate (d_half key) 2 ≡ d_half key
       → ¬ (AreUnchanged 1 (c_half key) (d_half key)) → distinct_count nat_eq words ≡ 2
   unfolding rotate select
@@ -119,13 +119,13 @@ module _ (words : List ℕ) (key : List Bool) (small : All (λ word. word < 2 ^ 
       let not_one : ¬ (distinct_count nat_eq words ≡ 1) = λ one. more (constant_from_one one) in
       omega (arith, count-pos, not_one, count-le 2 13 refl (λ c d. refl) (c_same, d_same))
 
-  -- there are at most four where they are unchanged by rotation by four
+  -- there are at most four if they are unchanged by rotation by four
   pub four_round_keys-le : rotate (c_half key) 4 ≡ c_half key → rotate (d_half key) 4 ≡ d_half key
       → distinct_count nat_eq words ≤ 4
   unfolding rotate select
   four_round_keys-le c_same d_same = count-le 4 6 refl (λ c d. refl) (c_same, d_same)
 
-  -- there are four where rotation by two leaves each half unchanged or turns it into its complement, but not both
+  -- there are four if rotation by two leaves each half unchanged or turns it into its complement, but not both
   -- unchanged
   pub four_round_keys : IsListedHalf (c_half key) → IsListedHalf (d_half key)
       → ¬ (AreUnchanged 2 (c_half key) (d_half key)) → distinct_count nat_eq words ≡ 4

@@ -34,7 +34,7 @@ c_places = range_with_len 1 28
 abbrev pub d_places : List ℕ
 d_places = range_with_len 29 28
 
--- the places that a round key takes where the halves are rotated left by n places
+-- the places that a round key takes if the halves are rotated left by n places
 abbrev key_places : ℕ → List ℕ
 key_places n = map (λ q. if nat_le q 28 then 1 + (q - 1 + n) % 28 else 29 + (q - 29 + n) % 28) permuted_choice_2
 

@@ -31,7 +31,7 @@ share_walks walks (here ∷ heres) (there ∷ theres) =
     list_any (λ walk. is_among walk here && is_among walk there) walks && share_walks walks heres theres
 share_walks walks heres theres = false
 
--- where values of two lists of positions are equal, so are those at the ends of the links from the one list to the
+-- if values of two lists of positions are equal, so are those at the ends of the links from the one list to the
 -- other
 pub IsSameAlong-zip : (value : ℕ → Bool) (heres theres : List ℕ) → map value heres ≡ map value theres
     → IsSameAlong value (zip heres theres)

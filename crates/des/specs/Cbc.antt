@@ -37,7 +37,7 @@ pub record Unchains (decryption : List ℕ → List ℕ) (iv : List ℕ) (q p : 
   pub unchained : (n : ℕ) → 1 ≤ n → n ≤ length q
       → block_at p n ≡ xor_blocks (decryption (block_at q n)) (block_before iv q n)
 
--- the vector with which a chain goes on after ciphertext blocks: the last of them, or where there
+-- the vector with which a chain goes on after ciphertext blocks: the last of them, or if there
 -- is none the vector that it began with
 abbrev pub next_vector : List ℕ → List (List ℕ) → List ℕ
 next_vector vector [] = vector

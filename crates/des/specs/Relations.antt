@@ -2,7 +2,7 @@
 use Rattle.std.specs.Prelude.{◌≡◌, ◌↔◌, ℕ, List}
 use Rattle.des.specs.Blocks.{IsBlock}
 
--- P holds of this, and of no other: where P is a relation at one end, of one block or list of blocks
+-- P holds of this, and of no other: if P is a relation at one end, of one block or list of blocks
 abbrev pub IsTheOne : {A : Type 0} → (A → Type 0) → A → Type 0
 IsTheOne {A} P it = P it × ((other : A) → P other → other ≡ it)
 

@@ -78,15 +78,15 @@ impl<'a, C: BlockCipherDecrypt> ListDecryption for ByCipher<'a, C> {
     }
 }
 
-/// Decrypts a list as `decrypt` does, as many blocks at a time as `room` has. What it holds
+/// Decrypts a list as `decrypt` does, as many blocks at a time as `buffer` has. What it holds
 /// afterwards, which can be plaintext, is not said.
 pub fn decrypt_by<D: ListDecryption>(
     by: &D,
     iv: &[u8; 8],
     blocks: &mut [[u8; 8]],
-    room: &mut [[u8; 8]],
+    buffer: &mut [[u8; 8]],
 )
-    requires { 1 ≤ length room.old }
+    requires { 1 ≤ length buffer.old }
     ensures blocks { All IsBlock blocks.old }
     ensures unchained { (decryption : List ℕ → List ℕ) → D.decrypts by.now decryption
         → Unchains decryption iv.now blocks.old blocks.new }
@@ -95,29 +95,29 @@ pub fn decrypt_by<D: ListDecryption>(
     let mut before = *iv;
     let mut from = 0;
     'parts: while from < blocks.len() {
-        let count = room.len().min(blocks.len() - from);
+        let count = buffer.len().min(blocks.len() - from);
         let part = &mut blocks[from..from + count];
         let next = next_vector(&before, part);
-        decrypt_part(by, &before, part, room);
+        decrypt_part(by, &before, part, buffer);
         before = next;
         from += count;
     }
 }
 
-// Decrypts the blocks that go together, chained from the vector. They are decrypted in `room`, since
+// Decrypts the blocks that go together, chained from the vector. They are decrypted in `buffer`, since
 // each is still needed for the one after it.
 fn decrypt_part<D: ListDecryption>(
     by: &D,
     iv: &[u8; 8],
     blocks: &mut [[u8; 8]],
-    room: &mut [[u8; 8]],
+    buffer: &mut [[u8; 8]],
 )
-    requires { length blocks.old ≤ length room.old }
-    ensures room { length room.new ≡ length room.old }
+    requires { length blocks.old ≤ length buffer.old }
+    ensures buffer { length buffer.new ≡ length buffer.old }
     ensures unchained { (decryption : List ℕ → List ℕ) → D.decrypts by.now decryption
         → Unchains decryption iv.now blocks.old blocks.new }
 {
-    let answers = &mut room[..blocks.len()];
+    let answers = &mut buffer[..blocks.len()];
     answers.copy_from_slice(blocks);
     by.decrypt_list(answers);
     let mut before = *iv;

@@ -64,7 +64,7 @@ pub trait KeyBytes: Copy {
         ensures are_bytes { AreBytes result.now }
         ensures count { length result.now ≡ LEN };
 
-    /// The array of these bytes; `None` where there are not `LEN` of them.
+    /// The array of these bytes; `None` if there are not `LEN` of them.
     fn from_bytes(bytes: &[u8]) -> Option<Self>
         ensures found { IsSome result ↔ (length bytes.now ≡ LEN) }
         ensures bytes { IfSome result (λ key. bytes_of key ≡ bytes.now) };
@@ -165,7 +165,7 @@ pub trait KeyInit: KeySizeUser {
     fn new(key: &Self::Key) -> Self
         ensures { is_made_from result (Self.Key.bytes_of key.now) };
 
-    /// A value made from the bytes of a key, or `InvalidLength` where there are not `KEY_SIZE` of
+    /// A value made from the bytes of a key, or `InvalidLength` if there are not `KEY_SIZE` of
     /// them.
     fn new_from_slice(key: &[u8]) -> Result<Self, InvalidLength>
         ensures accepted { IsOk result ↔ (length key.now ≡ Self.KEY_SIZE) }
@@ -278,7 +278,7 @@ pub trait BlockCipherEncrypt: BlockSizeUser {
     }
 
     /// Encrypts each block of 8 bytes in place, in order. An empty list stays empty. A cipher writes the
-    /// call anew where it can treat some blocks side by side.
+    /// call anew if it can treat some blocks side by side.
     fn encrypt_blocks(&self, blocks: &mut [[u8; 8]])
         ensures blocks { All IsBlock blocks.old }
         ensures encrypted { blocks.new ≡ map (encrypted self.now) blocks.old }
@@ -289,7 +289,7 @@ pub trait BlockCipherEncrypt: BlockSizeUser {
         }
     }
 
-    /// Encrypts each block of `input` into the block at its place in `output`. Where the two differ
+    /// Encrypts each block of `input` into the block at its place in `output`. If the two differ
     /// in length, the answer is `NotEqualError`, and `output` stays as it was.
     final fn encrypt_blocks_b2b(
         &self,
@@ -325,7 +325,7 @@ pub trait BlockCipherDecrypt: BlockSizeUser {
     }
 
     /// Decrypts each block of 8 bytes in place, in order. An empty list stays empty. A cipher writes the
-    /// call anew where it can treat some blocks side by side.
+    /// call anew if it can treat some blocks side by side.
     fn decrypt_blocks(&self, blocks: &mut [[u8; 8]])
         ensures blocks { All IsBlock blocks.old }
         ensures decrypted { blocks.new ≡ map (decrypted self.now) blocks.old }
@@ -336,7 +336,7 @@ pub trait BlockCipherDecrypt: BlockSizeUser {
         }
     }
 
-    /// Decrypts each block of `input` into the block at its place in `output`. Where the two differ
+    /// Decrypts each block of `input` into the block at its place in `output`. If the two differ
     /// in length, the answer is `NotEqualError`, and `output` stays as it was.
     final fn decrypt_blocks_b2b(
         &self,

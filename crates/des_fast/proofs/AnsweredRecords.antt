@@ -17,7 +17,7 @@ IsAnswered-none link made old place size vector same = record {
   left = λ j from low. refl;
 }
 
--- it stays so where its blocks and its vector stay
+-- it stays so if its blocks and its vector stay
 pub IsAnswered-kept : (link made : ℕ → List ℕ) (old blocks new : List (List ℕ)) (place size : ℕ)
     (vector new_vector : List ℕ) (n : ℕ) → n ≤ size → new_vector ≡ vector
     → ((j : ℕ) → j < size → get_or new (place + j) [] ≡ get_or blocks (place + j) [])

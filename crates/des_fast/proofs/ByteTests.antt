@@ -17,7 +17,7 @@ pub top-cond : (b : Bool) → top 7 (cond b 255 0) ≡ b
 top-cond true = refl
 top-cond false = refl
 
--- a digit times a number that is not 0 is that number where the digit is 1
+-- a digit times a number that is not 0 is that number if the digit is 1
 digit_test : (d p : ℕ) → d < 2 → 0 < p → (d * p == p) ≡ (d == 1)
 digit_test (suc (suc d)) p below some = absurd (omega arith)
 digit_test d p below some = grind (arith, nat_tests)

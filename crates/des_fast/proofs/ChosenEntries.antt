@@ -36,7 +36,7 @@ unfolding bits_of number_of box_entry
 choice-entry i byte within below =
     same_entries choice (λ k group. box_entry (box_of_byte k) (bits_of 6 group)) 8 64 i byte within below refl
 
--- so where the byte is that of a word of groups
+-- so if the byte is that of a word of groups
 pub choice-at : (word byte i : ℕ) → IsOfGroups word → i < 8 → byte ≡ slice_index_or (to_be_bytes w64 word) i 0
     → choice i byte ≡ box_entry (box_of_byte i) (bits_of 6 (slice_index_or (to_be_bytes w64 word) i 0))
 choice-at word byte i of_groups within same =

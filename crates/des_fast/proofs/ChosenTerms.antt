@@ -70,7 +70,7 @@ splat_term k bytes within =
           (get_or-replicate 4 (j / 8) word 0 (omega arith));
     }
 
--- the entry of the box of that byte, where the word is of groups
+-- the entry of the box of that byte, if the word is of groups
 pub choice-at : (words choices : List ℕ) (q i j : ℕ) → Each1 (λ x. x < 2 ^ 64) words → q < 4 → i < 8
     → j + i ≡ 8 * q + 7 → IsOfGroups (slice_index_or words q 0)
     → AreChoices TERMS (digits_l 256 32 (number_l (2 ^ 64) words)) choices

@@ -52,20 +52,37 @@ entry-expansion i group six within below same =
 
 -- ---- the bits that entries have
 
--- two pairs of numbers under masks that share no bit: they have the same or as xor
+-- the xor of numbers under a mask is under it
+under-xor : (a b m : ℕ) → bit_and a m ≡ a → bit_and b m ≡ b → bit_and (bit_xor a b) m ≡ bit_xor a b
+under-xor a b m a_under b_under = and-xor a b m ∙ ap₂ bit_xor a_under b_under
+
+-- numbers under masks that share no bit have the same or as xor
+or-apart : (a b m n : ℕ) → bit_and m n ≡ 0 → bit_and a m ≡ a → bit_and b n ≡ b → bit_or a b ≡ bit_xor a b
+or-apart a b m n apart a_under b_under =
+    let none = ap₂ bit_and (sym a_under) (sym b_under) ∙ and-masked a b m n apart in
+    or_disjoint a b none ∙ sym (xor_disjoint a b none)
+
+-- also two pairs of numbers
 pairs-apart : (a b c d m n : ℕ) → bit_and m n ≡ 0
     → bit_and a m ≡ a → bit_and b m ≡ b → bit_and c n ≡ c → bit_and d n ≡ d
     → bit_or (bit_xor a b) (bit_xor c d) ≡ bit_xor (bit_xor a b) (bit_xor c d)
 pairs-apart a b c d m n apart a_under b_under c_under d_under =
-    let first = and-xor a b m ∙ ap₂ bit_xor a_under b_under in
-    let second = and-xor c d n ∙ ap₂ bit_xor c_under d_under in
-    let none = ap₂ bit_and (sym first) (sym second) ∙ and-masked (bit_xor a b) (bit_xor c d) m n apart in
-    or_disjoint (bit_xor a b) (bit_xor c d) none ∙ sym (xor_disjoint (bit_xor a b) (bit_xor c d) none)
+    or-apart (bit_xor a b) (bit_xor c d) m n apart (under-xor a b m a_under b_under) (under-xor c d n c_under d_under)
 
 -- the bits that the entries of a box, from 0, and of its neighbour have
 abbrev pair_mask : ℕ → ℕ
 pair_mask i =
     slice_index_or (0x0811180201110424 ∷ 0x1008222808022209 ∷ 0x0624041122080110 ∷ 0x2102010414241802 ∷ []) (i / 2) 0
+
+-- the bits that the entries of the first, the third, the fifth and the seventh box have, from the last of them: of one,
+-- of the first two and of the first three
+abbrev row_masks : ℕ → List ℕ
+row_masks joined =
+    let others : ℕ = 0x1b0d0f0f30143031 in
+    let first : ℕ = slice_index_or (0x2002000004200802 ∷ 0x2422001006280902 ∷ 0x242220300e2a0b0a ∷ []) joined 0 in
+    let second : ℕ = slice_index_or (0x0420001002080100 ∷ 0x2422001006280902 ∷ 0x242220300e2a0b0a ∷ []) joined 0 in
+    let third : ℕ = slice_index_or (0x0000202008020208 ∷ 0x0000202008020208 ∷ 0x242220300e2a0b0a ∷ []) joined 0 in
+    0x0010100001010404 ∷ others ∷ third ∷ others ∷ second ∷ others ∷ first ∷ others ∷ []
 
 -- ---- their xor
 
@@ -81,6 +98,14 @@ tree middle x =
 tree-row : (x : ℕ → ℕ) → tree bit_xor x ≡ row bit_xor x
 tree-row x = same_from_bits _ _ (λ i. simp bit_at_xor (omega arith))
 
+-- eight words in two rows, of which the second may be joined otherwise
+abbrev rows : (ℕ → ℕ → ℕ) → (ℕ → ℕ) → ℕ
+rows join x =
+    bit_xor (bit_xor (bit_xor (bit_xor (x 7) (x 5)) (x 3)) (x 1)) (join (join (join (x 6) (x 4)) (x 2)) (x 0))
+
+rows-row : (x : ℕ → ℕ) → rows bit_xor x ≡ row bit_xor x
+rows-row x = same_from_bits _ _ (λ i. simp bit_at_xor (omega arith))
+
 -- the halves that the entries of the boxes stand for, each in its place, make P of the substitution
 row-permuted : (bits : List Bool)
     → row xor_bits (λ i. permuted i (box_entry_of i (take 6 (drop (6 * i) bits)))) ≡ select permutation (substitute bits)
@@ -90,7 +115,7 @@ row-permuted bits = rw (substitute_by-groups selection_functions 0 bits) (simp x
 module _ (bits : List Bool) (groups : List ℕ) (within : All (λ group. group < 64) groups) (eight : length groups ≡ 8)
     (each : (i : ℕ) → i < 8 → bits_of 6 (slice_index groups i) ≡ take 6 (drop (6 * i) bits)) where
   -- the xor of the entries of all boxes is the expansion of P of the substitution
-  pub IsExpansionOf-row :
+  IsExpansionOf-row :
       IsExpansionOf (row bit_xor (λ i. entry i (slice_index groups i))) (select permutation (substitute bits))
   IsExpansionOf-row =
       let at : (i : ℕ) → i < 8
@@ -113,3 +138,22 @@ module _ (bits : List Bool) (groups : List ℕ) (within : All (λ group. group <
       let last = pairs-apart _ _ _ _ (pair_mask 4) (pair_mask 6) refl
       (under 4 (lit≤ tt)) (under 5 (lit≤ tt)) (under 6 (lit≤ tt)) (under 7 (lit≤ tt)) in
       rw (first, last, tree-row (λ i. entry i (slice_index groups i))) IsExpansionOf-row
+
+  -- also in two rows, in one of which `|` joins entries, which share no bit
+  pub IsExpansionOf-rows :
+      IsExpansionOf (rows bit_or (λ i. entry i (slice_index groups i))) (select permutation (substitute bits))
+  IsExpansionOf-rows =
+      let mask : ℕ → ℕ → ℕ = λ joined i. slice_index_or (row_masks joined) i 0 in
+      let one = λ (i : ℕ) (below : i < 8). same_entries (λ i group. bit_and (entry i group) (mask 0 i)) entry 8 64 i
+      (slice_index groups i) below (within i 0 (omega arith)) refl in
+      let two = λ (i : ℕ) (below : i < 8). same_entries (λ i group. bit_and (entry i group) (mask 1 i)) entry 8 64 i
+      (slice_index groups i) below (within i 0 (omega arith)) refl in
+      let three = λ (i : ℕ) (below : i < 8). same_entries (λ i group. bit_and (entry i group) (mask 2 i)) entry 8 64 i
+      (slice_index groups i) below (within i 0 (omega arith)) refl in
+      let first = or-apart _ _ (mask 0 6) (mask 0 4) refl (one 6 (lit≤ tt)) (one 4 (lit≤ tt)) in
+      let second = or-apart _ _ (mask 1 6) (mask 1 2) refl
+      (under-xor _ _ (mask 1 6) (two 6 (lit≤ tt)) (two 4 (lit≤ tt))) (two 2 (lit≤ tt)) in
+      let third = or-apart _ _ (mask 2 6) (mask 2 0) refl
+      (under-xor _ _ (mask 2 6) (under-xor _ _ (mask 2 6) (three 6 (lit≤ tt)) (three 4 (lit≤ tt))) (three 2 (lit≤ tt)))
+      (three 0 (lit≤ tt)) in
+      rw (first, second, third, rows-row (λ i. entry i (slice_index groups i))) IsExpansionOf-row

@@ -57,7 +57,7 @@ bit_in-near : (slice : List ℕ) (b c number : ℕ) → c / 64 ≡ b / 64 → nu
 bit_in-near slice b c number same here =
     ap₂ (λ (l p : ℕ). bit_in (get_or slice l 0) p) (sym same) (sym here)
 
--- the two rows have their bits b exchanged, where bit b is second in its pair (t is 1) or first (t is 0)
+-- the two rows have their bits b exchanged, if bit b is second in its pair (t is 1) or first (t is 0)
 abbrev AreExchangedAt : ℕ → List ℕ → List ℕ → List ℕ → List ℕ → ℕ → ℕ → Type 0
 AreExchangedAt d xs ys above below b t =
     (bit_at_place b above ≡ bit_at_place (b - d * t + d * 0) (row (xs ∷ ys ∷ []) (1 * t + 0)))

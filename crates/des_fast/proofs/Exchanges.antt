@@ -11,7 +11,7 @@ use Rattle.des_fast.proofs.XoredLists.{xor-false}
 abbrev change : ℕ → ℕ → ℕ → ℕ → ℕ
 change d m x y = bit_and (bit_xor x (y / 2 ^ d)) m
 
--- a bit xor the xor of itself and another, where the other is taken
+-- a bit xor the xor of itself and another, if the other is taken
 take_other : (x y t : Bool) → t ≡ true → xor x (xor x y && t) ≡ y
 take_other x y t is = grind (arith, is)
 
@@ -19,7 +19,7 @@ take_other x y t is = grind (arith, is)
 take_back : (y x t : Bool) → t ≡ true → xor y (xor x y && t) ≡ x
 take_back y x t is = grind (arith, is)
 
--- and where it is not
+-- and if it is not
 keep_own : (x y t : Bool) → t ≡ false → xor x (y && t) ≡ x
 keep_own x y t is = grind (arith, is)
 

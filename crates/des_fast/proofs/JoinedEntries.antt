@@ -54,7 +54,7 @@ bits_of-number_l (byte ∷ bytes) each =
     ∙ ap (λ bits. bits ++ bits_of 8 byte) (bits_of-number_l bytes each.1)
     ∙ sym (rw (reverse-append (byte ∷ []) bytes, flat_map-append, append-nil) refl)
 
--- the bits of the two words of these bytes, where the entries are listed
+-- the bits of the two words of these bytes, if the entries are listed
 joined_word-listed : (read : ℕ → ℕ) (j : ℕ) → j < 2
     → let entries = map read (range_with_len 0 32) in
     bits_of_word (slice_index (digits_l (2 ^ 64) 2 (number_l 256 (joined_bytes entries))) j)

@@ -161,7 +161,7 @@ Holds-word_of i halves below fits =
     ∙ append-nil (select (positions i) bits)
     ∙ sym (select-select 65 positions_in_word (halves_positions (i + 1)) bits (omega (arith, length-bits_of 64 halves)))
 
--- so where the halves are those of a key, it is the word of groups of the round key
+-- so if the halves are those of a key, it is the word of groups of the round key
 pub record IsRoundKey (i word : ℕ) (key : List Bool) : Type 0 where
   pub of_groups : IsOfGroups word
   pub bits : bits_of_groups word ≡ round_key key (i + 1)

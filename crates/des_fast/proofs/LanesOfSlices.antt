@@ -1,4 +1,4 @@
--- What a batch is answered where each block has round keys of its own.
+-- What a batch is answered if each block has round keys of its own.
 use Rattle.std.proofs.Common.{◌≡◌, ℕ, Bool, List, map, ap, ◌∙◌}
 use Rattle.des.specs.Bits.{bit}
 use Rattle.des.specs.Blocks.{block_of_bits}

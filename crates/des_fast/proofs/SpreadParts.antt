@@ -49,7 +49,7 @@ pub take_one-set : {X : Type 0} (xs : List X) (x : X) → 0 < length xs → take
 take_one-set [] x some = absurd (omega arith)
 take_one-set (y ∷ xs) x some = refl
 
--- so are the slices of a single cipher, where there are no others
+-- so are the slices of a single cipher, if there are no others
 pub AreSlicesFor-one : {A : Type 0} (batch : ℕ) (bit : ℕ → A → Bool) (slices : List (PassSlices A))
     (answer : List ℕ → List ℕ) → length slices ≡ 1 → AreSlicesFor batch bit (take 1 slices) answer
     → AreSlicesFor batch bit slices answer

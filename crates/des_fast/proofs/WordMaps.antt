@@ -1,4 +1,4 @@
--- Maps of words by shifts, masks and `|`, each with the mask under which its images are: where those that are joined
+-- Maps of words by shifts, masks and `|`, each with the mask under which its images are: if those that are joined
 -- share no bit the map is linear, so that the words with one bit tell which bits it selects.
 use Rattle.std.proofs.Common.{◌≡◌, ℕ, ◌*◌, ◌/◌, ◌%◌, ◌^◌, ◌<◌, List, ◌++◌, map, bit_and, bit_or, ◌∙◌, append-nil}
 use Rattle.des.specs.Bits.{bits_of_word, zeros, select}

@@ -3,7 +3,7 @@
 use Rattle.std.specs.Prelude.{◌≡◌, ℕ, zero, suc, ◌+◌, ◌-◌, ◌/◌, ◌%◌, ◌^◌, ◌<◌, ◌==◌, cond, List, length, bit_and, bit_xor, slice_index_or}
 use Rattle.std.specs.Int.{w64, to_be_bytes}
 
--- all ones where the byte has this bit, else 0
+-- all ones if the byte has this bit, else 0
 abbrev pub mask : ℕ → ℕ → ℕ
 mask byte bit = cond (bit_and byte bit == bit) 255 0
 
@@ -13,7 +13,7 @@ sum zero term from byte = term from
 sum (suc n) term from byte =
     bit_xor (sum n term from byte) (bit_and (mask byte (2 ^ n)) (sum n term (from + 2 ^ n) byte))
 
--- the sum of 32 terms, and the first half of its byte in place of the second where the first bit of six is set
+-- the sum of 32 terms, and the first half of its byte in place of the second if the first bit of six is set
 abbrev pub choice : (ℕ → ℕ) → ℕ → ℕ
 choice term byte = bit_xor (sum 5 term 0 byte) (bit_and (mask byte 32) (sum 5 term 0 byte / 2 ^ 4))
 

@@ -24,7 +24,7 @@ positions_in_word =
 abbrev pub word_of_groups : List Bool → ℕ
 word_of_groups bits = number_of (select positions_in_word bits)
 
--- the middle four positions of each group: those of a half block, where the groups are those of its
+-- the middle four positions of each group: those of a half block, if the groups are those of its
 -- expansion E
 abbrev pub half_positions : List ℕ
 half_positions = flat_map (λ start. range_with_len (start + 1) 4) group_starts

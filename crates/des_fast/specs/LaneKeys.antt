@@ -4,7 +4,7 @@ use Rattle.des_fast.specs.declared.many.lanes.LaneKeys.{LaneKeys}
 use Rattle.des_fast.specs.SpreadKeys.{used}
 use Rattle.des_fast.specs.EachKey.{lane_output}
 
--- of what a cipher answers in its two directions, that of decryption where it is asked for
+-- of what a cipher answers in its two directions, that of decryption if it is asked for
 abbrev pub answer_in : Bool → (List ℕ → List ℕ → List ℕ) → (List ℕ → List ℕ → List ℕ)
     → List ℕ → List ℕ → List ℕ
 answer_in false encryption decryption = encryption

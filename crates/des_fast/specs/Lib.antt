@@ -19,5 +19,6 @@ pub mod Laws
 pub mod GroupBytes
 pub mod SideBySide
 pub mod ThreeBlocks
+pub mod FourBlocks
 pub mod JoinedEntries
 pub mod ChosenTerms

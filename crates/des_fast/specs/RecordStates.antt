@@ -57,7 +57,7 @@ AreUnchainedBelow decryption sizes first q vectors blocks place =
     (k : ℕ) → k < length sizes
     → IsUnchained decryption sizes first q vectors blocks k (min (place - start sizes k) (slice_index sizes k))
 
--- block i of the records from `from` on, n of them, is written from lanes where the record has one, and the vector too;
+-- block i of the records from `from` on, n of them, is written from lanes if the record has one, and the vector too;
 -- the rest is as it was
 pub record AreWritten (sizes : List ℕ) (from n i : ℕ) (lanes vectors blocks new_vectors new_blocks : List (List ℕ))
     : Type 0 where

@@ -6,7 +6,7 @@ use Rattle.des.specs.Bits.{bits_of_word, bits_of_bytes}
 use Rattle.des.specs.Blocks.{block_of_bits}
 use Rattle.des_fast.specs.Slices.{InEachBlock, number_in_word}
 
--- 1 where bit b is the second of its pair in its word and 0 where it is the first, with the bits
+-- 1 if bit b is the second of its pair in its word and 0 if it is the first, with the bits
 -- taken in pairs at a distance
 abbrev pub second : ℕ → ℕ → ℕ
 second distance b = b % 64 / distance % 2
@@ -35,8 +35,8 @@ IsFrom bit rows answer m b from =
 
 -- ---- steps that make a pair of rows of a pair: where bit b of row t of the answer comes from
 
--- an exchange of bits at a distance: from the second row where bit b is second, and there from the bit
--- that is second where t is 1
+-- an exchange of bits at a distance: from the second row if bit b is second, and there from the bit
+-- that is second if t is 1
 abbrev pub exchanged : ℕ → ℕ → ℕ → ℕ × ℕ
 exchanged distance t b = (second distance b, b - distance * second distance b + distance * t)
 

@@ -6,6 +6,7 @@ ghost use Rattle.des_fast.specs.Groups.{half_of};
 ghost use Rattle.des_fast.specs.HalfBlocks.{half_blocks_of, round_keys_of};
 ghost use Rattle.des_fast.specs.SideBySide.{in_direction};
 
+use crate::four_blocks::FourGroups;
 use crate::halves::{HalfBlock, Halves, RoundKey};
 use crate::rounds::{Groups, after_rounds};
 use crate::three_blocks::ThreeGroups;
@@ -15,6 +16,9 @@ use std::simd::prelude::*;
 pub trait BoxLookup: Copy {
     /// The blocks that go side by side in a list.
     type Groups: Groups;
+
+    /// Those that go so if they are too few for `Groups`.
+    type FewGroups: Groups;
 
     /// The last blocks of a list go one by one up to this number: that is quicker.
     const ONE_BY_ONE: usize;
@@ -27,13 +31,15 @@ pub trait BoxLookup: Copy {
             (half_of halves.left.groups) (half_of halves.right.groups) };
 }
 
-/// By tables. The rounds of a block wait for its lookups, and those of two others go on meanwhile,
-/// so that three take little longer than one.
+/// By tables. The rounds of a block wait for its lookups, and those of others go on meanwhile, so
+/// that four take less than twice as long as one.
 #[derive(Clone, Copy)]
 pub struct Tables;
 
 impl BoxLookup for Tables {
-    type Groups = ThreeGroups;
+    type Groups = FourGroups;
+
+    type FewGroups = ThreeGroups;
 
     const ONE_BY_ONE: usize = 1;
 
@@ -55,9 +61,12 @@ pub struct NoTables;
 impl BoxLookup for NoTables {
     type Groups = u64x4;
 
+    type FewGroups = u64x4;
+
     const ONE_BY_ONE: usize = 2;
 
-    #[inline(always)]
+    // Not inlined: the rounds are long, and take the halves of one block in registers.
+    #[inline(never)]
     fn after_rounds(halves: Halves, round_keys: &[RoundKey; 16], deciphers: bool) -> Halves {
         let (left, right) = after_rounds(
             halves.left.groups,

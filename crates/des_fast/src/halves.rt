@@ -75,22 +75,7 @@ impl Halves {
         ensures is_block { IsBlock block.now }
         ensures halves { half_blocks_of result ≡ first_halves block.now }
     {
-        Halves::new(utils::ip(word_of(block)))
-    }
-
-    /// The block that the halves after the rounds make: they are swapped, and the final permutation
-    /// follows (FIPS 46-3, enciphering).
-    pub(crate) fn into_block(self) -> [u8; 8]
-        ensures { result ≡ last_block (half_blocks_of self) }
-    {
-        block_of(utils::fp(self.swapped().word()))
-    }
-
-    // The two halves of a word.
-    fn new(word: u64) -> Halves
-        ensures left { half_of result.left.groups ≡ take 32 (bits_of_word word) }
-        ensures right { half_of result.right.groups ≡ drop 32 (bits_of_word word) }
-    {
+        let word = utils::ip(u64::from_be_bytes(*block));
         // Both halves at once. The groups 1, 3, 5 and 7 are a half rotated right by three, the
         // groups 2, 4, 6 and 8 a half rotated left by one, without the first two bits of each byte.
         // The second term is what comes round: bit 32 of a half to the first bit of group 1, bit 1
@@ -104,6 +89,14 @@ impl Halves {
             groups: (odd << 32) | (even & 0x000000003f3f3f3f),
         };
         Halves { left, right }
+    }
+
+    /// The block that the halves after the rounds make: they are swapped, and the final permutation
+    /// follows (FIPS 46-3, enciphering).
+    pub(crate) fn into_block(self) -> [u8; 8]
+        ensures { result ≡ last_block (half_blocks_of self) }
+    {
+        block_of(utils::fp(self.swapped().word()))
     }
 
     // The word of the two halves.

@@ -15,6 +15,7 @@
 #![tactic(auto)]
 
 pub mod box_lookup;
+mod four_blocks;
 mod halves;
 mod lists;
 pub mod many;

@@ -1,10 +1,11 @@
 //! Lists of blocks, some side by side, which is faster. The last few go one by one if that is
-//! faster.
+//! faster. Lists that CBC chained (FIPS 81, cipher block chaining mode) go so too.
 
 ghost use Rattle.std.specs.Prelude.{◌≡◌, ◌<◌, ◌≤◌, ℕ, List, [], length, map, slice_index_or};
 ghost use Rattle.std.specs.List.{All};
 ghost use Rattle.des.specs.Bits.{bits_of_bytes, bits_of_word};
 ghost use Rattle.des.specs.Blocks.{IsBlock};
+ghost use Rattle.des.specs.Cbc.{Unchains};
 ghost use Rattle.des_fast.specs.Slices.{InEachBlock};
 ghost use Rattle.des_fast.specs.Groups.{half_of};
 ghost use Rattle.des_fast.specs.HalfBlocks.{first_halves, last_block};
@@ -14,6 +15,7 @@ use crate::box_lookup::BoxLookup;
 use crate::halves::{block_of, word_of};
 use crate::permutations;
 use crate::rounds::Groups;
+use des::cbc::{self, next_vector};
 use des::cipher::are_blocks;
 use std::simd::prelude::*;
 
@@ -102,18 +104,53 @@ fn process_side_by_side<G: Groups, A: BlockTransform>(blocks: &mut [[u8; 8]], pa
     write_blocks(blocks, left, right);
 }
 
-// How many of the blocks that are left go next: no clause says where one by one begins, since only
-// the time depends on it.
+// Takes some blocks through passes: one alone, and more side by side, as few of them as the lookup
+// has for as few.
+fn process_some<W: BoxLookup, A: BlockTransform>(blocks: &mut [[u8; 8]], passes: &A)
+    requires some { 1 ≤ length blocks.old }
+    requires few { length blocks.old ≤ W.Groups.BLOCKS }
+    ensures { blocks.new ≡ map (A.output passes.now) blocks.old }
+{
+    if blocks.len() == 1 {
+        passes.process_block::<W>(&mut blocks[0]);
+    } else if blocks.len() <= <W::FewGroups as Groups>::BLOCKS {
+        process_side_by_side::<W::FewGroups, A>(blocks, passes);
+    } else {
+        process_side_by_side::<W::Groups, A>(blocks, passes);
+    }
+}
+
+// Takes some blocks that CBC chained from `iv` through passes, and out of the chain: each is xored
+// with the block that was before it.
+fn unchain_some<W: BoxLookup, A: BlockTransform>(blocks: &mut [[u8; 8]], iv: &[u8; 8], passes: &A)
+    requires some { 1 ≤ length blocks.old }
+    requires few { length blocks.old ≤ W.Groups.BLOCKS }
+    ensures { Unchains (A.output passes.now) iv.now blocks.old blocks.new }
+{
+    let last = blocks.len() - 1;
+    let before = [*iv, blocks[0], blocks[last.min(1)], blocks[last.min(2)]];
+    process_some::<W, A>(blocks, passes);
+    'xored: for k in 0..blocks.len() {
+        cbc::xor(&mut blocks[k], &before[k]);
+    }
+}
+
+// How many of the blocks that are left go next: no clause says where one by one begins, or where
+// twice a few are quicker than what fits and the rest, since only the time depends on it.
 fn next_count<W: BoxLookup>(left: usize) -> usize
     requires { 1 ≤ left }
     ensures some { 1 ≤ result }
     ensures few { result ≤ W.Groups.BLOCKS }
     ensures within { result ≤ left }
 {
+    let most = <W::Groups as Groups>::BLOCKS;
+    let few = <W::FewGroups as Groups>::BLOCKS.min(most);
     if left <= W::ONE_BY_ONE {
         1
+    } else if left == 2 * few {
+        few
     } else {
-        <W::Groups as Groups>::BLOCKS.min(left)
+        most.min(left)
     }
 }
 
@@ -126,12 +163,30 @@ pub(crate) fn process<W: BoxLookup, A: BlockTransform>(blocks: &mut [[u8; 8]], p
     let mut from = 0;
     'parts: while from < blocks.len() {
         let count = next_count::<W>(blocks.len() - from);
+        process_some::<W, A>(&mut blocks[from..from + count], passes);
+        from += count;
+    }
+}
+
+/// Takes each block of a list that CBC chained from `iv` through passes, and out of the chain, as
+/// many side by side as `process` does.
+pub(crate) fn unchain<W: BoxLookup, A: BlockTransform>(
+    blocks: &mut [[u8; 8]],
+    iv: &[u8; 8],
+    passes: &A,
+)
+    ensures blocks { All IsBlock blocks.old }
+    ensures unchained { Unchains (A.output passes.now) iv.now blocks.old blocks.new }
+{
+    are_blocks(blocks);
+    let mut before = *iv;
+    let mut from = 0;
+    'parts: while from < blocks.len() {
+        let count = next_count::<W>(blocks.len() - from);
         let part = &mut blocks[from..from + count];
-        if count == 1 {
-            passes.process_block::<W>(&mut part[0]);
-        } else {
-            process_side_by_side::<W::Groups, A>(part, passes);
-        }
+        let next = next_vector(&before, part);
+        unchain_some::<W, A>(part, &before, passes);
+        before = next;
         from += count;
     }
 }

@@ -49,7 +49,7 @@ fn fp(words: u64x4) -> u64x4
     delta_swap(words, 9, 0x0055005500550055)
 }
 
-// What `Halves::new` makes of each word.
+// What `Halves::of_block` makes of each word.
 #[inline(always)]
 fn split(words: u64x4) -> (u64x4, u64x4)
     ensures left { AreExpansions 4 lane result.0 }

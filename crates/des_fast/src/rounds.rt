@@ -2,17 +2,17 @@
 //!
 //! A half block is kept as its expansion E in a word of groups, as in `halves`.
 
-ghost use Rattle.std.specs.Prelude.{◌≡◌, ◌<◌, ◌≤◌, ◌-◌, ℕ, [], bit_xor, min, slice_index_or};
-ghost use Rattle.des.specs.Bits.{select, xor_bits};
-ghost use Rattle.des.specs.Tables.{permutation};
-ghost use Rattle.des.specs.CipherFunction.{substitute, cipher_function};
+ghost use Rattle.std.specs.Prelude.{◌≡◌, ◌<◌, ◌≤◌, ◌-◌, ℕ, [], min, slice_index_or};
+ghost use Rattle.des.specs.Bits.{xor_bits};
+ghost use Rattle.des.specs.CipherFunction.{cipher_function};
 ghost use Rattle.des.specs.Rounds.{after_rounds};
 ghost use Rattle.des_fast.specs.Slices.{InEachBlock};
-ghost use Rattle.des_fast.specs.Groups.{IsOfGroups, IsExpansion, bits_of_groups, half_of};
+ghost use Rattle.des_fast.specs.Groups.{IsExpansion, bits_of_groups, half_of};
 ghost use Rattle.des_fast.specs.HalfBlocks.{round_keys_of};
 ghost use Rattle.des_fast.specs.SideBySide.{AreExpansions, in_direction};
 
 use crate::halves::RoundKey;
+use crate::tables::substitute_in_rows;
 
 /// A word of groups of each of some blocks.
 pub trait Groups: Copy {
@@ -24,21 +24,15 @@ pub trait Groups: Copy {
     // The word of block b, from 0.
     ghost word: { ℕ → Self → ℕ };
 
-    /// One word, for each block.
-    fn same(groups: u64) -> Self
-        ensures { InEachBlock BLOCKS (λ b. word b result ≡ groups) };
-
-    /// `self ^ other`.
-    fn xor(self, other: Self) -> Self
-        ensures { InEachBlock BLOCKS (λ b. word b result ≡ bit_xor (word b self) (word b other)) };
-
-    /// The substitution by S1 to S8 of the 48 bits of each block, and P after it, as the word of
-    /// groups of its expansion E (FIPS 46-3, cipher function).
-    fn substitute(self) -> Self
-        requires { InEachBlock BLOCKS (λ b. IsOfGroups (word b self)) }
-        ensures expansion { InEachBlock BLOCKS (λ b. IsExpansion (word b result)) }
-        ensures substituted { InEachBlock BLOCKS (λ b. half_of (word b result)
-            ≡ select permutation (substitute (bits_of_groups (word b self)))) };
+    /// The half blocks that a round makes: these, the left halves, xor f of the right halves and the
+    /// round key (FIPS 46-3, enciphering).
+    fn next(self, right: Self, round_key: RoundKey) -> Self
+        requires left { AreExpansions BLOCKS word self }
+        requires right { AreExpansions BLOCKS word right }
+        ensures expansions { AreExpansions BLOCKS word result }
+        ensures halves { InEachBlock BLOCKS (λ b. half_of (word b result)
+            ≡ xor_bits (half_of (word b self))
+            (cipher_function (half_of (word b right)) (bits_of_groups round_key.groups))) };
 
     /// The first of these words, one for each block.
     fn of_words(words: [u64; 4]) -> Self
@@ -54,18 +48,17 @@ pub trait Groups: Copy {
     ghost at_most: { BLOCKS ≤ 4 };
 }
 
-// The half block that a round makes: the left half, xor f of the right half and the round key (FIPS
-// 46-3, enciphering).
+/// The half block that a round makes: the left half, xor f of the right half and the round key, by
+/// tables (FIPS 46-3, enciphering).
 #[inline(always)]
-fn next<G: Groups>(left: G, right: G, round_key: RoundKey) -> G
-    requires left { AreExpansions G.BLOCKS G.word left }
-    requires right { AreExpansions G.BLOCKS G.word right }
-    ensures expansions { AreExpansions G.BLOCKS G.word result }
-    ensures halves { InEachBlock G.BLOCKS (λ b. half_of (G.word b result)
-        ≡ xor_bits (half_of (G.word b left))
-        (cipher_function (half_of (G.word b right)) (bits_of_groups round_key.groups))) }
+pub(crate) fn next(left: u64, right: u64, round_key: RoundKey) -> u64
+    requires left { IsExpansion left }
+    requires right { IsExpansion right }
+    ensures expansion { IsExpansion result }
+    ensures half { half_of result ≡ xor_bits (half_of left)
+        (cipher_function (half_of right) (bits_of_groups round_key.groups)) }
 {
-    left.xor(right.xor(G::same(round_key.groups)).substitute())
+    left ^ substitute_in_rows(right ^ round_key.groups)
 }
 
 // The round key of a round, from 0, in the order of enciphering or of deciphering.
@@ -82,7 +75,7 @@ fn round_key_of(round_keys: &[RoundKey; 16], deciphers: bool, round: usize) -> R
     }
 }
 
-// Sixteen rounds in one direction. It is inlined where the direction is known, so that no round asks
+// Sixteen rounds in one direction. It is inlined if the direction is known, so that no round asks
 // for it.
 #[inline(always)]
 fn rounds<G: Groups>(left: G, right: G, round_keys: &[RoundKey; 16], deciphers: bool) -> (G, G)
@@ -98,23 +91,16 @@ fn rounds<G: Groups>(left: G, right: G, round_keys: &[RoundKey; 16], deciphers: 
     let mut next_left = left;
     let mut next_right = right;
     for i in 0..8usize {
-        next_left = next(
-            next_left,
-            next_right,
-            round_key_of(round_keys, deciphers, 2 * i),
-        );
-        next_right = next(
-            next_right,
-            next_left,
-            round_key_of(round_keys, deciphers, 2 * i + 1),
-        );
+        next_left = next_left.next(next_right, round_key_of(round_keys, deciphers, 2 * i));
+        next_right = next_right.next(next_left, round_key_of(round_keys, deciphers, 2 * i + 1));
     }
     (next_left, next_right)
 }
 
 /// The halves after sixteen rounds, with the round keys in their order or, to decipher, from the
-/// last to the first (FIPS 46-3, enciphering and deciphering).
-#[inline]
+/// last to the first (FIPS 46-3, enciphering and deciphering). Inlined, since three passes in a row
+/// would else take the halves through memory.
+#[inline(always)]
 pub(crate) fn after_rounds<G: Groups>(
     left: G,
     right: G,

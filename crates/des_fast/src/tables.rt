@@ -192,23 +192,22 @@ pub(crate) fn substitute(word: u64) -> u64
     first ^ last
 }
 
-/// Substitutes so, with the entries joined in a row: fewer steps, of which each waits for the one
-/// before it. It is quicker if other blocks have steps to go on with meanwhile.
+/// Substitutes so, with the entries joined in two rows: fewer steps, of which each waits for the one
+/// before it. It is quicker if other blocks have steps to go on with meanwhile. The compiler begins
+/// the row of `^` with what the caller adds, and keeps that of `|` apart.
 #[inline]
-pub(crate) fn substitute_in_a_row(word: u64) -> u64
+pub(crate) fn substitute_in_rows(word: u64) -> u64
     requires { IsOfGroups word }
     ensures expansion { IsExpansion result }
     ensures substituted { half_of result ≡ select permutation (substitute (bits_of_groups word)) }
 {
     let group = groups_of(word);
-    TABLES[7][group[7]]
-        ^ TABLES[6][group[6]]
+    let even = TABLES[7][group[7]]
         ^ TABLES[5][group[5]]
-        ^ TABLES[4][group[4]]
         ^ TABLES[3][group[3]]
-        ^ TABLES[2][group[2]]
-        ^ TABLES[1][group[1]]
-        ^ TABLES[0][group[0]]
+        ^ TABLES[1][group[1]];
+    let odd = TABLES[6][group[6]] | TABLES[4][group[4]] | TABLES[2][group[2]] | TABLES[0][group[0]];
+    even ^ odd
 }
 
 // The groups of a word of groups, in their order.

@@ -2,8 +2,8 @@
 
 ghost use Rattle.des_fast.specs.ThreeBlocks.{word_of_three};
 
-use crate::rounds::Groups;
-use crate::tables;
+use crate::halves::RoundKey;
+use crate::rounds::{Groups, next};
 
 /// A word of groups of each of three blocks.
 #[derive(Clone, Copy)]
@@ -23,29 +23,11 @@ impl Groups for ThreeGroups {
     ghost word = { word_of_three };
 
     #[inline(always)]
-    fn same(groups: u64) -> ThreeGroups {
+    fn next(self, right: ThreeGroups, round_key: RoundKey) -> ThreeGroups {
         ThreeGroups {
-            first: groups,
-            second: groups,
-            third: groups,
-        }
-    }
-
-    #[inline(always)]
-    fn xor(self, other: ThreeGroups) -> ThreeGroups {
-        ThreeGroups {
-            first: self.first ^ other.first,
-            second: self.second ^ other.second,
-            third: self.third ^ other.third,
-        }
-    }
-
-    #[inline(always)]
-    fn substitute(self) -> ThreeGroups {
-        ThreeGroups {
-            first: tables::substitute_in_a_row(self.first),
-            second: tables::substitute_in_a_row(self.second),
-            third: tables::substitute_in_a_row(self.third),
+            first: next(self.first, right.first, round_key),
+            second: next(self.second, right.second, round_key),
+            third: next(self.third, right.third, round_key),
         }
     }
 

@@ -18,7 +18,7 @@ pub map-undone : (f g : List ℕ → List ℕ) (blocks : List (List ℕ))
 map-undone f g blocks undoes are_blocks =
     map-map g f blocks ∙ map_fixed (λ block. g (f block)) blocks (λ i d within. undoes _ (are_blocks i d within))
 
--- what follows where a call succeeds
+-- what follows if a call succeeds
 pub OnOk-more : {T E P Q : Type 0} (r : Result T E) → (P → Q) → OnOk r P → OnOk r Q
 OnOk-more (Ok x) more holds = more holds
 OnOk-more (Err e) more holds = tt

@@ -19,7 +19,7 @@ pub in_direction-same : {X Y : Type 0} (direction : Direction) (e d : X → List
 in_direction-same Encrypt e d f g x y block encrypts decrypts = encrypts
 in_direction-same Decrypt e d f g x y block encrypts decrypts = decrypts
 
--- the answers of g to blocks are those of f under the key, where the two agree on blocks
+-- the answers of g to blocks are those of f under the key, if the two agree on blocks
 pub AnswersEach-map : (f : List ℕ → List ℕ → List ℕ) (size : ℕ) (key : List ℕ) (g : List ℕ → List ℕ)
     (blocks : List (List ℕ))
     → IsKey size key → All IsBlock blocks → ((block : List ℕ) → IsBlock block → g block ≡ f key block)

@@ -34,7 +34,7 @@ decode_pairs-digits i (a ∷ b ∷ rest) even digits =
     ∙ ap (cons_byte (digit_value a * 16 + digit_value b))
     (decode_pairs-digits (i + 2) rest (omega arith) (All-tail P b rest others))
 
--- a call that decodes digits into room for their bytes fills it with them
+-- a call that decodes digits into a buffer for their bytes fills it with them
 pub decoded_digits : (s : List ℕ) (n : ℕ) (r : Result Unit FromHexError) (out : List ℕ) → length s ≡ 2 * n
     → AllPass is_hex_digit s
     → MatchResult (decode_sized s n) (λ bytes. (r ≡ Ok tt) × (out ≡ bytes)) (λ e. r ≡ Err e)

@@ -35,7 +35,7 @@ IsOneToOne-cipher cipher key =
           sym ((one.decryption z x).0 first).1 ∙ ((one.decryption z y).0 second).1;
     }
 
--- where lists have one answer, digits have one text
+-- if lists have one answer, digits have one text
 one_text-of : (Answers : List (List ℕ) → List (List ℕ) → Type 0) (digits text other : List ℕ) → HasOneAnswer Answers
     → IsTextOf Answers digits text → IsTextOf Answers digits other → other ≡ text
 one_text-of Answers digits text other one first second =

@@ -72,7 +72,7 @@ module _ (Relates : List ℕ → List ℕ → Type 0) (one : IsOneToOne Relates)
         (one.last_is_block _ _ (chains.chained (i + 1) (omega arith) (omega (arith, chains.count)))).0)
 
     module _ (p q r : List (List ℕ)) (first : Chains Relates iv p q) (second : Chains Relates iv p r) where
-      -- where the blocks before a place are the same, so are those at it
+      -- if the blocks before a place are the same, so are those at it
       same-at : (n : ℕ) → 1 ≤ n → n ≤ length p → block_before iv q n ≡ block_before iv r n → block_at q n ≡ block_at r n
       same-at n from to before =
           let P : List ℕ → Type 0 = λ b. Relates (xor_blocks (block_at p n) b) (block_at r n) in

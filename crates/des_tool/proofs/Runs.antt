@@ -33,7 +33,7 @@ told-first told (Some first) fault status old new same shown =
     subst (λ (f : Fault). IsTold told f status old new) one shown
 told-first told None fault status old new same shown = tt
 
--- and where they have none, of `Memory`
+-- and if they have none, of `Memory`
 told-memory : {E : Type 0} (told : E → Option (List ℕ)) (given : Option Fault) (fault : Fault) (status : ℕ)
     (old new : E)
     → FailsBy {A = Vec ℕ Global} given (Err fault) → IsTold told fault status old new

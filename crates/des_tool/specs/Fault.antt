@@ -49,12 +49,12 @@ fault_of_request (of_weak key) = tested_key_fault key
 abbrev pub fault_of : List (List ℕ) → Option Fault
 fault_of arguments = option_map_or fault_of_request (request_of arguments) (Some Usage)
 
--- a call gives this fault, where there is one, and else fails for want of memory alone
+-- a call gives this fault, if there is one, and else fails for want of memory alone
 abbrev pub FailsBy : {A : Type 0} → Option Fault → Result A Fault → Type 0
 FailsBy (Some fault) result = result ≡ Err fault
 FailsBy None result = IfErr result (λ fault. fault ≡ Memory)
 
--- a call that takes no memory gives this fault, where there is one, and else does not fail
+-- a call that takes no memory gives this fault, if there is one, and else does not fail
 abbrev pub FailsOnlyBy : {A : Type 0} → Option Fault → Result A Fault → Type 0
 FailsOnlyBy (Some fault) result = result ≡ Err fault
 FailsOnlyBy None result = IsOk result

@@ -41,7 +41,7 @@ abbrev pub IsTheAnswer : Result (List (List ℕ)) Fault → List ℕ → Type 0
 IsTheAnswer arguments text = IsOkAnd arguments (λ arguments. IsTheOne (IsAnswer arguments) text)
 
 -- a run on these arguments, or on what kept them from being read, with the writers before and
--- after. A fault has its own status, and its line is told. Where there is none, the answer is
+-- after. A fault has its own status, and its line is told. If there is none, the answer is
 -- written whole, or a prefix of it, or memory is refused. What has no part in that writer stays as
 -- it is
 pub record IsRun {W E : Type 0} (out_contents : W → Option (List ℕ))

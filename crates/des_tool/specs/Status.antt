@@ -19,7 +19,7 @@ arguments_at_fault = 2
 abbrev pub memory_refused : ℕ
 memory_refused = 3
 
--- the answer was not written, or not the whole of it. No clause says that it is not where this is
+-- the answer was not written, or not the whole of it. No clause says that it is not if this is
 -- the status: std has no word for when a writer fails
 abbrev pub answer_not_written : ℕ
 answer_not_written = 4

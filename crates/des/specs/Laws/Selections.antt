@@ -44,7 +44,7 @@ xor_bits-xor_bits (first ∷ bits) (other ∷ others) same =
     ap₂ ◌∷◌ (xor-xor first other) (xor_bits-xor_bits bits others (omega arith))
 
 -- one list of positions in place of two: what `outer` selects from a selection by `inner`, with a
--- position past the end of the bits where `outer` goes past the end of `inner`
+-- position past the end of the bits if `outer` goes past the end of `inner`
 abbrev pub composed : ℕ → List ℕ → List ℕ → List ℕ
 composed past outer inner = map (λ position. slice_index_or inner (position - 1) past) outer
 

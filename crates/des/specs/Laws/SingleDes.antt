@@ -12,7 +12,7 @@ pub record AnswersAsDes {D : Type 0} (IsOf : D → List ℕ → Type 0)
   pub decrypts_as_des : (cipher : D) (key : List ℕ) → IsOf cipher key
       → Agree (decrypts cipher) (decryption key)
 
--- the same where more is known of a cipher and its key
+-- the same if more is known of a cipher and its key
 pub AnswersAsDes-more : {D : Type 0} {IsOf More : D → List ℕ → Type 0}
     {encrypts decrypts : D → List ℕ → List ℕ} → AnswersAsDes IsOf encrypts decrypts
     → AnswersAsDes (λ cipher key. IsOf cipher key × More cipher key) encrypts decrypts

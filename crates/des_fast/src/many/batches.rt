@@ -10,12 +10,12 @@ use super::Slice;
 pub const MOST_NARROW: usize = 128;
 
 // The most blocks that go side by side, if tables may be read and if none may be, whatever
-// the cipher, the direction and the width. On a processor where a batch took 1.68 microseconds of DES
-// and 4.06 of EDE3, 31 blocks by tables took 1.67 and 4.37 (28: 1.51 and 3.96), and without tables
-// 10 blocks 1.61 and 4.53 (8: 1.09 and 3.01).
+// the cipher, the direction and the width. On a processor where a batch took 1.04 microseconds of DES
+// and 2.66 of EDE3, 31 blocks by tables took 0.97 and 2.48, and without tables 8 blocks 0.86 and
+// 2.41 (9: 1.04 and 2.94).
 pub(super) const FEW_BY_TABLES: usize = 31;
 
-const FEW_NO_TABLES: usize = 10;
+const FEW_NO_TABLES: usize = 8;
 
 /// How many blocks of a list go in batches, from the first on: the whole batches, and what is left
 /// over too unless it is few blocks. Few go side by side. The clause `batches` is for speed alone: no

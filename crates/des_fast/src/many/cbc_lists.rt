@@ -1,59 +1,18 @@
-//! Lists by CBC (FIPS 81, cipher block chaining mode). To encrypt, block goes after block: each waits
-//! for the one before it. To decrypt, a batch goes at a time, or some side by side: each block is
-//! deciphered by itself, and xored with the ciphertext block before it.
+//! Lists that CBC chained (FIPS 81, cipher block chaining mode). A batch goes at a time, or some
+//! blocks side by side: each block is deciphered by itself, and xored with the ciphertext block
+//! before it.
 
 ghost use Rattle.std.specs.Prelude.{◌≡◌, ℕ, List};
 ghost use Rattle.std.specs.List.{All};
 ghost use Rattle.des.specs.Blocks.{IsBlock};
-ghost use Rattle.des.specs.Cbc.{Cbc, Unchains};
+ghost use Rattle.des.specs.Cbc.{Unchains};
 ghost use Rattle.des_fast.specs.SpreadKeys.{AreSlicesFor};
 
-use super::batches::FEW_BY_TABLES;
 use super::{LARGEST_BATCH, Slice, process};
-use crate::box_lookup::{BoxLookup, NoTables, Tables};
+use crate::box_lookup::{NoTables, Tables};
 use crate::lists::{self, BlockTransform};
 use crate::slices::PassSlices;
 use des::cbc::{self, ListDecryption};
-use des::cipher::are_blocks;
-
-/// Encrypts blocks by CBC from `iv`, each through passes. Not inlined: with both lookups in one
-/// function each of them is slower.
-#[inline(never)]
-pub(super) fn cbc_encrypt<W: BoxLookup, P: BlockTransform>(
-    blocks: &mut [[u8; 8]],
-    iv: &[u8; 8],
-    passes: &P,
-)
-    ensures blocks { All IsBlock blocks.old }
-    ensures chained { Cbc (P.output passes.now) iv.now blocks.old blocks.new }
-{
-    are_blocks(blocks);
-    let mut previous = *iv;
-    for block in blocks.iter_mut() {
-        cbc::xor(block, &previous);
-        passes.process_block::<W>(block);
-        previous = *block;
-    }
-}
-
-// Passes that take a few blocks side by side, if tables may be read and if none may be.
-#[derive(Drop)]
-struct SideBySide<'a, P> {
-    no_tables: bool,
-    passes: &'a P,
-}
-
-impl<'a, P: BlockTransform> ListDecryption for SideBySide<'a, P> {
-    ghost decrypts = { λ few decryption. decryption ≡ P.output few.passes.now };
-
-    fn decrypt_list(&self, blocks: &mut [[u8; 8]]) {
-        if self.no_tables {
-            lists::process::<NoTables, P>(blocks, self.passes);
-        } else {
-            lists::process::<Tables, P>(blocks, self.passes);
-        }
-    }
-}
 
 /// Decrypts a few blocks that CBC chained from `iv`, some side by side, through passes.
 pub(super) fn cbc_decrypt_few<P: BlockTransform>(
@@ -65,8 +24,11 @@ pub(super) fn cbc_decrypt_few<P: BlockTransform>(
     ensures blocks { All IsBlock blocks.old }
     ensures unchained { Unchains (P.output passes.now) iv.now blocks.old blocks.new }
 {
-    let few = SideBySide { no_tables, passes };
-    cbc::decrypt_by(&few, iv, blocks, &mut [[0; 8]; FEW_BY_TABLES]);
+    if no_tables {
+        lists::unchain::<NoTables, P>(blocks, iv, passes);
+    } else {
+        lists::unchain::<Tables, P>(blocks, iv, passes);
+    }
 }
 
 // Passes that take blocks in batches.

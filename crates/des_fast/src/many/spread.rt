@@ -71,7 +71,7 @@ impl<S: Slice> SpreadKeys<S> {
     /// record k, as `des::cbc::encrypt` does record by record. Each vector becomes the one with which
     /// its chain goes on, the last ciphertext block of its record. A record may be empty. A group of
     /// as many records as a batch has blocks takes as many batches as its longest record has blocks.
-    /// Where vectors and sizes differ in number, or the sizes do not sum up to the number of blocks,
+    /// If vectors and sizes differ in number, or the sizes do not sum up to the number of blocks,
     /// the answer is `NotEqualError`, and vectors and blocks are unchanged.
     pub fn encrypt_cbc_records(
         &self,

@@ -13,7 +13,7 @@ ghost use Rattle.des.specs.CipherFunction.{box_entry, substitute};
 ghost use Rattle.des_fast.specs.Groups.{IsOfGroups, IsExpansion, bits_of_groups, half_of, positions_in_word};
 ghost use Rattle.des_fast.specs.GroupBytes.{box_of_byte, in_order};
 
-use crate::halves::word_of;
+use crate::halves::{RoundKey, word_of};
 use crate::rounds::Groups;
 use std::simd::prelude::*;
 
@@ -137,18 +137,8 @@ impl Groups for u64 {
     ghost word = { λ b groups. groups };
 
     #[inline(always)]
-    fn same(groups: u64) -> u64 {
-        groups
-    }
-
-    #[inline(always)]
-    fn xor(self, other: u64) -> u64 {
-        self ^ other
-    }
-
-    #[inline(always)]
-    fn substitute(self) -> u64 {
-        substitute(self)
+    fn next(self, right: u64, round_key: RoundKey) -> u64 {
+        self ^ substitute(right ^ round_key.groups)
     }
 
     #[inline(always)]

@@ -3,11 +3,11 @@
 //! either.
 //!
 //! An entry is a sum modulo 2 of terms, one for each choice among the last five bits of its group,
-//! where all bits of the choice are set. That takes two operations for each entry, a selection three.
+//! if all bits of the choice are set. That takes two operations for each entry, a selection three.
 //! A lookup by a shuffle would be one operation, but the default processor has none and would read
 //! memory.
 
-ghost use Rattle.std.specs.Prelude.{◌≡◌, ◌<◌, ◌≤◌, ◌+◌, ◌-◌, ◌*◌, ◌^◌, ◌++◌, ℕ, suc, List, length, slice_index, slice_index_or};
+ghost use Rattle.std.specs.Prelude.{◌≡◌, ◌<◌, ◌≤◌, ◌+◌, ◌-◌, ◌*◌, ◌^◌, ◌++◌, ℕ, suc, List, length, slice_index, slice_index_or, bit_xor};
 ghost use Rattle.std.specs.Int.{w64, to_be_bytes};
 ghost use Rattle.des.specs.Bits.{bits_of, bits_of_word, select};
 ghost use Rattle.des.specs.Tables.{expansion, permutation};
@@ -18,6 +18,7 @@ ghost use Rattle.des_fast.specs.GroupBytes.{box_of_byte};
 ghost use Rattle.des_fast.specs.ChosenTerms.{AreMasks, AreSums, AreChoices};
 ghost use Rattle.des_fast.specs.JoinedEntries.{entry_order, entry_bits, joined_bits, first_entries, second_entries};
 
+use crate::halves::RoundKey;
 use crate::rounds::Groups;
 use std::simd::prelude::*;
 
@@ -47,18 +48,8 @@ impl Groups for u64x4 {
     ghost word = { λ b groups. slice_index_or groups b 0 };
 
     #[inline(always)]
-    fn same(groups: u64) -> u64x4 {
-        u64x4::splat(groups)
-    }
-
-    #[inline(always)]
-    fn xor(self, other: u64x4) -> u64x4 {
-        self ^ other
-    }
-
-    #[inline(always)]
-    fn substitute(self) -> u64x4 {
-        substitute(self)
+    fn next(self, right: u64x4, round_key: RoundKey) -> u64x4 {
+        xor(self, substitute(xor(right, same(round_key.groups))))
     }
 
     #[inline(always)]
@@ -74,6 +65,22 @@ impl Groups for u64x4 {
     ghost some_blocks = { lit≤ tt };
 
     ghost at_most = { lit≤ tt };
+}
+
+// One word, for each block.
+#[inline(always)]
+fn same(groups: u64) -> u64x4
+    ensures { InEachBlock 4 (λ b. slice_index_or result b 0 ≡ groups) }
+{
+    u64x4::splat(groups)
+}
+
+#[inline(always)]
+fn xor(first: u64x4, second: u64x4) -> u64x4
+    ensures { InEachBlock 4 (λ b. slice_index_or result b 0
+        ≡ bit_xor (slice_index_or first b 0) (slice_index_or second b 0)) }
+{
+    first ^ second
 }
 
 /// The substitution by S1 to S8 of the 48 bits in each word of groups, and P after it, as the word
@@ -195,7 +202,7 @@ fn sum_of_sixteen(from: usize, third: u8x32, fourth: u8x32, fifth: u8x32, sixth:
     )
 }
 
-// The entries in the second half of each byte: where the first bit of the group is set, the first
+// The entries in the second half of each byte: if the first bit of the group is set, the first
 // half is added.
 #[inline(always)]
 fn in_half(sums: u8x32, first: u8x32) -> u8x32

@@ -56,7 +56,7 @@ pub fn show<W: Write, E: Write>(answer: &Result<Vec<u8>, Fault>, out: &mut W, er
     }
 }
 
-// Writes the bytes and flushes. Where that fails, a prefix of them is written. A write that was
+// Writes the bytes and flushes. If that fails, a prefix of them is written. A write that was
 // interrupted is tried again.
 fn write_whole<W: Write>(out: &mut W, bytes: &[u8]) -> io::Result<()>
     ensures part { AppendsPrefix (W.contents out.old) (W.contents out.new) bytes.now }

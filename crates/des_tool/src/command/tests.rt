@@ -5,21 +5,21 @@ use super::{Fault, answer, show};
 use std::io::{self, Error, ErrorKind, Write};
 
 // A writer that takes one byte a write, each after one that is interrupted, and fails once it has no
-// more room: so does its flush.
+// more space: so does its flush.
 #[derive(Drop)]
 struct Page {
     bytes: [u8; 64],
     taken: usize,
-    room: usize,
+    capacity: usize,
     interrupted: bool,
 }
 
 impl Page {
-    fn new(room: usize) -> Page {
+    fn new(capacity: usize) -> Page {
         Page {
             bytes: [0; 64],
             taken: 0,
-            room,
+            capacity,
             interrupted: false,
         }
     }
@@ -37,7 +37,7 @@ impl Write for Page {
             return Err(Error::from(ErrorKind::Interrupted));
         }
         match bytes.first() {
-            Some(byte) if self.taken < self.room.min(64) => {
+            Some(byte) if self.taken < self.capacity.min(64) => {
                 self.bytes[self.taken] = *byte;
                 self.taken += 1;
                 Ok(1)
@@ -47,7 +47,7 @@ impl Write for Page {
     }
 
     fn flush(&mut self) -> io::Result<()> {
-        if self.taken < self.room {
+        if self.taken < self.capacity {
             Ok(())
         } else {
             Err(Error::from(ErrorKind::StorageFull))
@@ -55,24 +55,24 @@ impl Write for Page {
     }
 }
 
-// Room for more than is ever written.
+// More bytes than are ever written.
 const ENOUGH: usize = 64;
 
-// Whether two writers of so much room take these bytes of an answer or a fault, with this status.
+// Whether two writers of these capacities take these bytes of an answer or a fault, with this status.
 fn shows(
     answer: &Result<Vec<u8>, Fault>,
-    (out_room, out_bytes): (usize, &[u8]),
-    (err_room, err_bytes): (usize, &[u8]),
+    (out_capacity, out_bytes): (usize, &[u8]),
+    (err_capacity, err_bytes): (usize, &[u8]),
     status: u8,
 ) -> bool {
-    let (mut out, mut err) = (Page::new(out_room), Page::new(err_room));
+    let (mut out, mut err) = (Page::new(out_capacity), Page::new(err_capacity));
     show(answer, &mut out, &mut err) == status && out.has(out_bytes) && err.has(err_bytes)
 }
 
 // Whether an answer is shown with this text, and as a prefix of it wherever the writer fails.
 fn is_answer(answer: &Result<Vec<u8>, Fault>, text: &[u8]) -> bool {
-    for room in 0..text.len() + 1 {
-        if !shows(answer, (room, &text[..room]), (ENOUGH, &[]), 4) {
+    for capacity in 0..text.len() + 1 {
+        if !shows(answer, (capacity, &text[..capacity]), (ENOUGH, &[]), 4) {
             return false;
         }
     }
@@ -81,8 +81,8 @@ fn is_answer(answer: &Result<Vec<u8>, Fault>, text: &[u8]) -> bool {
 
 // Whether a fault is shown with this line and this status, wherever the writer fails.
 fn is_fault(answer: &Result<Vec<u8>, Fault>, line: &[u8], status: u8) -> bool {
-    for room in 0..line.len() + 1 {
-        if !shows(answer, (ENOUGH, &[]), (room, &line[..room]), status) {
+    for capacity in 0..line.len() + 1 {
+        if !shows(answer, (ENOUGH, &[]), (capacity, &line[..capacity]), status) {
             return false;
         }
     }

@@ -23,7 +23,7 @@ parts-preserved g c =
     let front : take (m + count) old ≡ take m old ++ take n (drop m old) =
     ap (λ (k : ℕ). take (m + k) old) (sym size) ∙ take-add m n old in record {
       within = omega (arith, c.min-count.ensures);
-      room = omega (arith, c.parts.invariant.room, c.decrypt_part.ensures.room);
+      buffer = omega (arith, c.parts.invariant.buffer, c.decrypt_part.ensures.buffer);
       before =
           c.next_vector-next.ensures
           ∙ ap (λ (before : List ℕ). next_vector before (take n (drop m now))) c.parts.invariant.before

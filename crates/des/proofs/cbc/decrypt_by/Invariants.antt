@@ -6,7 +6,7 @@ use Rattle.des.proofs.cbc.decrypt_by.Given as goal
 abbrev pub invariant-parts : goal.invariant-parts
 invariant-parts g l = record {
   within : l.from ≤ length l.blocks;
-  room : 1 ≤ length l.room;
+  buffer : 1 ≤ length l.buffer;
   before : l.before ≡ next_vector l.iv (take l.from l.initial.blocks);
   unchained : (f : List ℕ → List ℕ) → g.D.ListDecryption.decrypts l.by f
       → Unchains f l.iv (take l.from l.initial.blocks) (take l.from l.blocks);

@@ -1,7 +1,7 @@
 -- The blocks before the index are chained, those from it on are as they were, and `previous` is the block before it.
 use Rattle.std.proofs.Common.{◌≡◌, ℕ, ◌+◌, ◌≤◌, [], get_or}
 use Rattle.des.specs.Cbc.{xor_blocks, block_at, block_before}
-use Rattle.des_fast.proofs.many.cbc_lists.cbc_encrypt.Given as goal
+use Rattle.des_fast.proofs.many.ciphers.cbc_encrypt.Given as goal
 
 abbrev pub invariant-loop-block : goal.invariant-loop-block
 invariant-loop-block g l = record {

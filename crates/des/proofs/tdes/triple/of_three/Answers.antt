@@ -1,6 +1,6 @@
 use Rattle.std.proofs.Common.{true}
 use Rattle.des.proofs.TripleGraphs.{AnswerBy-Triple}
-use Rattle.des.proofs.tdes.joined.of_three.Goals as goal
+use Rattle.des.proofs.tdes.triple.of_three.Goals as goal
 
 -- the key answers by the relation, since its length is right
 pub returns : goal.returns

@@ -1,0 +1,17 @@
+use Rattle.des_fast.proofs.RoundsSideBySide.{IsOfGroups-mixed, IsExpansion-next, half_of-next}
+use Rattle.des_fast.proofs.no_tables.four_blocks.U64x4Groups.next.Goals as goal
+
+pub substitute-requires : goal.substitute-requires
+substitute-requires c b within =
+    IsOfGroups-mixed _ _ _ _ (c.xor.ensures b within) (c.same.ensures b within) (c.requires.right b within)
+    c.args.round_key.of_groups
+
+pub returns-clause-expansions : goal.returns-clause-expansions
+returns-clause-expansions c b within =
+    IsExpansion-next _ _ _ (c.xor-2.ensures b within) (c.requires.left b within)
+    (c.substitute.ensures.expansion b within)
+
+pub returns-clause-halves : goal.returns-clause-halves
+returns-clause-halves c b within =
+    half_of-next _ _ _ _ _ _ _ (c.xor-2.ensures b within) (c.xor.ensures b within) (c.same.ensures b within)
+    (c.requires.right b within) (c.substitute.ensures.substituted b within)
