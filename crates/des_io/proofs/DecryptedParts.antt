@@ -25,7 +25,7 @@ pub DecryptsPartPrefix-pending : {decryption : List ℕ → List ℕ} {mode : Mo
     (passage_of r t u w)
 DecryptsPartPrefix-pending holds = DecryptsPartPrefix-within (WithinPrefix-pending holds)
 
--- also where more was read
+-- also if more was read
 pub DecryptsPartPrefix-read : {decryption : List ℕ → List ℕ} {mode : Mode} {padding : Padding} {limit : Option ℕ}
     {r s t u v : Option (List ℕ)} {pending : Option (List ℕ)} (bytes : List ℕ)
     → HoldsPart decryption mode limit (passage_of r s u v) pending → Consumes s t bytes
@@ -42,7 +42,7 @@ not_at_end (Some x) (Some y) None a b all first second one is end = second
 not_at_end (Some x) (Some y) (Some z) a b all first second one is end =
     omega (arith, ap length (sym end ∙ second) ∙ length-append b z, one)
 
--- the last block, or a prefix of it, where more follows
+-- the last block, or a prefix of it, if more follows
 DecryptsPartPrefix-followed : {decryption : List ℕ → List ℕ} {mode : Mode} {padding : Padding} {limit : Option ℕ}
     {r s t u v w : Option (List ℕ)} {pending : Option (List ℕ)} (bytes put missing : List ℕ)
     → HoldsPart decryption mode limit (passage_of r s u v) pending
@@ -65,7 +65,7 @@ DecryptsPartPrefix-followed {limit} {r} {s} {t} {pending} bytes put missing part
 
 -- ---- what a fault says
 
--- where more follows, no padding is wrong
+-- if more follows, no padding is wrong
 FailsInPart-unpadded : (fault : StreamError) (decryption : List ℕ → List ℕ) (mode : Mode) (padding : Padding)
     (limit : Option ℕ) (passage : Passage) (v : Option (List ℕ)) (last : List ℕ)
     → EndsStream Unpadded last v passage.written_to (Err fault)
@@ -124,7 +124,7 @@ HoldsPart-same {r} {s} {t} bytes part read none end =
       within = part.within;
     }
 
--- where a block was held back, blocks were read
+-- if a block was held back, blocks were read
 some_blocks : {decryption : List ℕ → List ℕ} {mode : Mode} {r s u v : Option (List ℕ)} {block : List ℕ}
     → (holds : HoldsLast decryption mode (passage_of r s u v) (Some block)) → holds.q ≢ []
 some_blocks {decryption} {mode} {block} holds none =
@@ -132,7 +132,7 @@ some_blocks {decryption} {mode} {block} holds none =
     let lengths : length (holds.put ++ block) ≡ 0 = ap length (holds.whole ∙ ap joined blocks) in
     omega (arith, length-append holds.put block, lengths, holds.size)
 
--- where none was held back, none was read
+-- if none was held back, none was read
 pub no_blocks : {decryption : List ℕ → List ℕ} {mode : Mode} {r s : Option (List ℕ)} (t : Option (List ℕ))
     {u v : Option (List ℕ)} {pending : Option (List ℕ)} (bytes : List ℕ)
     → pending ≡ None → HoldsLast decryption mode (passage_of r s u v) pending → Consumes s t bytes → (bytes ≡ []) × IsAtEnd t
@@ -174,7 +174,7 @@ pub record EndsPart (result : Result (Unit {0}) StreamError) (decryption : List 
   pub prefix : DecryptsPartPrefix decryption mode padding limit passage
   pub fault : IfErr result (λ fault. FailsInPart fault decryption mode padding limit passage)
 
--- what was written where more follows and the writer failed
+-- what was written if more follows and the writer failed
 prefix_more : (fault : StreamError) {decryption : List ℕ → List ℕ} {mode : Mode} {padding : Padding} {limit : Option ℕ}
     {r s t u v w : Option (List ℕ)} {pending : Option (List ℕ)} (bytes : List ℕ)
     → HoldsPart decryption mode limit (passage_of r s u v) pending → Consumes s t bytes

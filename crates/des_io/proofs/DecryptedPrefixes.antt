@@ -31,7 +31,7 @@ DeciphersPrefix-ended {r} {s} {u} {v} {w} put missing so_far is written = record
   written = Appends-trans u v w _ _ so_far.written written;
 }
 
--- also where more was read
+-- also if more was read
 abbrev pub DeciphersPrefix-more : {decryption : List ℕ → List ℕ} {mode : Mode} {r s t u v : Option (List ℕ)}
     (bytes : List ℕ)
     → DeciphersPrefix decryption mode (passage_of r s u v) → Consumes s t bytes

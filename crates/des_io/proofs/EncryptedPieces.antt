@@ -157,7 +157,7 @@ EncryptsPrefix-written {encryption} {mode} {padding} {r} {s} {t} {u} {v} {w} byt
 
 -- ---- the end within a block
 
--- bytes with their padding are not whole blocks only where there is no padding
+-- bytes with their padding are not whole blocks only if there is no padding
 pub unpadded-past : (padding : Padding) (bytes : List ℕ) (n : ℕ) → length (padded padding bytes) ≡ n → n % 8 ≢ 0
     → padding ≡ Unpadded
 unpadded-past Unpadded bytes n count past = refl

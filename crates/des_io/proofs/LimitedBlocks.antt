@@ -1,4 +1,4 @@
--- Limits in blocks, where there are some.
+-- Limits in blocks, if there are some.
 use Rattle.std.proofs.Common.{◌≡◌, ◌⊎◌, inl, inr, ℕ, ◌+◌, ◌*◌, ◌/◌, ◌<◌, ◌≤◌, List, ◌++◌, Option, None, Some, IfSome, length, ap, ◌∙◌, arith, length-append}
 use Rattle.std.specs.Io.KnownBytes.{IsAtEnd}
 use Rattle.des_io.specs.Streams.{IsLeft, IsWithin}
@@ -32,13 +32,13 @@ IsLeft-none (Some limit) (Some left) q more all count first is same joins =
     let total : limit ≡ length all = omega (arith, ap length joins ∙ length-append q more, first, this, same) in
     ap Some total
 
--- where something may be left of a limit, it was not passed
+-- if something may be left of a limit, it was not passed
 pub IsLeft-within : (limit left : Option ℕ) (count : ℕ) → IsLeft limit count left → IsWithin limit count
 IsLeft-within None left count first = tt
 IsLeft-within (Some limit) None count first = absurd first
 IsLeft-within (Some limit) (Some left) count first = omega (arith, first)
 
--- without a limit a stream ends where the reader does
+-- without a limit a stream ends if the reader does
 pub ends_alone : (r : Option (List ℕ)) (count : ℕ) → IsAtEnd r ⊎ (None ≡ Some count) → IsAtEnd r
 ends_alone r count (inl end) = end
 ends_alone r count (inr is) = cc

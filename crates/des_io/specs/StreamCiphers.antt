@@ -4,9 +4,7 @@ use Rattle.std.specs.Io.KnownBytes.{Consumes, Appends, IsAtEnd}
 use Rattle.des_modes.specs.Ctr.{Ctr}
 use Rattle.des_modes.specs.Ofb.{Ofb}
 use Rattle.des_modes.specs.Cfb.{Cfb}
-use Rattle.des_modes.specs.CtrStates.{IsCtrAt}
-use Rattle.des_modes.specs.OfbStates.{IsOfbAt}
-use Rattle.des_modes.specs.CfbStates.{IsCfbAt}
+use Rattle.des_modes.specs.States.{IsCtrAt, IsOfbAt, IsCfbAt}
 use Rattle.des_modes.specs.declared.ctr.Counter.{Counter}
 use Rattle.des_modes.specs.declared.ofb.Feedback.{Feedback}
 use Rattle.des_modes.specs.declared.cfb.Register.{Register}

@@ -59,13 +59,13 @@ FailsToEncrypt WrongPadding padding read_from read_to = ⊥
 FailsToEncrypt (Read error) padding read_from read_to = IsLasting error
 FailsToEncrypt (Write error) padding read_from read_to = IsLasting error
 
--- all was read, and `past` bytes follow the last whole block, within a limit in blocks, where there
+-- all was read, and `past` bytes follow the last whole block, within a limit in blocks, if there
 -- is one
 abbrev pub EndsInPart : (past : ℕ) (limit : Option ℕ) (read_from read_to : Option (List ℕ)) → Type 0
 EndsInPart past limit read_from read_to =
     (ends : EndsInBlock read_from read_to past) × IsWithin limit (length ends.bytes / 8 + 1)
 
--- what a fault says of a decryption up to a limit in blocks, where there is one, before its padding
+-- what a fault says of a decryption up to a limit in blocks, if there is one, before its padding
 -- is looked at
 abbrev pub FailsBefore : (fault : StreamError) (limit : Option ℕ) (read_from read_to : Option (List ℕ)) → Type 0
 FailsBefore (Length past) limit read_from read_to = EndsInPart past limit read_from read_to
@@ -75,7 +75,7 @@ FailsBefore (Read error) limit read_from read_to = IsLasting error
 FailsBefore (Write error) limit read_from read_to = IsLasting error
 
 -- what the end of a stream gives, whose last block is `last`, or none: at success the writer has
--- the bytes that with the padding that is taken off are `last`; where there are none such, it is as it was; and at a
+-- the bytes that with the padding that is taken off are `last`; if there are none such, it is as it was; and at a
 -- fault of writing it has a prefix of them
 abbrev pub EndsStream : (padding : Padding) (last : List ℕ) (written_from written_to : Option (List ℕ))
     (result : Result (Unit {0}) StreamError) → Type 0
@@ -106,7 +106,7 @@ pub record EndsBefore (count : ℕ) (read_from read_to : Option (List ℕ)) : Ty
   pub end : IsAtEnd read_to
   pub short : length bytes < 8 * count
 
--- what a fault says where the `count` blocks before a part are read
+-- what a fault says if the `count` blocks before a part are read
 abbrev pub FailsToSkip : (fault : StreamError) (count : ℕ) (read_from read_to : Option (List ℕ)) → Type 0
 FailsToSkip (Read error) count read_from read_to = IsLasting error
 FailsToSkip Start count read_from read_to = EndsBefore count read_from read_to

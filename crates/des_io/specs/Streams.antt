@@ -23,7 +23,7 @@ abbrev pub IsBlockIfThere : (pending : Option (List ℕ)) → Type 0
 IsBlockIfThere None = ⊤
 IsBlockIfThere (Some block) = length block ≡ 8
 
--- what a reader has left, and what a writer holds, before a call and after it; none where they do not
+-- what a reader has left, and what a writer holds, before a call and after it; none if they do not
 -- tell
 pub record Passage : Type 0 where
   pub read_from : Option (List ℕ)
@@ -54,7 +54,7 @@ pub record Encrypts (encryption : List ℕ → List ℕ) (mode : Mode) (padding 
   pub written : Appends passage.written_from passage.written_to (joined q)
 
 -- what was written begins the ciphertext of what was read: the bytes that were read begin with blocks
--- p, or, only where the input is at its end, those bytes with their padding do; and the bytes that were
+-- p, or, only if the input is at its end, those bytes with their padding do; and the bytes that were
 -- written begin q, which is p enciphered
 pub record EncryptsPrefix (encryption : List ℕ → List ℕ) (mode : Mode) (padding : Padding) (passage : Passage)
     : Type 0 where
@@ -157,13 +157,13 @@ pub record HoldsLast (decryption : List ℕ → List ℕ) (mode : Mode) (passage
   pub none : last ≡ None → p ≡ []
   pub written : Appends passage.written_from passage.written_to put
 
--- what is left of a limit, where there is one, after `count` blocks
+-- what is left of a limit, if there is one, after `count` blocks
 abbrev pub IsLeft : (limit : Option ℕ) (count : ℕ) (left : Option ℕ) → Type 0
 IsLeft None count None = ⊤
 IsLeft (Some limit) count (Some left) = count + left ≡ limit
 IsLeft _ count _ = ⊥
 
--- `count` blocks are no more than the limit, where there is one
+-- `count` blocks are no more than the limit, if there is one
 abbrev pub IsWithin : (limit : Option ℕ) (count : ℕ) → Type 0
 IsWithin None count = ⊤
 IsWithin (Some limit) count = count ≤ limit
@@ -189,7 +189,7 @@ pub record DeciphersPrefix (decryption : List ℕ → List ℕ) (mode : Mode) (p
   pub begins : put ++ missing ≡ joined p
   pub written : Appends passage.written_from passage.written_to put
 
--- the same within a limit in blocks, where there is one, with the last block held back
+-- the same within a limit in blocks, if there is one, with the last block held back
 pub record HoldsPrefix (decryption : List ℕ → List ℕ) (mode : Mode) (limit : Option ℕ) (passage : Passage)
     : Type 0 where
   pub prefix : DeciphersPrefix decryption mode passage
@@ -207,7 +207,7 @@ pub record BeginsPlain (padding : Padding) (p : List (List ℕ)) (rest put : Lis
   pub whole : padded (taken_off padding) plain ≡ joined p
   pub begins : put ++ missing ≡ plain
 
--- what was written begins what was read, deciphered, with the last block held back, or, only where
+-- what was written begins what was read, deciphered, with the last block held back, or, only if
 -- the input is at its end, without the padding
 pub record DecryptsPrefix (decryption : List ℕ → List ℕ) (mode : Mode) (padding : Padding) (passage : Passage)
     : Type 0 where
@@ -230,8 +230,8 @@ abbrev pub IsEndOrMore : (is_end : Bool) (bytes : List ℕ) (read_to : Option (L
 IsEndOrMore true bytes read_to = (bytes ≡ []) × IsAtEnd read_to
 IsEndOrMore false bytes read_to = length bytes ≡ 1
 
--- a part was decrypted up to the end of the input or to a limit in blocks, where there is one. Where
--- nothing follows it, it has a block and its padding was taken off, and where more follows it has no
+-- a part was decrypted up to the end of the input or to a limit in blocks, if there is one. If
+-- nothing follows it, it has a block and its padding was taken off, and if more follows it has no
 -- padding; `taken` is what was taken off
 pub record DecryptsPart (decryption : List ℕ → List ℕ) (mode : Mode) (padding : Padding) (limit : Option ℕ)
     (passage : Passage) : Type 0 where
@@ -247,14 +247,14 @@ pub record DecryptsPart (decryption : List ℕ → List ℕ) (mode : Mode) (padd
       ⊎ ((length rest ≡ 1) × (taken ≡ Unpadded))
 
 -- more follows a part of `count` blocks: `rest` was read after it, and the part has as many blocks
--- as its limit, where the reader tells its bytes
+-- as its limit, if the reader tells its bytes
 pub record IsFollowed (limit : Option ℕ) (count : ℕ) (rest : List ℕ) (read_from : Option (List ℕ)) : Type 0 where
   pub more : rest ≢ []
   pub reached : (bytes : List ℕ) → read_from ≡ Some bytes → limit ≡ Some count
 
--- what was written begins what was read, deciphered, within a limit in blocks, where there is one:
--- with the last block held back; or, only where the input is at its end, without the padding; or,
--- only where more follows the part, with its last block
+-- what was written begins what was read, deciphered, within a limit in blocks, if there is one:
+-- with the last block held back; or, only if the input is at its end, without the padding; or,
+-- only if more follows the part, with its last block
 pub record DecryptsPartPrefix (decryption : List ℕ → List ℕ) (mode : Mode) (padding : Padding) (limit : Option ℕ)
     (passage : Passage) : Type 0 where
   pub prefix : DeciphersPrefix decryption mode passage

@@ -67,7 +67,7 @@ fn decrypt_piece<W: Write, C: ManyBlocks>(
     write_piece(writer, pending, blocks)
 }
 
-/// How many blocks go into the next piece: as many as there is room for, or fewer if fewer are
+/// How many blocks go into the next piece: as many as the buffer takes, or fewer if fewer are
 /// left.
 pub(crate) fn next_count(capacity: usize, left: Option<u64>) -> usize
     ensures within { result ≤ capacity }

@@ -9,6 +9,7 @@ ghost use Rattle.des_io.specs.StreamFaults.{IsOfReading, IsOfWriting};
 use crate::error::{StreamError, without_end};
 use crate::pieces::{fill_prefix, write_whole};
 use des_fast::many::ManyBlocks;
+use des_modes::Direction;
 use des_modes::cfb::Register;
 use des_modes::ctr::Counter;
 use des_modes::lists::ByLists;
@@ -41,9 +42,12 @@ impl StreamCipher {
                 counter.apply(&ByLists::<C, u64x2>::new(cipher, true), bytes)
             }
             StreamCipher::Ofb(feedback) => feedback.apply(cipher, bytes),
-            StreamCipher::EncryptCfb(register) => register.encrypt(cipher, bytes),
+            StreamCipher::EncryptCfb(register) => {
+                register.apply(Direction::Encrypt, cipher, bytes)
+            }
             StreamCipher::DecryptCfb(register) => {
-                register.decrypt(&ByLists::<C, u64x2>::new(cipher, true), bytes)
+                let cipher = ByLists::<C, u64x2>::new(cipher, true);
+                register.apply(Direction::Decrypt, &cipher, bytes)
             }
         }
     }
@@ -76,8 +80,8 @@ pub fn apply_stream<R: Read, W: Write, C: ManyBlocks>(
     let mut count = 0;
     let capacity = buffer.len();
     for _ in 0..u64::MAX {
-        let room = (limit - count).min(capacity as u64);
-        let n = fill_prefix(reader, buffer, room as usize)?;
+        let most = (limit - count).min(capacity as u64);
+        let n = fill_prefix(reader, buffer, most as usize)?;
         let bytes = &mut buffer[..n];
         state.apply(cipher, bytes);
         write_whole(writer, bytes)?;

@@ -5,7 +5,7 @@ use Rattle.des.specs.Cbc.{xor_blocks}
 use Rattle.des_mac.specs.Padding.{block_count, one_bit_after, padded}
 use Rattle.des_mac.specs.CbcMac.{zero_block, cbc_mac}
 
--- a block doubled (6.1): its bits moved by one to the left, and where a one bit leaves, the last
+-- a block doubled (6.1): its bits moved by one to the left, and if a one bit leaves, the last
 -- byte xored with 00011011
 unfoldable pub doubled : List ℕ → List ℕ
 doubled block =
@@ -24,7 +24,7 @@ subkey_2 l = doubled (subkey_1 l)
 unfoldable pub masked : List ℕ → List ℕ → List ℕ
 masked subkey m = take (length m - 8) m ++ xor_blocks (drop (length m - 8) m) subkey
 
--- the bytes that are chained (6.2): the last block is xored with K1 where it is whole, and else
+-- the bytes that are chained (6.2): the last block is xored with K1 if it is whole, and else
 -- padded by a one bit and zeros and xored with K2
 unfoldable pub masked_message : List ℕ → List ℕ → List ℕ
 masked_message l m =

@@ -6,7 +6,7 @@ use Rattle.des_mac.specs.Absorbed.{Absorbed}
 use Rattle.des_mac.specs.declared.chaining.Chaining.{Chaining}
 
 -- the state stands for the bytes m under the key: its cipher is made from the key, and all blocks of
--- the bytes but the last are chained, also where that is whole. Of the cipher's type are the size of
+-- the bytes but the last are chained, also if that is whole. Of the cipher's type are the size of
 -- keys, what is made from a key, and how a key encrypts
 pub record Holds {Cipher : Type 0} (size : ℕ) (IsMadeFrom : Cipher → List ℕ → Type 0)
     (encryption : List ℕ → List ℕ → List ℕ) (state : Chaining Cipher) (key m : List ℕ)

@@ -8,7 +8,7 @@ use Rattle.des_mac.specs.declared.progress.Progress.{Progress}
 abbrev pub HoldsOneBlock : Progress → Type 0
 HoldsOneBlock progress = progress.count ≤ 8
 
--- all blocks of the bytes m but the last are chained by the encryption, also where that is whole
+-- all blocks of the bytes m but the last are chained by the encryption, also if that is whole
 pub record IsProgressOf (encryption : List ℕ → List ℕ) (progress : Progress) (m : List ℕ)
     : Type 0 where
   pub fits : HoldsOneBlock progress

@@ -109,7 +109,7 @@ impl<C: KeyedCipher + Drop> Chaining<C> {
         }
     }
 
-    // Holds bytes for which there is room after those that are held.
+    // Holds bytes that fit into the block after those that are held.
     fn hold(&mut self, bytes: &[u8])
         requires { self.old.count + length bytes.now ≤ 8 }
         ensures cipher { self.new.cipher ≡ self.old.cipher }
@@ -131,12 +131,12 @@ impl<C: KeyedCipher + Drop> Chaining<C> {
             → Holds C.KEY_SIZE C.is_made_from C.encryption self.old key m
             → Holds C.KEY_SIZE C.is_made_from C.encryption self.new key (m ++ bytes.now) }
     {
-        let room = 8 - self.count;
-        if bytes.len() <= room {
+        let space = 8 - self.count;
+        if bytes.len() <= space {
             self.hold(bytes);
             return;
         }
-        let (head, rest) = bytes.split_at(room);
+        let (head, rest) = bytes.split_at(space);
         self.hold(head);
         chain_block(&self.cipher, &mut self.chain, &self.pending);
         let (whole, last) = rest.split_at((rest.len() - 1) / 8 * 8);

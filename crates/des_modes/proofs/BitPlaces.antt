@@ -4,7 +4,7 @@ use Rattle.std.proofs.Math.Pow.{pow-lt}
 use Rattle.std.specs.Int.{bit_at, w64, from_be_bytes, to_be_bytes}
 use Rattle.std.proofs.Math.ListN.{get_or-append}
 use Rattle.std.proofs.lemmas.Bool.{cases_eq}
-use Rattle.std.proofs.lemmas.List.{ext_get_or, get_or-append_right, get_or-set_same, get_or-set_other, length-set, set-append_left, set-append_right, take-append-drop}
+use Rattle.std.proofs.lemmas.List.{drop-append-le, ext_get_or, get_or-append_right, get_or-set_same, get_or-set_other, length-set, set-append_left, set-append_right, take-append-drop, take_all}
 use Rattle.std.proofs.lemmas.Nat.Bits.{bit_at-pow_same, bit_at-pow_other, bit_at-zero}
 use Rattle.std.proofs.lemmas.Bool.Decides.{nat_tests}
 use mir.Val.{bool_byte}
@@ -13,7 +13,7 @@ use Rattle.des.specs.Blocks.{IsBlock}
 use Rattle.des.specs.Laws.BitLists.{length-bits_of, length-bits_of_bytes, bits_of_bytes-to_be, bits_of_bytes-from_be}
 use Rattle.des.specs.Laws.BlockBits.{slice_index-lt}
 use Rattle.des.proofs.BitParts.{get_or-bits_of, bit_at-xor, drop-bits_of, bits_of-or_shl}
-use Rattle.des_modes.specs.CfbBits.{block_bit}
+use Rattle.des_modes.specs.CfbBits.{block_bit, first_bits}
 
 -- ---- parts
 
@@ -30,6 +30,9 @@ split n bytes = ap bits_of_bytes (sym (take-append-drop n bytes)) ∙ bits-appen
 length-front : (n m : ℕ) (bytes : List ℕ) → n ≤ length bytes → m ≡ 8 * n → length (bits_of_bytes (take n bytes)) ≡ m
 length-front n m bytes within same =
     omega (arith, length-bits_of_bytes (take n bytes), length-take-le n bytes within)
+
+pub first_bits-byte : (part : List ℕ) → length part ≡ 1 → first_bits 8 part ≡ bits_of_bytes part
+first_bits-byte part one = take_all 8 (bits_of_bytes part) (omega (arith, length-bits_of_bytes part, one))
 
 -- the register in bits: eight bytes of two lists
 pub bits-window : (n m : ℕ) (a b : List ℕ) → n + 8 ≤ length (a ++ b) → m ≡ 8 * n
@@ -146,7 +149,7 @@ last_bit false = refl
 
 pub bits-shifted : (register : List ℕ) (bit : Bool) → IsBlock register
     → bits_of_bytes (to_be_bytes w64 (bit_or (from_be_bytes w64 register * 2 ^ 1 % 2 ^ 64) (bool_byte bit)))
-    ≡ drop 1 (bits_of_bytes register) ++ bit ∷ []
+    ≡ drop 1 (bits_of_bytes register ++ bit ∷ [])
 bits-shifted register bit is_block =
     let word : ℕ = from_be_bytes w64 register in
     let small : bool_byte bit < 2 ^ 1 = grind (arith, nat_tests) in
@@ -155,3 +158,4 @@ bits-shifted register bit is_block =
     ∙ ap₂ ◌++◌
     (sym (ap (drop 1) (bits_of_bytes-from_be register is_block.0 (slice_index-lt register is_block.1)) ∙ drop-bits_of 1 63 word))
     (last_bit bit)
+    ∙ sym (drop-append-le 1 (bits_of_bytes register) (bit ∷ []) (omega (arith, length-bits_of_bytes register, is_block.0)))

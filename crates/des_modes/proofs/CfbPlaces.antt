@@ -1,40 +1,57 @@
--- The shift register along a ciphertext.
-use Rattle.std.proofs.Common.{◌≡◌, inl, inr, ℕ, ◌+◌, ◌*◌, ◌/◌, ◌%◌, ◌<◌, ◌≤◌, List, [], ◌++◌, length, get_or, take, drop, bit_xor, ap, ap₂, sym, ◌∙◌, arith, append_assoc, length-append, length-drop}
+-- The shift register along a ciphertext, by bytes and by bits.
+use Rattle.std.proofs.Common.{◌≡◌, inl, inr, ℕ, ◌+◌, ◌*◌, ◌/◌, ◌%◌, ◌<◌, ◌≤◌, List, [], ◌++◌, length, get_or, take, drop, bit_xor, ap, ap₂, sym, ◌∙◌, arith, append_assoc, length-append, length-drop, false, Bool, ◌∷◌}
 use Rattle.std.proofs.lemmas.Bool.{cases_lt}
 use Rattle.std.proofs.lemmas.List.{drop-drop, drop-append-le, take-append-le, take_all, append-nil}
-use Rattle.std.proofs.Math.Nat.{mul-div-le, mod_self, mod-eq_of_lt, div-add-mod}
+use Rattle.std.proofs.lemmas.Nat.{div_below}
+use Rattle.std.proofs.Math.Nat.{mul-div-le, mod_self, mod-eq_of_lt, div-add-mod, div-one, mod-one}
 use Rattle.des_modes.specs.Streams.{XorsFrom}
 use Rattle.des_modes.specs.Cfb.{input_block, cfb_stream}
-use Rattle.des_modes.specs.CfbStates.{IsCfbAt}
+use Rattle.des_modes.specs.States.{CfbAt, IsCfbAt, CfbBitsAt, IsCfbBitsAt}
 use Rattle.des_modes.specs.declared.cfb.Register.{Register}
-use Rattle.des_modes.proofs.Pieces.{GoesByFront}
-use Rattle.des_modes.proofs.Segments.{further-mod, same_segment, same_segment-mod, between-div, between-mod, between-times, segment-lt}
+use Rattle.des_modes.proofs.Pieces.{GoesByFront, Directed, ByText-directed, ByText, Xors-single, bits_undone}
+use Rattle.des_modes.proofs.Segments.{further-mod, same_segment, same_segment-mod, between-div, between-mod, between-times}
+use Rattle.des.specs.Bits.{bits_of_bytes, xor}
+use Rattle.des.specs.Blocks.{block_of_bits}
+use Rattle.des.specs.Laws.BitLists.{length-bits_of_bytes}
+use Rattle.des_modes.specs.CfbBits.{block_bit, cfb_bits}
+use Rattle.des_modes.specs.declared.cfb_bits.BitRegister.{BitRegister}
+use Rattle.des_modes.specs.Directions.{ciphertext}
+use Rattle.des_modes.specs.declared.direction.Direction.{Direction}
+use Rattle.des_modes.specs.declared.direction.Direction.TheVariants.{Encrypt, Decrypt}
+use Rattle.des_modes.proofs.BitPlaces.{bits-append}
 
 -- what stands behind n + m bytes of IV | C, where C goes on: what stands behind m of the register and
 -- of what C goes on with
-pub drop-further : (iv c more : List ℕ) (n m : ℕ) → n ≤ length (iv ++ c)
+pub drop-further : {X : Type 0} (iv c more : List X) (n m : ℕ) → n ≤ length (iv ++ c)
     → drop (n + m) (iv ++ (c ++ more)) ≡ drop m (drop n (iv ++ c) ++ more)
 drop-further iv c more n m within =
     ap (drop (n + m)) (sym (append_assoc iv c more))
     ∙ sym (drop-drop m n ((iv ++ c) ++ more))
     ∙ ap (drop m) (drop-append-le n (iv ++ c) more within)
 
--- the register before a segment that has begun does not depend on what comes
-pub input_block-front : (s : ℕ) (iv c more : List ℕ) (j : ℕ) → length iv ≡ 8 → s * j ≤ length c
-    → input_block s iv (c ++ more) j ≡ input_block s iv c j
-input_block-front s iv c more j wide begun =
+-- a register into which more is shifted
+pub register-further : {X : Type 0} (iv c more held new : List X) → held ≡ drop (length c) (iv ++ c)
+    → new ≡ drop (length more) (held ++ more) → new ≡ drop (length (c ++ more)) (iv ++ (c ++ more))
+register-further {X} iv c more held new is shifted =
+    shifted
+    ∙ ap (λ (xs : List X). drop (length more) (xs ++ more)) is
+    ∙ sym (drop-further iv c more (length c) (length more) (omega (arith, length-append iv c)))
+    ∙ ap (λ (m : ℕ). drop m (iv ++ (c ++ more))) (sym (length-append c more))
+
+-- a register of w bytes or bits before a segment that has begun does not depend on what comes
+pub window-front : {X : Type 0} (w n : ℕ) (iv c more : List X) → length iv ≡ w → n ≤ length c
+    → take w (drop n (iv ++ (c ++ more))) ≡ take w (drop n (iv ++ c))
+window-front {X} w n iv c more wide begun =
     let size = length-append iv c in
-    let within : s * j ≤ length (iv ++ c) = omega (arith, size) in
-    let long : 8 ≤ length (drop (s * j) (iv ++ c)) = omega (arith, size, length-drop (s * j) (iv ++ c)) in
-    ap (λ (xs : List ℕ). take 8 (drop (s * j) xs)) (sym (append_assoc iv c more))
-    ∙ ap (take 8) (drop-append-le (s * j) (iv ++ c) more within)
-    ∙ take-append-le 8 (drop (s * j) (iv ++ c)) more long
+    ap (λ (xs : List X). take w (drop n xs)) (sym (append_assoc iv c more))
+    ∙ ap (take w) (drop-append-le n (iv ++ c) more (omega (arith, size)))
+    ∙ take-append-le w (drop n (iv ++ c)) more (omega (arith, size, length-drop n (iv ++ c)))
 
 pub cfb_stream-front : (s : ℕ) (encryption : List ℕ → List ℕ) (iv : List ℕ) → length iv ≡ 8
     → GoesByFront (cfb_stream s encryption iv)
 cfb_stream-front s encryption iv wide t more i below =
     ap (λ (block : List ℕ). get_or (encryption block) (i % s) 0)
-    (input_block-front s iv t more (i / s) wide (omega (arith, mul-div-le i s)))
+    (window-front 8 (s * (i / s)) iv t more wide (omega (arith, mul-div-le i s)))
 
 -- the initialization vector has the register's width
 pub length-iv : (s : ℕ) (encryption : List ℕ → List ℕ) (iv c : List ℕ) (state : Register)
@@ -57,19 +74,16 @@ input_block-next s iv c wide between =
     (omega (arith, length-drop (length c) (iv ++ c), length-append iv c))
 
 -- bytes further on
-IsCfbAt-further : (s : ℕ) (encryption : List ℕ → List ℕ) (iv c bytes : List ℕ) (old new : Register) → length iv ≡ 8
-    → IsCfbAt s encryption iv c old → new.segment ≡ old.segment
-    → new.register ≡ drop (length bytes) (old.register ++ bytes) → new.used ≡ (old.used + length bytes) % old.segment
-    → (1 ≤ new.used → new.output ≡ encryption (input_block s iv (c ++ bytes) ((length c + length bytes) / s)))
-    → IsCfbAt s encryption iv (c ++ bytes) new
-IsCfbAt-further s encryption iv c bytes old new wide is segment shifted used made =
+IsCfbAt-further : {size taken : ℕ} {held answer : List ℕ} (s : ℕ) (encryption : List ℕ → List ℕ) (iv c bytes : List ℕ)
+    (old : Register) → IsCfbAt s encryption iv c old → size ≡ old.segment → held ≡ drop (length bytes) (old.register ++ bytes)
+    → taken ≡ (old.used + length bytes) % old.segment
+    → (1 ≤ taken → answer ≡ encryption (input_block s iv (c ++ bytes) ((length c + length bytes) / s)))
+    → CfbAt s encryption iv (c ++ bytes) size held answer taken
+IsCfbAt-further s encryption iv c bytes old is segment shifted used made =
     let n : ℕ = length c in
     let size : n + length bytes ≡ length (c ++ bytes) = sym (length-append c bytes) in record {
       segment = segment ∙ is.segment;
-      register =
-          shifted ∙ ap (λ (xs : List ℕ). drop (length bytes) (xs ++ bytes)) is.register
-          ∙ sym (drop-further iv c bytes n (length bytes) (omega (arith, length-append iv c)))
-          ∙ ap (λ (m : ℕ). drop m (iv ++ (c ++ bytes))) size;
+      register = register-further iv c bytes old.register _ is.register shifted;
       used =
           used ∙ ap₂ (λ (m k : ℕ). (m + length bytes) % k) is.used is.segment ∙ sym (further-mod s n (length bytes))
           ∙ ap (λ (m : ℕ). m % s) size;
@@ -77,40 +91,39 @@ IsCfbAt-further s encryption iv c bytes old new wide is segment shifted used mad
     }
 
 -- in a segment
-pub IsCfbAt-within : (s : ℕ) (encryption : List ℕ → List ℕ) (iv c bytes output : List ℕ) (old new : Register)
-    → length old.register ≡ 8 → old.used + length bytes ≤ s → IsCfbAt s encryption iv c old
-    → output ≡ encryption (input_block s iv c (length c / s))
-    → new.segment ≡ old.segment → new.output ≡ output → new.used ≡ (old.used + length bytes) % old.segment
-    → new.register ≡ drop (length bytes) (old.register ++ bytes)
-    → IsCfbAt s encryption iv (c ++ bytes) new
-IsCfbAt-within s encryption iv c bytes output old new wide within is made segment kept used shifted =
+pub IsCfbAt-within : {size taken : ℕ} {held answer : List ℕ} (s : ℕ) (encryption : List ℕ → List ℕ) (iv c bytes output : List ℕ)
+    (old : Register) → length old.register ≡ 8 → old.used + length bytes ≤ old.segment → IsCfbAt s encryption iv c old
+    → output ≡ encryption (input_block s iv c (length c / s)) → size ≡ old.segment → answer ≡ output
+    → taken ≡ (old.used + length bytes) % old.segment → held ≡ drop (length bytes) (old.register ++ bytes)
+    → CfbAt s encryption iv (c ++ bytes) size held answer taken
+IsCfbAt-within {size} {taken} s encryption iv c bytes output old wide within is made segment kept used shifted =
     let n : ℕ = length c in
-    let iv_wide : length iv ≡ 8 = length-iv s encryption iv c old wide is in
-    IsCfbAt-further s encryption iv c bytes old new iv_wide is segment shifted used (λ some.
+    IsCfbAt-further s encryption iv c bytes old is segment shifted used (λ some.
     elim (cases_lt (n % s + length bytes) s) [
       | inl inside ↦
           kept ∙ made
-          ∙ ap encryption (sym (input_block-front s iv c bytes (n / s) iv_wide (mul-div-le n s))
+          ∙ ap encryption (sym (window-front 8 (s * (n / s)) iv c bytes (length-iv s encryption iv c old wide is) (mul-div-le n s))
           ∙ ap (input_block s iv (c ++ bytes)) (sym (same_segment s n (length bytes) inside)))
       | inr full ↦
-          let end : old.used + length bytes ≡ s = omega (arith, is.used) in
-          let none : new.used ≡ 0 = used ∙ ap₂ (λ (m k : ℕ). m % k) end is.segment ∙ mod_self s in absurd (omega arith)
+          let end : old.used + length bytes ≡ s = omega (arith, is.used, is.segment) in
+          let none : taken ≡ 0 = used ∙ ap₂ (λ (m k : ℕ). m % k) end is.segment ∙ mod_self s in absurd (omega arith)
     ])
 
 -- bytes of a segment under its output block
-pub XorsFrom-within : (s : ℕ) (encryption : List ℕ → List ℕ) (iv c more output old new : List ℕ) (used : ℕ)
-    → length iv ≡ 8 → used ≡ length c % s → used + length old ≤ s
+pub XorsFrom-within : (s : ℕ) (encryption : List ℕ → List ℕ) (iv c more output old new : List ℕ) (state : Register)
+    → length state.register ≡ 8 → state.used + length old ≤ state.segment → IsCfbAt s encryption iv c state
     → output ≡ encryption (input_block s iv c (length c / s)) → length new ≡ length old
-    → ((i : ℕ) → i < length old → get_or new i 0 ≡ bit_xor (get_or old i 0) (get_or output (used + i) 0))
+    → ((i : ℕ) → i < length old → get_or new i 0 ≡ bit_xor (get_or old i 0) (get_or output (state.used + i) 0))
     → XorsFrom (length c) (cfb_stream s encryption iv (c ++ more)) old new
-XorsFrom-within s encryption iv c more output old new used wide is within made count xored = record {
+XorsFrom-within s encryption iv c more output old new state wide within is made count xored = record {
   count = count;
   xored = λ i below.
       let n : ℕ = length c in
-      let inside : n % s + i < s = omega arith in
-      let byte : used + i ≡ (n + i) % s = omega (arith, same_segment-mod s n i inside) in
+      let inside : n % s + i < s = omega (arith, is.used, is.segment) in
+      let byte : state.used + i ≡ (n + i) % s = omega (arith, is.used, same_segment-mod s n i inside) in
       let block : output ≡ encryption (input_block s iv (c ++ more) ((n + i) / s)) =
-      made ∙ ap encryption (sym (input_block-front s iv c more (n / s) wide (mul-div-le n s))
+      made
+      ∙ ap encryption (sym (window-front 8 (s * (n / s)) iv c more (length-iv s encryption iv c state wide is) (mul-div-le n s))
       ∙ ap (input_block s iv (c ++ more)) (sym (same_segment s n i inside))) in
       xored i below ∙ ap (bit_xor (get_or old i 0)) (ap₂ (λ (xs : List ℕ) (m : ℕ). get_or xs m 0) block byte);
 }
@@ -124,44 +137,113 @@ input_block-beyond s iv c bytes j wide between =
     ap (λ (n : ℕ). take 8 (drop n (iv ++ (c ++ bytes)))) (between-times s (length c) j between)
     ∙ ap (take 8) (drop-further iv c bytes (length c) (s * j) (omega (arith, length-append iv c)))
 
-pub IsCfbAt-beyond : (s : ℕ) (encryption : List ℕ → List ℕ) (iv c bytes : List ℕ) (old new : Register) → 1 ≤ s
-    → length old.register ≡ 8 → old.used ≡ 0 → IsCfbAt s encryption iv c old → new.segment ≡ old.segment
-    → new.register ≡ drop (length bytes) (old.register ++ bytes) → new.used ≡ length bytes % old.segment
-    → (1 ≤ new.used
-    → new.output ≡ encryption (take 8 (drop (old.segment * (length bytes / old.segment)) (old.register ++ bytes))))
-    → IsCfbAt s encryption iv (c ++ bytes) new
-IsCfbAt-beyond s encryption iv c bytes old new some wide between is segment shifted used made =
+pub IsCfbAt-beyond : {size taken : ℕ} {held answer : List ℕ} (s : ℕ) (encryption : List ℕ → List ℕ) (iv c bytes : List ℕ)
+    (old : Register) → 1 ≤ s → length old.register ≡ 8 → old.used ≡ 0 → IsCfbAt s encryption iv c old → size ≡ old.segment
+    → held ≡ drop (length bytes) (old.register ++ bytes) → taken ≡ length bytes % old.segment
+    → (1 ≤ taken → answer ≡ encryption (take 8 (drop (old.segment * (length bytes / old.segment)) (old.register ++ bytes))))
+    → CfbAt s encryption iv (c ++ bytes) size held answer taken
+IsCfbAt-beyond s encryption iv c bytes old some wide between is segment shifted used made =
     let n : ℕ = length c in
-    let iv_wide : length iv ≡ 8 = length-iv s encryption iv c old wide is in
     let begins : n % s ≡ 0 = sym is.used ∙ between in
     let place : length bytes ≡ old.used + length bytes = omega arith in
-    IsCfbAt-further s encryption iv c bytes old new iv_wide is segment shifted
+    IsCfbAt-further s encryption iv c bytes old is segment shifted
     (used ∙ ap (λ (m : ℕ). m % old.segment) place) (λ there.
     made there
     ∙ ap₂ (λ (m : ℕ) (xs : List ℕ). encryption (take 8 (drop (m * (length bytes / m)) (xs ++ bytes)))) is.segment is.register
-    ∙ ap encryption (sym (input_block-beyond s iv c bytes (length bytes / s) iv_wide begins)
+    ∙ ap encryption (sym (input_block-beyond s iv c bytes (length bytes / s) (length-iv s encryption iv c old wide is) begins)
     ∙ ap (input_block s iv (c ++ bytes)) (sym (between-div s n (length bytes) some begins))))
 
-pub XorsFrom-beyond : (s : ℕ) (encryption : List ℕ → List ℕ) (iv c bytes register new : List ℕ) (blocks : List (List ℕ))
-    → 1 ≤ s → length iv ≡ 8 → length c % s ≡ 0 → register ≡ drop (length c) (iv ++ c)
-    → length bytes ≤ s * length blocks
+pub XorsFrom-beyond : (s : ℕ) (encryption : List ℕ → List ℕ) (iv c bytes new : List ℕ) (blocks : List (List ℕ)) (old : Register)
+    → 1 ≤ s → length old.register ≡ 8 → old.used ≡ 0 → IsCfbAt s encryption iv c old
+    → length bytes ≤ old.segment * length blocks
     → ((j : ℕ) → j < length blocks
-    → get_or blocks j [] ≡ encryption (take 8 (drop (s * j) (register ++ bytes))))
-    → XorsFrom 0 (λ i. get_or (get_or blocks (i / s) []) (i % s) 0) bytes new
+    → get_or blocks j [] ≡ encryption (take 8 (drop (old.segment * j) (old.register ++ bytes))))
+    → XorsFrom 0 (λ i. get_or (get_or blocks (i / old.segment) []) (i % old.segment) 0) bytes new
     → XorsFrom (length c) (cfb_stream s encryption iv (c ++ bytes)) bytes new
-XorsFrom-beyond s encryption iv c bytes register new blocks some wide begins is enough made xors = record {
-  count = xors.count;
-  xored = λ i below.
-      let n : ℕ = length c in
-      let j : ℕ = i / s in
-      let zero_plus : 0 + i ≡ i = omega arith in
-      let block : get_or blocks j [] ≡ encryption (input_block s iv (c ++ bytes) ((n + i) / s)) =
-      made j (segment-lt s i (length blocks) (omega arith))
-      ∙ ap (λ (xs : List ℕ). encryption (take 8 (drop (s * j) (xs ++ bytes)))) is
-      ∙ ap encryption (sym (input_block-beyond s iv c bytes j wide begins)
-      ∙ ap (input_block s iv (c ++ bytes)) (sym (between-div s n i some begins))) in
-      xors.xored i below
-      ∙ ap (λ (m : ℕ). bit_xor (get_or bytes i 0) (get_or (get_or blocks (m / s) []) (m % s) 0)) zero_plus
-      ∙ ap (bit_xor (get_or bytes i 0))
-      (ap₂ (λ (xs : List ℕ) (m : ℕ). get_or xs m 0) block (sym (between-mod s n i begins)));
+XorsFrom-beyond s encryption iv c bytes new blocks old some wide between is enough made xors =
+    let n : ℕ = length c in
+    let begins : n % s ≡ 0 = sym is.used ∙ between in
+    let outputs = rw (is.segment, is.register) at made in
+    let xored = rw is.segment at xors in record {
+      count = xors.count;
+      xored = λ i below.
+          let j : ℕ = i / s in
+          let zero_plus : 0 + i ≡ i = omega arith in
+          let within : i < s * length blocks = rw (← is.segment) (omega arith) in
+          let block : get_or blocks j [] ≡ encryption (input_block s iv (c ++ bytes) ((n + i) / s)) =
+          outputs j (div_below i s (length blocks) some (omega arith))
+          ∙ ap encryption (sym (input_block-beyond s iv c bytes j (length-iv s encryption iv c old wide is) begins)
+          ∙ ap (input_block s iv (c ++ bytes)) (sym (between-div s n i some begins))) in
+          xored.xored i below
+          ∙ ap (λ (m : ℕ). bit_xor (get_or bytes i 0) (get_or (get_or blocks (m / s) []) (m % s) 0)) zero_plus
+          ∙ ap (bit_xor (get_or bytes i 0))
+          (ap₂ (λ (xs : List ℕ) (m : ℕ). get_or xs m 0) block (sym (between-mod s n i begins)));
+    }
+
+-- the initialization vector has the register's width
+pub length-iv_bits : (iv : List ℕ) (c : List Bool) (held : List ℕ) → length held ≡ 8 → CfbBitsAt iv c held
+    → length (bits_of_bytes iv) ≡ 64
+length-iv_bits iv c held wide is =
+    let all : List Bool = bits_of_bytes iv ++ c in
+    omega (arith, ap length is.register, length-bits_of_bytes held, length-drop (length c) all, length-append (bits_of_bytes iv) c)
+
+single : (i : ℕ) → 1 * (i / 1) ≡ i
+single i = omega (arith, div-one i)
+
+cfb_bits-before : (encryption : List ℕ → List ℕ) (iv : List ℕ) (c more : List Bool) (i : ℕ)
+    → length (bits_of_bytes iv) ≡ 64 → i ≤ length c
+    → cfb_bits 1 encryption iv (c ++ more) i ≡ cfb_bits 1 encryption iv c i
+cfb_bits-before encryption iv c more i wide within =
+    ap (λ (xs : List Bool). block_bit (encryption (block_of_bits xs)) (i % 1))
+    (window-front 64 (1 * (i / 1)) (bits_of_bytes iv) c more wide (omega (arith, single i)))
+
+pub cfb_bits-front : (encryption : List ℕ → List ℕ) (iv : List ℕ) → length (bits_of_bytes iv) ≡ 64
+    → GoesByFront (cfb_bits 1 encryption iv)
+cfb_bits-front encryption iv wide t more i below = cfb_bits-before encryption iv t more i wide (omega arith)
+
+-- the bit that goes with the next one
+cfb_bits-next : (encryption : List ℕ → List ℕ) (iv : List ℕ) (c more : List Bool) (held : List ℕ)
+    → length (bits_of_bytes iv) ≡ 64 → CfbBitsAt iv c held
+    → cfb_bits 1 encryption iv (c ++ more) (length c) ≡ block_bit (encryption (block_of_bits (bits_of_bytes held))) 0
+cfb_bits-next encryption iv c more held wide is =
+    let n : ℕ = length c in
+    let all : List Bool = bits_of_bytes iv ++ c in
+    let long : length (drop n all) ≤ 64 = omega (arith, length-drop n all, length-append (bits_of_bytes iv) c) in
+    cfb_bits-before encryption iv c more n wide (omega arith)
+    ∙ ap₂ (λ (m k : ℕ). block_bit (encryption (block_of_bits (take 64 (drop m all)))) k) (single n) (mod-one n)
+    ∙ ap (λ (xs : List Bool). block_bit (encryption (block_of_bits xs)) 0) (take_all 64 (drop n all) long ∙ sym is.register)
+
+-- a bit more
+ByText-bit : (encryption : List ℕ → List ℕ) (iv : List ℕ) (old new : BitRegister) (p c : Bool)
+    → length (bits_of_bytes iv) ≡ 64 → bits_of_bytes new.register ≡ drop 1 (bits_of_bytes old.register ++ c ∷ [])
+    → c ≡ xor p (block_bit (encryption (block_of_bits (bits_of_bytes old.register))) 0)
+    → ByText xor false (IsCfbBitsAt iv) (cfb_bits 1 encryption iv) old new (p ∷ []) (c ∷ [])
+ByText-bit encryption iv old new p c wide shifted is = record {
+  goes = λ t at. (
+    record {
+      register =
+          register-further (bits_of_bytes iv) t (c ∷ []) (bits_of_bytes old.register) (bits_of_bytes new.register) at.register
+          shifted;
+    },
+    Xors-single (length t) _ p c (is ∙ ap (xor p) (sym (cfb_bits-next encryption iv t (c ∷ []) old.register wide at))),
+  );
 }
+
+pub ByText-bit_directed : (encryption : List ℕ → List ℕ) (iv : List ℕ) (old new : BitRegister) (direction : Direction) (x y : Bool)
+    → length (bits_of_bytes iv) ≡ 64
+    → bits_of_bytes new.register ≡ drop 1 (bits_of_bytes old.register ++ ciphertext direction x y ∷ [])
+    → y ≡ xor x (block_bit (encryption (block_of_bits (bits_of_bytes old.register))) 0)
+    → Directed direction (ByText xor false (IsCfbBitsAt iv) (cfb_bits 1 encryption iv) old new) (x ∷ []) (y ∷ [])
+ByText-bit_directed encryption iv old new Encrypt x y wide shifted is = ByText-bit encryption iv old new x y wide shifted is
+ByText-bit_directed encryption iv old new Decrypt x y wide shifted is =
+    ByText-bit encryption iv old new y x wide shifted
+    (sym (ap (λ z. xor z (block_bit (encryption (block_of_bits (bits_of_bytes old.register))) 0)) is ∙ bits_undone x _))
+
+-- bytes more, by their bits
+pub ByText-bytes : {S : Type 0} {At : List Bool → S → Type 0} {k : List Bool → ℕ → Bool} {before between after : S}
+    (direction : Direction) (old now more answers : List ℕ) → GoesByFront k
+    → Directed direction (ByText xor false At k before between) (bits_of_bytes old) (bits_of_bytes now)
+    → Directed direction (ByText xor false At k between after) (bits_of_bytes more) (bits_of_bytes answers)
+    → Directed direction (ByText xor false At k before after) (bits_of_bytes (old ++ more)) (bits_of_bytes (now ++ answers))
+ByText-bytes direction old now more answers front first second =
+    rw (bits-append old more, bits-append now answers) (ByText-directed direction _ _ _ _ front first second)

@@ -1,10 +1,10 @@
 -- Blocks that are enclosed: what opens them, and that what encloses blocks encloses no others.
-use Rattle.std.proofs.Common.{◌≡◌, ℕ, suc, ◌+◌, ◌-◌, ◌<◌, ◌≤◌, List, [], ◌∷◌, ◌++◌, map, length, get_or, take, drop, reverse, refl, ap, ap₂, subst, sym, ◌∙◌, arith, length-append}
+use Rattle.std.proofs.Common.{◌≡◌, ℕ, suc, ◌+◌, ◌-◌, ◌<◌, ◌≤◌, List, [], ◌∷◌, ◌++◌, map, length, get_or, take, drop, reverse, refl, ap, ap₂, subst, sym, ◌∙◌, arith}
 use Rattle.std.specs.List.{All}
 use Rattle.std.proofs.lemmas.Grind.{common_steps}
 use borrow.Rule.Slice.PartMut.{put_mid}
-use Rattle.std.proofs.lemmas.List.{reverse-reverse, reverse-append, map-append, length-reverse, take_all, take_more}
-use Rattle.std.proofs.lemmas.List.Elements.{All-nil, All-cons, All-head, All-tail, All-append, All-map}
+use Rattle.std.proofs.lemmas.List.{get_or-reverse, reverse-reverse, reverse-append, map-append, length-reverse, same_from_push, take_all, take_more}
+use Rattle.std.proofs.lemmas.List.Elements.{All-cons, All-map}
 use Rattle.des.specs.Blocks.{IsBlock}
 use Rattle.des.specs.Cbc.{Cbc, Unchains, next_vector, xor_blocks}
 use Rattle.des.specs.Laws.BlockBits.{IsBlock-to_be_bytes}
@@ -14,7 +14,7 @@ use Rattle.des.proofs.ChainedPieces.{Unchains-append}
 use Rattle.des.proofs.UnchainedLists.{Unchains-unchained, unchained-from}
 use Rattle.des_fast.proofs.RelatedChains.{Chains-related}
 use Rattle.des_modes.specs.CmsKeyWrap.{second_iv, reversed, checksum, Encloses, Wraps}
-use Rattle.des_modes.proofs.TkwSteps.{Undoes, last_same}
+use Rattle.des_modes.proofs.TkwSteps.{Undoes}
 
 is_second_iv : IsBlock second_iv
 is_second_iv = IsBlock-to_be_bytes 0x4adda22c79e82105
@@ -47,10 +47,9 @@ reversed-reversed (block ∷ blocks) =
     ∙ ap₂ ◌∷◌ (reverse-reverse block) (reversed-reversed blocks)
 
 All-reverse : {X : Type 0} (P : X → Type 0) (xs : List X) → All P xs → All P (reverse xs)
-All-reverse P [] all = all
-All-reverse P (x ∷ xs) all =
-    rw (reverse-append (x ∷ []) xs)
-    (All-append P (reverse xs) (x ∷ []) (All-reverse P xs (All-tail P x xs all)) (All-cons P x [] (All-head P x xs all) (All-nil P)))
+All-reverse P xs all = λ i d within.
+    let inside : i < length xs = omega (arith, length-reverse xs) in
+    rw (get_or-reverse xs i d inside) (all (length xs - 1 - i) d (omega arith))
 
 All-reversed : (blocks : List (List ℕ)) → All IsBlock blocks → All IsBlock (reversed blocks)
 All-reversed blocks are =
@@ -89,9 +88,7 @@ module _ {E D : List ℕ → List ℕ} (laws : Undoes E D) where
   Wraps-one iv vector check key other wrapped is_iv is_vector opened wraps =
       let same : key ++ check ∷ [] ≡ other ++ checksum other ∷ [] =
       Encloses-one iv vector (key ++ check ∷ []) (other ++ checksum other ∷ []) wrapped is_iv is_vector opened wraps in
-      let count : length key ≡ length other =
-      omega (arith, ap length same, length-append key (check ∷ []), length-append other (checksum other ∷ [])) in
-      let parts = last_same key other check (checksum other) count same in
+      let parts = same_from_push key other check (checksum other) same in
       (parts.0, ap checksum parts.0 ∙ sym parts.1)
 
 -- ---- what opens it

@@ -1,16 +1,10 @@
-pub mod JoinedBlocks
-pub mod Differences
 pub mod TkwSteps
 pub mod Enclosed
 pub mod BitPlaces
-pub mod CfbBitPlaces
-pub mod XoredPieces
 pub mod Pieces
-pub mod CtrPlaces
 pub mod Segments
 pub mod CfbPlaces
 pub mod RelatedStreams
-pub mod BitSegments
 pub mod StreamPlaces
 pub mod StreamsAlike
 pub mod KnownAnswers

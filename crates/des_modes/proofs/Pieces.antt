@@ -1,10 +1,90 @@
--- Lists that are changed in place, piece after piece.
-use Rattle.std.proofs.Common.{◌≡◌, ℕ, ◌+◌, ◌<◌, ◌≤◌, List, [], ◌∷◌, ◌++◌, length, get_or, set, take, drop, refl, ap, sym, ◌∙◌, arith, add-zero, append_assoc, take-add, length-append, length-drop, length-take-le}
-use Rattle.std.proofs.lemmas.List.{append-nil, take_all, take_more_set, drop-drop, drop-set-lt, drop_more}
+-- Lists under the xor with a key stream, changed in place, piece after piece, and encrypted or decrypted so.
+use Rattle.std.proofs.Common.{◌≡◌, inl, inr, ℕ, ◌+◌, ◌-◌, ◌<◌, true, false, List, [], ◌∷◌, ◌++◌, length, get_or, bit_xor, refl, ap, ap₂, sym, ◌∙◌, arith, length-append, ◌≤◌, set, take, drop, add-zero, append_assoc, take-add, length-drop, length-take-le}
+use Rattle.std.specs.Int.Bits.{xor_self, xor_assoc, xor_zero_r}
+use Rattle.std.proofs.Math.ListN.{get_or-append}
+use Rattle.std.proofs.lemmas.Bool.{cases_lt}
+use Rattle.std.proofs.lemmas.List.{get_or-append_right, ext_get_or, append-nil, take_all, take_more_set, drop-drop, drop-set-lt, drop_more}
+use Rattle.des.specs.Bits.{xor}
+use Rattle.des_modes.specs.Streams.{Xors, XorsFrom}
 use Rattle.std.proofs.lemmas.Slice.{take-put_mid, drop-put_mid}
 use borrow.Rule.Slice.PartMut.{put_mid, mid_of}
-use Rattle.des_modes.specs.Streams.{Xors, XorsFrom}
-use Rattle.des_modes.proofs.XoredPieces.{Xors-none, Xors-append, Xors-other}
+use Rattle.des_modes.specs.Directions.{plaintext, ciphertext}
+use Rattle.des_modes.specs.declared.direction.Direction.{Direction}
+use Rattle.des_modes.specs.declared.direction.Direction.TheVariants.{Encrypt, Decrypt}
+
+-- ---- the xor undoes itself
+
+abbrev pub UndoesItself : {X : Type 0} → (X → X → X) → Type 0
+UndoesItself {X} op = (x y : X) → op (op x y) y ≡ x
+
+pub bytes_undone : UndoesItself bit_xor
+bytes_undone x y = xor_assoc x y y ∙ ap (bit_xor x) (xor_self y) ∙ xor_zero_r x
+
+pub bits_undone : UndoesItself xor
+bits_undone true true = refl
+bits_undone true false = refl
+bits_undone false true = refl
+bits_undone false false = refl
+
+-- ---- lists of elements of any kind
+
+module _ {X : Type 0} {op : X → X → X} {d : X} where
+  pub Xors-none : (n : ℕ) (k : ℕ → X) → Xors op d n k [] []
+  Xors-none n k = record { count = refl; xored = λ i below. absurd (omega arith) }
+
+  pub Xors-single : (n : ℕ) (k : ℕ → X) (x y : X) → y ≡ op x (k n) → Xors op d n k (x ∷ []) (y ∷ [])
+  Xors-single n k x y is = record {
+    count = refl;
+    xored = λ i below.
+        let here : 0 ≡ i = omega arith in
+        let place : n ≡ n + i = omega arith in
+        ap (λ (m : ℕ). get_or (y ∷ []) m d) (sym here) ∙ is
+        ∙ ap₂ (λ (m l : ℕ). op (get_or (x ∷ []) m d) (k l)) here place;
+  }
+
+  pub Xors-back : (n : ℕ) (k : ℕ → X) (p c : List X) → UndoesItself op → Xors op d n k p c → Xors op d n k c p
+  Xors-back n k p c undone xors = record {
+    count = sym xors.count;
+    xored = λ i below.
+        sym (ap (λ (x : X). op x (k (n + i))) (xors.xored i (omega (arith, xors.count))) ∙ undone (get_or p i d) (k (n + i)));
+  }
+
+  -- by another key stream that agrees at their places
+  pub Xors-other : (n : ℕ) (k other : ℕ → X) (p c : List X) → ((i : ℕ) → i < length p → k (n + i) ≡ other (n + i))
+      → Xors op d n k p c → Xors op d n other p c
+  Xors-other n k other p c agree xors = record {
+    count = xors.count;
+    xored = λ i below. xors.xored i below ∙ ap (op (get_or p i d)) (agree i below);
+  }
+
+  -- a piece after another
+  pub Xors-append : (n m : ℕ) (k : ℕ → X) (p c more answers : List X) → m ≡ n + length p → Xors op d n k p c
+      → Xors op d m k more answers → Xors op d n k (p ++ more) (c ++ answers)
+  Xors-append n m k p c more answers is first second = record {
+    count = length-append c answers ∙ ap₂ ◌+◌ first.count second.count ∙ sym (length-append p more);
+    xored = λ i below. elim (cases_lt i (length p)) [
+      | inl front ↦
+          rw (get_or-append p more d i front, get_or-append c answers d i (omega (arith, first.count)))
+          (first.xored i front)
+      | inr back ↦
+          let j : ℕ = i - length p in
+          let place : m + j ≡ n + i = omega arith in
+          rw (
+            get_or-append_right p more (length p) i d refl back,
+            get_or-append_right c answers (length p) i d first.count back,
+          )
+          (second.xored j (omega (arith, length-append p more)) ∙ ap (λ (x : ℕ). op (get_or more j d) (k x)) place)
+    ];
+  }
+
+  -- the ciphertext has one plaintext
+  pub Xors-one : (n : ℕ) (k : ℕ → X) (p other c : List X) → UndoesItself op → Xors op d n k p c → Xors op d n k other c
+      → p ≡ other
+  Xors-one n k p other c undone first second =
+      let back = Xors-back n k p c undone first in
+      let again = Xors-back n k other c undone second in
+      ext_get_or d p other (omega (arith, first.count, second.count)) (λ i below.
+      back.xored i (omega (arith, first.count)) ∙ sym (again.xored i (omega (arith, first.count))))
 
 -- ---- a list of which the elements before `from` are done, as the relation says of them
 
@@ -107,3 +187,56 @@ pub Xors-whole : {X : Type 0} {op : X → X → X} {d : X} {k : List X → ℕ �
 Xors-whole {X} {op} {d} {k} {p} {c} {more} {answers} front begun made =
     Xors-append 0 (length c) (k (c ++ answers)) p c more answers (omega (arith, begun.count))
     (Xors-other 0 (k c) (k (c ++ answers)) p c (λ i below. sym (front c answers (0 + i) (omega (arith, begun.count)))) begun) made
+
+-- ---- each text is one of the two
+
+pub ciphertext-is : {X : Type 0} (P : X → Type 0) (direction : Direction) (old new : X) → P old → P new
+    → P (ciphertext direction old new)
+ciphertext-is P Encrypt old new of_old of_new = of_new
+ciphertext-is P Decrypt old new of_old of_new = of_old
+
+pub texts-map : {X Y : Type 0} (f : X → Y) (direction : Direction) (old new : X)
+    → (f (plaintext direction old new) ≡ plaintext direction (f old) (f new))
+    × (f (ciphertext direction old new) ≡ ciphertext direction (f old) (f new))
+texts-map f Encrypt old new = (refl, refl)
+texts-map f Decrypt old new = (refl, refl)
+
+-- ---- relations of the two
+
+abbrev pub Directed : {X : Type 0} → Direction → (List X → List X → Type 0) → List X → List X → Type 0
+Directed direction Done old now = Done (plaintext direction old now) (ciphertext direction old now)
+
+-- the xor goes both ways
+pub Xors-directed : {X : Type 0} {op : X → X → X} {d : X} (direction : Direction) (n : ℕ) (k : ℕ → X) (old now : List X)
+    → UndoesItself op → Xors op d n k old now → Directed direction (Xors op d n k) old now
+Xors-directed Encrypt n k old now undone xors = xors
+Xors-directed Decrypt n k old now undone xors = Xors-back n k old now undone xors
+
+module _ {S X : Type 0} {op : X → X → X} {d : X} {At : List X → S → Type 0} {k : List X → ℕ → X} where
+  pub ByText-begun : (direction : Direction) (state : S) → Directed direction (ByText op d At k state state) [] []
+  ByText-begun Encrypt state = ByText-none state
+  ByText-begun Decrypt state = ByText-none state
+
+  pub ByText-directed : (direction : Direction) (old now more answers : List X) {before between after : S} → GoesByFront k
+      → Directed direction (ByText op d At k before between) old now
+      → Directed direction (ByText op d At k between after) more answers
+      → Directed direction (ByText op d At k before after) (old ++ more) (now ++ answers)
+  ByText-directed Encrypt old now more answers front first second = ByText-joined front first second
+  ByText-directed Decrypt old now more answers front first second = ByText-joined front first second
+
+-- ---- key streams that do not depend on the texts
+
+pub goes_on-directed : (P : ℕ → Type 0) (direction : Direction) (c old new : List ℕ) → length new ≡ length old
+    → P (length c + length old) → P (length (c ++ ciphertext direction old new))
+goes_on-directed P direction c old new same at =
+    let size : length (ciphertext direction old new) ≡ length old =
+    ciphertext-is (λ xs. length xs ≡ length old) direction old new refl same in
+    let place : length c + length old ≡ length (c ++ ciphertext direction old new) =
+    omega (arith, size, length-append c (ciphertext direction old new)) in rw place at at
+
+pub whole-directed : (P : ℕ → Type 0) (k : ℕ → ℕ) (direction : Direction) (old new p c : List ℕ)
+    → ((p c : List ℕ) → P (length p) → XorsFrom 0 k p c → XorsFrom 0 k (p ++ old) (c ++ new)) → P (length c) → XorsFrom 0 k p c
+    → XorsFrom 0 k (p ++ plaintext direction old new) (c ++ ciphertext direction old new)
+whole-directed P k Encrypt old new p c whole at made = whole p c (rw made.count at at) made
+whole-directed P k Decrypt old new p c whole at made =
+    Xors-back 0 k _ _ bytes_undone (whole c p at (Xors-back 0 k p c bytes_undone made))

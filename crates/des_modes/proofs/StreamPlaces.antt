@@ -1,18 +1,15 @@
 -- Streams mode by mode: where they begin and go on.
-use Rattle.std.proofs.Common.{◌≡◌, ℕ, inl, inr, ◌+◌, ◌-◌, ◌/◌, ◌%◌, ◌^◌, ◌<◌, ◌≤◌, Bool, List, [], ◌++◌, length, take, drop, refl, sym, ap, ap₂, ◌∙◌, arith, append_assoc, take-add}
+use Rattle.std.proofs.Common.{◌≡◌, ℕ, inl, inr, ◌+◌, ◌-◌, ◌/◌, ◌%◌, ◌^◌, ◌<◌, ◌≤◌, Bool, List, [], ◌++◌, length, refl, sym, ap, ◌∙◌, arith}
 use Rattle.std.proofs.Math.Nat.{mod-lt, zero-mod}
 use Rattle.std.proofs.lemmas.Bool.{ne_eqb}
 use Rattle.std.proofs.lemmas.Bool.Decides.{eqb_tells}
-use Rattle.std.proofs.lemmas.List.{append-nil, drop-drop, take_all}
+use Rattle.std.proofs.lemmas.List.{append-nil}
 use Rattle.std.proofs.lemmas.List.Elements.{All-append, All-nil}
-use Rattle.std.proofs.lemmas.Slice.{take-put_mid, drop-put_mid}
-use borrow.Rule.Slice.PartMut.{put_mid, mid_of}
 use Rattle.std.specs.Int.{w64, from_be_bytes}
 use Rattle.des.specs.Bits.{bits_of_bytes}
 use Rattle.des.specs.Blocks.{AreBytes, IsBlock}
-use Rattle.des.specs.Laws.BitLists.{length-bits_of_bytes}
 use Rattle.des.specs.Laws.BlockBits.{from_be_bytes-lt}
-use Rattle.des_modes.specs.CfbBits.{Cfb1, first_bits}
+use Rattle.des_modes.specs.CfbBits.{Cfb1}
 use Rattle.des_modes.specs.Modes.{InMode, IsMode, mode_by}
 use Rattle.des_modes.specs.StreamStates.{IsBitStreamAt, IsCfbBitPlace, IsInMode, IsPlace, IsSound, IsStreamAt, size_of}
 use Rattle.des_modes.specs.declared.modes.Mode.{Mode}
@@ -21,8 +18,7 @@ use Rattle.des_modes.specs.declared.modes.TheConstants.{CTR, OFB, CFB1}
 use Rattle.des_modes.specs.declared.stream.Place.{Place}
 use Rattle.des_modes.specs.declared.stream.Stream.{Stream}
 use Rattle.des_modes.specs.declared.stream.TheConstants.{MARK}
-use Rattle.des_modes.proofs.BitPlaces.{bits-append}
-use Rattle.des_modes.proofs.XoredPieces.{Xors-none}
+use Rattle.des_modes.proofs.Pieces.{Xors-none}
 
 -- what holds of each mode holds of that of a number
 pub mode_by-each : (P : Mode → Type 0) (number : ℕ) → IsMode number → P Counter → P OutputFeedback → P BitFeedback
@@ -67,8 +63,9 @@ IsStreamAt-begin number encryption iv stream is same marked begins unused is_blo
         used = unused;
       })
       (record { block = begins; used = unused })
-      (record { register = rw begins (sym (append-nil (bits_of_bytes iv))); used = unused })
+      (record { register = rw begins (sym (append-nil (bits_of_bytes iv))) }, unused)
       (λ s some short. record {
+        segment = refl;
         register = begins ∙ sym (append-nil iv);
         used = unused ∙ sym (zero-mod s);
         output = λ more. absurd (omega (arith, unused, more));
@@ -76,41 +73,19 @@ IsStreamAt-begin number encryption iv stream is same marked begins unused is_blo
   made = InMode-none (mode_by number) encryption iv;
 }
 
--- ---- a byte more, by its bits
-
-pub take-byte : (i size : ℕ) (old now : List ℕ) → size ≡ 1 → i + 1 ≤ length old → drop i now ≡ drop i old
-    → take (i + 1) old ≡ take i old ++ mid_of i size now
-take-byte i size old now is within left = take-add i 1 old ∙ ap₂ (λ m xs. take i old ++ take m xs) (sym is) (sym left)
-
-pub take-put_byte : (i size : ℕ) (now part : List ℕ) → length part ≡ 1 → i + 1 ≤ length now
-    → take (i + 1) (put_mid i size now part) ≡ take i now ++ part
-take-put_byte i size now part one within = take-put_mid i size now part (i + 1) (omega (arith, one)) (omega arith)
-
-pub drop-put_byte : (i size : ℕ) (old now part : List ℕ) → size ≡ 1 → length part ≡ 1 → i + 1 ≤ length now
-    → drop i now ≡ drop i old → drop (i + 1) (put_mid i size now part) ≡ drop (i + 1) old
-drop-put_byte i size old now part is one within left =
-    drop-put_mid i size now part (i + 1) (omega (arith, is)) (omega arith) (omega (arith, is, one))
-    ∙ sym (drop-drop 1 i now) ∙ ap (drop 1) left ∙ drop-drop 1 i old
-
-pub bits-more : (d : List Bool) (all front part : List ℕ) → all ≡ front ++ part → length part ≡ 1
-    → d ++ bits_of_bytes all ≡ (d ++ bits_of_bytes front) ++ first_bits 8 part
-bits-more d all front part is one =
-    ap (λ bytes. d ++ bits_of_bytes bytes) is
-    ∙ ap (λ bits. d ++ bits) (bits-append front part)
-    ∙ sym (append_assoc d (bits_of_bytes front) (bits_of_bytes part))
-    ∙ ap (λ bits. (d ++ bits_of_bytes front) ++ bits)
-    (sym (take_all 8 (bits_of_bytes part) (omega (arith, length-bits_of_bytes part, one))))
-
 -- ---- a piece more
 
+pub IsSound-by : (number : ℕ) → IsMode number → IsSound (mode_by number)
+IsSound-by number is = mode_by-each IsSound number is tt tt tt (λ s some short. (some, short))
+
 pub IsSound-mode : (mode : Mode) (stream : Stream) → IsInMode mode stream → IsSound mode
-IsSound-mode mode stream is = rw is.2 (mode_by-each IsSound stream.mode is.1 tt tt tt (λ s some short. (some, short)))
+IsSound-mode mode stream is = rw is.2 (IsSound-by stream.mode is.1)
 
 used-fits : (mode : Mode) (encryption : List ℕ → List ℕ) (iv c : List ℕ) (place : Place) → IsSound mode
     → IsPlace mode encryption iv c place → place.used < size_of mode
 used-fits Counter encryption iv c place sound at = omega (arith, at.used)
 used-fits OutputFeedback encryption iv c place sound at = omega (arith, at.used)
-used-fits BitFeedback encryption iv c place sound at = omega (arith, at.used)
+used-fits BitFeedback encryption iv c place sound at = omega (arith, at.1)
 used-fits (CipherFeedback s) encryption iv c place sound at =
     let positive : 0 < s = omega (arith, sound.0) in
     omega (arith, at.used, mod-lt (length c) positive)
@@ -149,7 +124,7 @@ pub IsBitStreamAt-more : (mode : Mode) (encryption : List ℕ → List ℕ) (iv 
 IsBitStreamAt-more mode encryption iv p c more answers old new in_mode kept marked is after made =
     let same : mode ≡ BitFeedback = in_mode.2 ∙ ap mode_by is.is_mode in
     let at = after same is.place in record {
-      begun = (marked ∙ in_mode.0, rw kept in_mode.1, rw (kept, is.is_mode) (omega (arith, at.used)));
+      begun = (marked ∙ in_mode.0, rw kept in_mode.1, rw (kept, is.is_mode) (omega (arith, at.1)));
       is_mode = kept ∙ is.is_mode;
       place = at;
       made = made same is.place is.made;

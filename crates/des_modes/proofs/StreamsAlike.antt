@@ -8,16 +8,15 @@ use Rattle.des.specs.Laws.BlockBits.{IsBlock-block_of_bits, IsBlock-to_be_bytes}
 use Rattle.des_modes.specs.CfbBits.{Cfb1, bit_at, block_bit}
 use Rattle.des_modes.specs.Modes.{InMode, InModeUnder, mode_by}
 use Rattle.des_modes.specs.Ofb.{output_block}
-use Rattle.des_modes.specs.StreamStates.{HasBegun, IsBitStreamAt, IsPlace, IsSound, IsStreamAt}
+use Rattle.des_modes.specs.StreamStates.{IsBitStreamAt, IsPlace, IsSound, IsStreamAt}
 use Rattle.des_modes.specs.Streams.{byte_at}
 use Rattle.des_modes.specs.declared.modes.Mode.{Mode}
 use Rattle.des_modes.specs.declared.modes.Mode.TheVariants.{Counter, OutputFeedback, BitFeedback, CipherFeedback}
 use Rattle.des_modes.specs.declared.stream.Place.{Place}
 use Rattle.des_modes.specs.declared.stream.Stream.{Stream}
-use Rattle.des_modes.proofs.BitSegments.{XorsBitsFrom-from_Cfb}
-use Rattle.des_modes.proofs.RelatedStreams.{CfbBits-from_bits, CtrUnder-from_Ctr, IsBlock-input_block, IsBlock-output_block, OfbUnder-from_Ofb}
-use Rattle.des_modes.proofs.StreamPlaces.{mode_by-each}
-use Rattle.des_modes.proofs.XoredPieces.{Xors-other}
+use Rattle.des_modes.proofs.RelatedStreams.{XorsBitsFrom-from_Cfb, CfbBits-from_bits, CtrUnder-from_Ctr, IsBlock-input_block, IsBlock-output_block, OfbUnder-from_Ofb}
+use Rattle.des_modes.proofs.StreamPlaces.{IsSound-by}
+use Rattle.des_modes.proofs.Pieces.{Xors-other}
 
 module _ (e f : List ℕ → List ℕ) (alike : AnswerAlike e f) where
   Cfb1-alike : (iv : List ℕ) (p c : List Bool) → Cfb1 e iv p c → Cfb1 f iv p c
@@ -49,6 +48,7 @@ module _ (e f : List ℕ → List ℕ) (alike : AnswerAlike e f) where
     IsPlace-alike OutputFeedback place at = record { block = at.block ∙ output_block-alike _; used = at.used }
     IsPlace-alike BitFeedback place at = at
     IsPlace-alike (CipherFeedback s) place at = record {
+      segment = at.segment;
       register = at.register;
       used = at.used;
       output = λ more.
@@ -93,9 +93,6 @@ InModeUnder-from (CipherFeedback s) Answers e iv p c sound graph makes is_iv byt
     CfbBits-from_bits Answers e (8 * s) iv (bits_of_bytes p) (bits_of_bytes c) graph
     (XorsBitsFrom-from_Cfb s (8 * s) e iv p c sound.0 refl is_iv bytes makes sound.1 made)
 
-IsSound-number : (number : ℕ) (stream : Stream) → HasBegun stream → stream.mode ≡ number → IsSound (mode_by number)
-IsSound-number number stream begun is = mode_by-each IsSound number (rw (← is) begun.1) tt tt tt (λ s some short. (some, short))
-
 -- a cipher whose encryption takes blocks to blocks and, of them, is that of a key
 module _ (e k : List ℕ → List ℕ) (alike : AnswerAlike e k) (makes : (block : List ℕ) → IsBlock block → IsBlock (e block)) where
   back : AnswerAlike k e
@@ -121,5 +118,5 @@ module _ (e k : List ℕ → List ℕ) (alike : AnswerAlike e k) (makes : (block
       (stream : Stream) → IsStreamAt number k iv p c stream → InModeUnder (mode_by number) Answers iv p c
   InModeUnder-by_key Answers graph number iv p c stream is =
       let same = IsStreamAt-alike k e back number iv p c stream makes_too is in
-      InModeUnder-from (mode_by number) Answers e iv p c (IsSound-number number stream is.begun is.is_mode) graph makes
+      InModeUnder-from (mode_by number) Answers e iv p c (IsSound-by number (rw (← is.is_mode) is.begun.1)) graph makes
       is.is_block is.are_bytes same.made

@@ -1,9 +1,9 @@
 -- The steps of TW, one after another, and turned round.
-use Rattle.std.proofs.Common.{◌≡◌, inl, inr, ℕ, zero, suc, ◌+◌, ◌-◌, ◌*◌, ◌%◌, ◌<◌, ◌≤◌, List, [], ◌∷◌, ◌++◌, length, get_or, take, drop, bit_xor, refl, ap, ap₂, sym, ◌∙◌, arith, append_assoc, take_at, drop_at, length-append, length-drop, length-take-le}
+use Rattle.std.proofs.Common.{◌≡◌, inl, inr, ℕ, zero, suc, ◌+◌, ◌-◌, ◌*◌, ◌%◌, ◌<◌, ◌≤◌, List, [], ◌∷◌, ◌++◌, length, get_or, take, drop, bit_xor, refl, ap, ap₂, sym, ◌∙◌, arith, add-one, append_assoc, take_at, drop_at, length-append, length-drop, length-take-le}
 use Rattle.std.specs.Int.{w32, to_be_bytes}
 use Rattle.std.specs.List.{All}
 use Rattle.std.proofs.lemmas.Bool.{cases_lt}
-use Rattle.std.proofs.lemmas.List.{append-nil, drop_all, drop_more, take_all, take-append-drop}
+use Rattle.std.proofs.lemmas.List.{append-nil, drop_all, drop_more, same_from_push, take_all, take-append-drop}
 use Rattle.std.proofs.Math.Nat.{mod-lt, mod_self}
 use Rattle.std.proofs.lemmas.List.Elements.{All-nil, All-cons, All-head, All-tail, All-append, All-take, All-drop, All-from_get_or}
 use Rattle.std.proofs.lemmas.Nat.{xor_lt}
@@ -16,26 +16,11 @@ use Rattle.des.specs.Relations.{IsGraphOf}
 use Rattle.des_modes.proofs.Segments.{further-mod, same_segment-mod}
 use Rattle.des_modes.specs.Tkw.{IsSemiblock, TkwUnder, icv3, tw_step, tw_steps, tw, tkw}
 
--- the last of some steps
-tw_steps-last : (E : List ℕ → List ℕ) (t m : ℕ) (words : List (List ℕ))
-    → tw_steps E t (suc m) words ≡ tw_step E (t + suc m) (tw_steps E t m words)
-tw_steps-last E t zero words = ap (λ (n : ℕ). tw_step E n words) (omega arith)
-tw_steps-last E t (suc m) words =
-    tw_steps-last E (suc t) m (tw_step E (suc t) words)
-    ∙ ap (λ (n : ℕ). tw_step E n (tw_steps E (suc t) m (tw_step E (suc t) words))) (omega arith)
-
+-- a step more
 pub tw_steps-next : (E : List ℕ → List ℕ) (t : ℕ) (words : List (List ℕ))
-    → tw_steps E 0 (t + 1) words ≡ tw_step E (t + 1) (tw_steps E 0 t words)
+    → tw_steps E (t + 1) words ≡ tw_step E (t + 1) (tw_steps E t words)
 tw_steps-next E t words =
-    let count : t + 1 ≡ suc t = omega arith in
-    let number : 0 + suc t ≡ t + 1 = omega arith in
-    ap (λ (n : ℕ). tw_steps E 0 n words) count ∙ tw_steps-last E 0 t words ∙ ap (λ (n : ℕ). tw_step E n (tw_steps E 0 t words)) number
-
--- the first of some steps
-pub tw_steps-first : (E : List ℕ → List ℕ) (t number count rest : ℕ) (words : List (List ℕ)) → suc t ≡ number
-    → count ≡ suc rest → tw_steps E t count words ≡ tw_steps E number rest (tw_step E number words)
-tw_steps-first E t number count rest words is more =
-    ap (λ (n : ℕ). tw_steps E t n words) more ∙ ap (λ (n : ℕ). tw_steps E n rest (tw_step E n words)) is
+    ap (λ (n : ℕ). tw_steps E n words) (add-one t) ∙ ap (λ (n : ℕ). tw_step E n (tw_steps E t words)) (sym (add-one t))
 
 -- a step of semiblocks in place: those before place i are done
 turned : (E : List ℕ → List ℕ) (t : ℕ) (a w : List ℕ) (rest done : List (List ℕ))
@@ -75,16 +60,6 @@ next_place words t n size some = elim (cases_lt (t % n + 1) n) [
 ]
 
 -- ---- the semiblocks that the steps were made of
-
--- two lists with one more element each
-pub last_same : (xs ys : List (List ℕ)) (x y : List ℕ) → length xs ≡ length ys → xs ++ x ∷ [] ≡ ys ++ y ∷ []
-    → (xs ≡ ys) × (x ≡ y)
-last_same [] [] x y count same = (refl, ap (λ (zs : List (List ℕ)). get_or zs 0 []) same)
-last_same [] (z ∷ ys) x y count same = absurd (omega arith)
-last_same (z ∷ xs) [] x y count same = absurd (omega arith)
-last_same (z ∷ xs) (u ∷ ys) x y count same =
-    let rest = last_same xs ys x y (omega arith) (ap (drop 1) same) in
-    (ap₂ ◌∷◌ (ap (λ (zs : List (List ℕ)). get_or zs 0 []) same) rest.0, rest.1)
 
 -- what a cipher's laws say of its two functions
 pub record Undoes (E D : List ℕ → List ℕ) : Type 0 where
@@ -128,10 +103,9 @@ length-tw_step E t [] = refl
 length-tw_step E t (a ∷ []) = refl
 length-tw_step E t (a ∷ r ∷ rest) = omega (arith, length-append rest (drop 4 (E (a ++ r)) ∷ []))
 
-pub length-tw_steps : (E : List ℕ → List ℕ) (t m : ℕ) (words : List (List ℕ))
-    → length (tw_steps E t m words) ≡ length words
-length-tw_steps E t zero words = refl
-length-tw_steps E t (suc m) words = length-tw_steps E (suc t) m (tw_step E (suc t) words) ∙ length-tw_step E (suc t) words
+length-tw_steps : (E : List ℕ → List ℕ) (t : ℕ) (words : List (List ℕ)) → length (tw_steps E t words) ≡ length words
+length-tw_steps E zero words = refl
+length-tw_steps E (suc t) words = length-tw_step E (suc t) (tw_steps E t words) ∙ length-tw_steps E t words
 
 module _ {E D : List ℕ → List ℕ} (laws : Undoes E D) where
   -- a step makes semiblocks of semiblocks
@@ -164,7 +138,7 @@ module _ {E D : List ℕ → List ℕ} (laws : Undoes E D) where
       let e : List ℕ = E (a ++ r) in
       let f : List ℕ = E (b ++ s) in
       let number : List ℕ = to_be_bytes w32 t in
-      let rest = last_same words others (drop 4 e) (drop 4 f) (omega arith) (ap (drop 1) same) in
+      let rest = same_from_push words others (drop 4 e) (drop 4 f) (ap (drop 1) same) in
       let high : take 4 e ≡ take 4 f =
       sym (xor_blocks-undone (take 4 e) number (high_half e (laws.is_block (a ++ r) block)).0)
       ∙ ap (λ (xs : List (List ℕ)). xor_blocks (get_or xs 0 []) number) same
@@ -174,26 +148,32 @@ module _ {E D : List ℕ → List ℕ} (laws : Undoes E D) where
       ap₂ ◌∷◌ (sym (take_at a r 4 is_a.0) ∙ ap (take 4) joined ∙ take_at b s 4 is_b.0)
       (ap₂ ◌∷◌ (sym (drop_at a r 4 is_a.0) ∙ ap (drop 4) joined ∙ drop_at b s 4 is_b.0) rest.0)
 
-  tw_steps-injective : (t m : ℕ) (words others : List (List ℕ)) → All IsSemiblock words → All IsSemiblock others
-      → length words ≡ length others → tw_steps E t m words ≡ tw_steps E t m others → words ≡ others
-  tw_steps-injective t zero words others are too count same = same
-  tw_steps-injective t (suc m) words others are too count same =
-      tw_step-injective (suc t) words others are too count
-      (tw_steps-injective (suc t) m (tw_step E (suc t) words) (tw_step E (suc t) others)
-      (AreSemiblocks-tw_step (suc t) words are) (AreSemiblocks-tw_step (suc t) others too)
-      (length-tw_step E (suc t) words ∙ count ∙ sym (length-tw_step E (suc t) others)) same)
+  AreSemiblocks-tw_steps : (t : ℕ) (words : List (List ℕ)) → All IsSemiblock words → All IsSemiblock (tw_steps E t words)
+  AreSemiblocks-tw_steps zero words are = are
+  AreSemiblocks-tw_steps (suc t) words are = AreSemiblocks-tw_step (suc t) (tw_steps E t words) (AreSemiblocks-tw_steps t words are)
+
+  tw_steps-injective : (t : ℕ) (words others : List (List ℕ)) → All IsSemiblock words → All IsSemiblock others
+      → length words ≡ length others → tw_steps E t words ≡ tw_steps E t others → words ≡ others
+  tw_steps-injective zero words others are too count same = same
+  tw_steps-injective (suc t) words others are too count same =
+      tw_steps-injective t words others are too count
+      (tw_step-injective (suc t) (tw_steps E t words) (tw_steps E t others) (AreSemiblocks-tw_steps t words are)
+      (AreSemiblocks-tw_steps t others too) (length-tw_steps E t words ∙ count ∙ sym (length-tw_steps E t others)) same)
 
   -- what wraps a key wraps no other
-  pub unwrapped-one : (first : List ℕ) (words other wrapped : List (List ℕ)) → IsSemiblock first → All IsSemiblock words
-      → All IsSemiblock other → length wrapped ≡ length words + 1 → tw E (first ∷ words) ≡ wrapped → tkw E other ≡ wrapped
-      → first ∷ words ≡ icv3 ∷ other
-  unwrapped-one first words other wrapped is_first are too size same wraps =
+  pub unwrapped-one : (first : List ℕ) (words other wrapped : List (List ℕ)) {rest : List (List ℕ)} → IsSemiblock first
+      → All IsSemiblock words → All IsSemiblock other → length wrapped ≡ length words + 1
+      → rest ≡ take (length wrapped - 1) (drop 1 wrapped) → tw E (first ∷ words) ≡ get_or wrapped 0 [] ∷ rest
+      → tkw E other ≡ wrapped → first ∷ words ≡ icv3 ∷ other
+  unwrapped-one first words other [] is_first are too size behind same wraps = absurd (omega arith)
+  unwrapped-one first words other (a ∷ wrapped) is_first are too size behind same wraps =
       let made : ℕ = 6 * (length (icv3 ∷ other) - 1) in
-      let count : length other ≡ length words = omega (arith, ap length wraps, length-tw_steps E 0 made (icv3 ∷ other)) in
+      let count : length other ≡ length words = omega (arith, ap length wraps, length-tw_steps E made (icv3 ∷ other)) in
       let steps : 6 * (length (first ∷ words) - 1) ≡ made = omega (arith, count) in
-      tw_steps-injective 0 made (first ∷ words) (icv3 ∷ other) (All-cons IsSemiblock first words is_first are)
+      tw_steps-injective made (first ∷ words) (icv3 ∷ other) (All-cons IsSemiblock first words is_first are)
       (All-cons IsSemiblock icv3 other (IsSemiblock-number 0xa6a6a6a6) too) (omega (arith, count))
-      (ap (λ (n : ℕ). tw_steps E 0 n (first ∷ words)) (sym steps) ∙ same ∙ sym wraps)
+      (ap (λ (n : ℕ). tw_steps E n (first ∷ words)) (sym steps) ∙ same
+      ∙ ap (λ (xs : List (List ℕ)). a ∷ xs) (behind ∙ take_all (length (a ∷ wrapped) - 1) wrapped (omega arith)) ∙ sym wraps)
 
 -- ---- by the relation of a cipher's key
 
@@ -207,11 +187,11 @@ module _ (E D other : List ℕ → List ℕ) (laws : Undoes E D)
       let is_r = All-head IsSemiblock r rest (All-tail IsSemiblock a (r ∷ rest) are) in
       rw (alike (a ++ r) (IsBlock-joined a r (All-head IsSemiblock a (r ∷ rest) are) is_r)) refl
 
-  tw_steps-alike : (t m : ℕ) (words : List (List ℕ)) → All IsSemiblock words → tw_steps E t m words ≡ tw_steps other t m words
-  tw_steps-alike t zero words are = refl
-  tw_steps-alike t (suc m) words are =
-      tw_steps-alike (suc t) m (tw_step E (suc t) words) (AreSemiblocks-tw_step laws (suc t) words are)
-      ∙ ap (tw_steps other (suc t) m) (tw_step-alike (suc t) words are)
+  tw_steps-alike : (t : ℕ) (words : List (List ℕ)) → All IsSemiblock words → tw_steps E t words ≡ tw_steps other t words
+  tw_steps-alike zero words are = refl
+  tw_steps-alike (suc t) words are =
+      tw_step-alike (suc t) (tw_steps E t words) (AreSemiblocks-tw_steps laws t words are)
+      ∙ ap (tw_step other (suc t)) (tw_steps-alike t words are)
 
 pub TkwUnder-from_tkw : (Answers : List ℕ → List ℕ → Type 0) (E : List ℕ → List ℕ) (key wrapped : List (List ℕ))
     → IsGraphOf E Answers → tkw E key ≡ wrapped → TkwUnder Answers key wrapped
@@ -225,6 +205,6 @@ pub tkw-from_TkwUnder : (Answers : List ℕ → List ℕ → Type 0) (E D : List
     → IsGraphOf E Answers → Undoes E D → All IsSemiblock key → TkwUnder Answers key wrapped → tkw E key ≡ wrapped
 tkw-from_TkwUnder Answers E D key wrapped graph laws are under =
     tw_steps-alike E D under.encryption laws
-    (λ block is_block. ((graph block (under.encryption block)).0 (under.answered block is_block)).1) 0
+    (λ block is_block. ((graph block (under.encryption block)).0 (under.answered block is_block)).1)
     (6 * (length (icv3 ∷ key) - 1)) (icv3 ∷ key) (All-cons IsSemiblock icv3 key (IsSemiblock-number 0xa6a6a6a6) are)
     ∙ under.answer

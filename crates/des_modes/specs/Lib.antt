@@ -1,14 +1,11 @@
+pub mod Directions
 pub mod Streams
 pub mod Ctr
-pub mod CtrStates
 pub mod Ofb
-pub mod OfbStates
 pub mod Cfb
-pub mod CfbStates
-pub mod Parts
 pub mod Related
 pub mod CfbBits
-pub mod CfbBitStates
+pub mod States
 pub mod Modes
 pub mod StreamStates
 pub mod Tkw

@@ -19,14 +19,14 @@ tw_step encryption t (a ∷ []) = a ∷ []
 tw_step encryption t (a ∷ r ∷ rest) =
     xor_blocks (take 4 (encryption (a ++ r))) (to_be_bytes w32 t) ∷ rest ++ drop 4 (encryption (a ++ r)) ∷ []
 
--- the next `count` steps after step t
-abbrev pub tw_steps : (List ℕ → List ℕ) → ℕ → ℕ → List (List ℕ) → List (List ℕ)
-tw_steps encryption t zero words = words
-tw_steps encryption t (suc count) words = tw_steps encryption (suc t) count (tw_step encryption (suc t) words)
+-- the first t steps
+abbrev pub tw_steps : (List ℕ → List ℕ) → ℕ → List (List ℕ) → List (List ℕ)
+tw_steps encryption zero words = words
+tw_steps encryption (suc t) words = tw_step encryption (suc t) (tw_steps encryption t words)
 
 -- TW(S), in s = 6 (n - 1) steps
 abbrev pub tw : (List ℕ → List ℕ) → List (List ℕ) → List (List ℕ)
-tw encryption words = tw_steps encryption 0 (6 * (length words - 1)) words
+tw encryption words = tw_steps encryption (6 * (length words - 1)) words
 
 -- TKW-AE(P)
 abbrev pub tkw : (List ℕ → List ℕ) → List (List ℕ) → List (List ℕ)

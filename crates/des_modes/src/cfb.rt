@@ -5,8 +5,9 @@ ghost use Rattle.std.specs.Prelude.{◌≡◌, ◌<◌, ◌≤◌, ◌+◌, ◌*
 ghost use Rattle.std.specs.List.{All};
 ghost use Rattle.des_modes.specs.Streams.{XorsFrom};
 ghost use Rattle.des_modes.specs.Cfb.{Cfb, cfb_stream, input_block};
-ghost use Rattle.des_modes.specs.Parts.{part_at_most};
+ghost use Rattle.des_modes.specs.Directions.{plaintext, ciphertext, part_at_most};
 
+use crate::direction::Direction;
 use crate::xored::{xor_from, xor_segments};
 use des::cipher::BlockCipherEncrypt;
 
@@ -26,12 +27,26 @@ fn count_of(bytes: usize, segment: usize) -> usize
     bytes.div_ceil(segment)
 }
 
+// Writes eight bytes into each block, one after another.
+fn write_blocks(blocks: &mut [[u8; 8]], bytes: &[u8])
+    requires { 8 * length blocks.old ≤ length bytes.now }
+    ensures { (j : ℕ) → j < length blocks.old
+        → slice_index_or blocks.new j [] ≡ take 8 (drop (8 * j) bytes.now) }
+{
+    let (inputs, _) = bytes.as_chunks::<8>();
+    blocks.copy_from_slice(&inputs[..blocks.len()]);
+}
+
 // Writes eight bytes into each block, from the beginning of its segment on.
 fn write_inputs(blocks: &mut [[u8; 8]], bytes: &[u8], segment: usize)
     requires { (j : ℕ) → j < length blocks.old → segment * j + 8 ≤ length bytes.now }
     ensures { (j : ℕ) → j < length blocks.old
         → slice_index_or blocks.new j [] ≡ take 8 (drop (segment * j) bytes.now) }
 {
+    if segment == 8 {
+        write_blocks(blocks, bytes);
+        return;
+    }
     'inputs: for j in 0..blocks.len() {
         let from = segment * j;
         blocks[j].copy_from_slice(&bytes[from..from + 8]);
@@ -64,12 +79,13 @@ fn block_at(blocks: &[[u8; 8]], place: usize) -> [u8; 8]
 }
 
 // Writes the bytes of a register, and others behind them.
-fn write_joined(joined: &mut [u8; 8 + 8 * TOGETHER], register: &[u8; 8], bytes: &[u8])
-    requires { length bytes.now ≤ 2048 }
-    ensures { take (8 + length bytes.now) joined.new ≡ register.now ++ bytes.now }
+fn write_joined(joined: &mut [u8], register: &[u8; 8], bytes: &[u8])
+    requires { length joined.old ≡ 8 + length bytes.now }
+    ensures { joined.new ≡ register.now ++ bytes.now }
 {
-    joined[..8].copy_from_slice(register);
-    joined[8..8 + bytes.len()].copy_from_slice(bytes);
+    let (front, rest) = joined.split_at_mut(8);
+    front.copy_from_slice(register);
+    rest.copy_from_slice(bytes);
 }
 
 // Shifts bytes into the register from the right.
@@ -107,7 +123,7 @@ pub struct Register {
 }
 
 impl Register {
-    ghost use Rattle.des_modes.specs.CfbStates.{IsCfbAt};
+    ghost use Rattle.des_modes.specs.States.{IsCfbAt};
 
     /// The place before a segment of `segment` bytes: `before` is the eight bytes of ciphertext before
     /// it, or at the beginning the initialization vector. To decrypt a part, no others are needed.
@@ -154,35 +170,34 @@ impl Register {
         self.used = within_segment(end, self.segment);
     }
 
-    // Encrypts bytes of one segment.
-    fn encrypt_in_segment<C: BlockCipherEncrypt>(&mut self, cipher: &C, bytes: &mut [u8])
+    // Encrypts or decrypts bytes of one segment.
+    fn apply_in_segment<C: BlockCipherEncrypt>(
+        &mut self,
+        direction: Direction,
+        cipher: &C,
+        bytes: &mut [u8],
+    )
         requires { self.old.used + length bytes.old ≤ self.old.segment }
         ensures after { (s : ℕ) (iv c : List ℕ) → IsCfbAt s (C.encrypted cipher.now) iv c self.old
-            → IsCfbAt s (C.encrypted cipher.now) iv (c ++ bytes.new) self.new }
-        ensures encrypted { (s : ℕ) (iv c : List ℕ)
-            → IsCfbAt s (C.encrypted cipher.now) iv c self.old
-            → XorsFrom (length c) (cfb_stream s (C.encrypted cipher.now) iv (c ++ bytes.new))
-            bytes.old bytes.new }
-    {
-        let output = self.current(cipher);
-        xor_from(bytes, &output, self.used);
-        self.advance(&output, bytes);
-    }
-
-    // Decrypts bytes of one segment.
-    fn decrypt_in_segment<C: BlockCipherEncrypt>(&mut self, cipher: &C, bytes: &mut [u8])
-        requires { self.old.used + length bytes.old ≤ self.old.segment }
-        ensures after { (s : ℕ) (iv c : List ℕ) → IsCfbAt s (C.encrypted cipher.now) iv c self.old
-            → IsCfbAt s (C.encrypted cipher.now) iv (c ++ bytes.old) self.new }
-        ensures decrypted { (s : ℕ) (iv c : List ℕ)
-            → IsCfbAt s (C.encrypted cipher.now) iv c self.old
-            → XorsFrom (length c) (cfb_stream s (C.encrypted cipher.now) iv (c ++ bytes.old))
+            → IsCfbAt s (C.encrypted cipher.now) iv
+            (c ++ ciphertext direction bytes.old bytes.new) self.new }
+        ensures xored { (s : ℕ) (iv c : List ℕ) → IsCfbAt s (C.encrypted cipher.now) iv c self.old
+            → XorsFrom (length c)
+            (cfb_stream s (C.encrypted cipher.now) iv (c ++ ciphertext direction bytes.old bytes.new))
             bytes.old bytes.new }
     {
         let output = self.current(cipher);
         let used = self.used;
-        self.advance(&output, bytes);
-        xor_from(bytes, &output, used);
+        match direction {
+            Direction::Encrypt => {
+                xor_from(bytes, &output, used);
+                self.advance(&output, bytes);
+            }
+            Direction::Decrypt => {
+                self.advance(&output, bytes);
+                xor_from(bytes, &output, used);
+            }
+        }
     }
 
     // Decrypts segments together, of which the last may be cut short.
@@ -197,8 +212,8 @@ impl Register {
             bytes.old bytes.new }
     {
         let mut joined = [0; 8 + 8 * TOGETHER];
-        write_joined(&mut joined, &self.register, bytes);
-        let inputs = &joined[..8 + bytes.len()];
+        let inputs = &mut joined[..8 + bytes.len()];
+        write_joined(inputs, &self.register, bytes);
         let mut blocks = [[0; 8]; TOGETHER];
         let part = &mut blocks[..count_of(bytes.len(), self.segment)];
         write_outputs(cipher, part, inputs, self.segment);
@@ -208,73 +223,63 @@ impl Register {
         self.output = block_at(part, bytes.len() / self.segment);
     }
 
-    // Decrypts bytes of a segment that has begun, or segments together.
-    fn decrypt_part<C: BlockCipherEncrypt>(&mut self, cipher: &C, bytes: &mut [u8])
-        requires { length bytes.old ≤ part_at_most self.old.segment self.old.used }
-        ensures after { (s : ℕ) (iv c : List ℕ) → IsCfbAt s (C.encrypted cipher.now) iv c self.old
-            → IsCfbAt s (C.encrypted cipher.now) iv (c ++ bytes.old) self.new }
-        ensures decrypted { (s : ℕ) (iv c : List ℕ)
-            → IsCfbAt s (C.encrypted cipher.now) iv c self.old
-            → XorsFrom (length c) (cfb_stream s (C.encrypted cipher.now) iv (c ++ bytes.old))
-            bytes.old bytes.new }
-    {
-        if self.used == 0 {
-            self.decrypt_segments(cipher, bytes);
-        } else {
-            self.decrypt_in_segment(cipher, bytes);
-        }
-    }
-
-    // The most bytes that may be decrypted together.
-    fn most(&self) -> usize
+    // The most bytes that may be encrypted or decrypted together.
+    fn most(&self, direction: Direction) -> usize
         ensures some { 1 ≤ result }
-        ensures most { result ≡ part_at_most self.now.segment self.now.used }
+        ensures most { result ≡ part_at_most direction self.now.segment self.now.used }
     {
-        if self.used == 0 {
-            self.segment * TOGETHER
-        } else {
-            self.segment - self.used
+        match direction {
+            Direction::Decrypt if self.used == 0 => self.segment * TOGETHER,
+            _ => self.segment - self.used,
         }
     }
 
-    /// Decrypts the next bytes of the stream in place. However a text is cut into pieces, they become
-    /// what the whole becomes.
-    pub fn decrypt<C: BlockCipherEncrypt>(&mut self, cipher: &C, bytes: &mut [u8])
+    // Encrypts or decrypts bytes of one segment, or decrypts segments together.
+    fn apply_part<C: BlockCipherEncrypt>(
+        &mut self,
+        direction: Direction,
+        cipher: &C,
+        bytes: &mut [u8],
+    )
+        requires { length bytes.old ≤ part_at_most direction self.old.segment self.old.used }
         ensures after { (s : ℕ) (iv c : List ℕ) → IsCfbAt s (C.encrypted cipher.now) iv c self.old
-            → IsCfbAt s (C.encrypted cipher.now) iv (c ++ bytes.old) self.new }
-        ensures decrypted { (s : ℕ) (iv c : List ℕ)
-            → IsCfbAt s (C.encrypted cipher.now) iv c self.old
-            → XorsFrom (length c) (cfb_stream s (C.encrypted cipher.now) iv (c ++ bytes.old))
-            bytes.new bytes.old }
-        ensures whole { (s : ℕ) (iv c p : List ℕ) → IsCfbAt s (C.encrypted cipher.now) iv c self.old
-            → Cfb s (C.encrypted cipher.now) iv p c
-            → Cfb s (C.encrypted cipher.now) iv (p ++ bytes.new) (c ++ bytes.old) }
-    {
-        let mut from = 0;
-        'parts: while from < bytes.len() {
-            let count = self.most().min(bytes.len() - from);
-            self.decrypt_part(cipher, &mut bytes[from..from + count]);
-            from += count;
-        }
-    }
-
-    /// Encrypts the next bytes of the stream in place. However a text is cut into pieces, they become
-    /// what the whole becomes.
-    pub fn encrypt<C: BlockCipherEncrypt>(&mut self, cipher: &C, bytes: &mut [u8])
-        ensures after { (s : ℕ) (iv c : List ℕ) → IsCfbAt s (C.encrypted cipher.now) iv c self.old
-            → IsCfbAt s (C.encrypted cipher.now) iv (c ++ bytes.new) self.new }
-        ensures encrypted { (s : ℕ) (iv c : List ℕ)
-            → IsCfbAt s (C.encrypted cipher.now) iv c self.old
-            → XorsFrom (length c) (cfb_stream s (C.encrypted cipher.now) iv (c ++ bytes.new))
+            → IsCfbAt s (C.encrypted cipher.now) iv
+            (c ++ ciphertext direction bytes.old bytes.new) self.new }
+        ensures xored { (s : ℕ) (iv c : List ℕ) → IsCfbAt s (C.encrypted cipher.now) iv c self.old
+            → XorsFrom (length c)
+            (cfb_stream s (C.encrypted cipher.now) iv (c ++ ciphertext direction bytes.old bytes.new))
             bytes.old bytes.new }
+    {
+        match direction {
+            Direction::Decrypt if self.used == 0 => self.decrypt_segments(cipher, bytes),
+            _ => self.apply_in_segment(direction, cipher, bytes),
+        }
+    }
+
+    /// Encrypts or decrypts the next bytes of the stream in place. However a text is cut into pieces,
+    /// they become what the whole becomes.
+    pub fn apply<C: BlockCipherEncrypt>(
+        &mut self,
+        direction: Direction,
+        cipher: &C,
+        bytes: &mut [u8],
+    )
+        ensures after { (s : ℕ) (iv c : List ℕ) → IsCfbAt s (C.encrypted cipher.now) iv c self.old
+            → IsCfbAt s (C.encrypted cipher.now) iv
+            (c ++ ciphertext direction bytes.old bytes.new) self.new }
+        ensures xored { (s : ℕ) (iv c : List ℕ) → IsCfbAt s (C.encrypted cipher.now) iv c self.old
+            → XorsFrom (length c)
+            (cfb_stream s (C.encrypted cipher.now) iv (c ++ ciphertext direction bytes.old bytes.new))
+            (plaintext direction bytes.old bytes.new) (ciphertext direction bytes.old bytes.new) }
         ensures whole { (s : ℕ) (iv c p : List ℕ) → IsCfbAt s (C.encrypted cipher.now) iv c self.old
-            → Cfb s (C.encrypted cipher.now) iv p c
-            → Cfb s (C.encrypted cipher.now) iv (p ++ bytes.old) (c ++ bytes.new) }
+            → Cfb s (C.encrypted cipher.now) iv p c → Cfb s (C.encrypted cipher.now) iv
+            (p ++ plaintext direction bytes.old bytes.new)
+            (c ++ ciphertext direction bytes.old bytes.new) }
     {
         let mut from = 0;
         'parts: while from < bytes.len() {
-            let count = (self.segment - self.used).min(bytes.len() - from);
-            self.encrypt_in_segment(cipher, &mut bytes[from..from + count]);
+            let count = self.most(direction).min(bytes.len() - from);
+            self.apply_part(direction, cipher, &mut bytes[from..from + count]);
             from += count;
         }
     }
@@ -289,7 +294,7 @@ pub fn encrypt<C: BlockCipherEncrypt>(cipher: &C, iv: &[u8; 8], segment: usize, 
     requires short { segment ≤ 8 }
     ensures { Cfb segment (C.encrypted cipher.now) iv.now bytes.old bytes.new }
 {
-    Register::new(iv, segment).encrypt(cipher, bytes);
+    Register::new(iv, segment).apply(Direction::Encrypt, cipher, bytes);
 }
 
 /// Decrypts in place what `encrypt` makes with the same vector and segments:
@@ -301,5 +306,5 @@ pub fn decrypt<C: BlockCipherEncrypt>(cipher: &C, iv: &[u8; 8], segment: usize, 
     ensures undone { (text : List ℕ) → Cfb segment (C.encrypted cipher.now) iv.now text bytes.old
         → bytes.new ≡ text }
 {
-    Register::new(iv, segment).decrypt(cipher, bytes);
+    Register::new(iv, segment).apply(Direction::Decrypt, cipher, bytes);
 }

@@ -5,7 +5,9 @@ ghost use Rattle.std.specs.Prelude.{◌≡◌, ◌<◌, ◌≤◌, ◌*◌, ◌+
 ghost use Rattle.des.specs.Bits.{bits_of_bytes, xor};
 ghost use Rattle.des.specs.Blocks.{block_of_bits};
 ghost use Rattle.des_modes.specs.CfbBits.{Cfb1, XorsBitsFrom, block_bit, cfb_bits, first_bits};
+ghost use Rattle.des_modes.specs.Directions.{plaintext, ciphertext};
 
+use crate::direction::Direction;
 use des::cipher::{BlockCipherEncrypt, are_bytes};
 
 // The bit at a place.
@@ -33,7 +35,7 @@ pub struct BitRegister {
 }
 
 impl BitRegister {
-    ghost use Rattle.des_modes.specs.CfbBitStates.{IsCfbBitsAt};
+    ghost use Rattle.des_modes.specs.States.{IsCfbBitsAt};
 
     /// The place after these 64 bits of ciphertext, or at the beginning of the initialization vector. To
     /// decrypt a part, no others are needed.
@@ -59,53 +61,40 @@ impl BitRegister {
     // Shifts a bit of the ciphertext into the register from the right.
     fn advance(&mut self, bit: bool)
         ensures { bits_of_bytes self.new.register
-            ≡ drop 1 (bits_of_bytes self.old.register) ++ bit ∷ [] }
+            ≡ drop 1 (bits_of_bytes self.old.register ++ bit ∷ []) }
     {
         are_bytes(&self.register);
         let word = u64::from_be_bytes(self.register);
         self.register = ((word << 1) | u64::from(bit)).to_be_bytes();
     }
 
-    /// Encrypts the next bits of the stream in place, the first `bits` bits of the bytes. The others stay
-    /// as they are. However a text is cut into pieces, they become what the whole becomes.
-    pub fn encrypt<C: BlockCipherEncrypt>(&mut self, cipher: &C, bytes: &mut [u8], bits: usize)
+    /// Encrypts or decrypts the next bits of the stream in place, the first `bits` bits of the bytes. The
+    /// others stay as they are. However a text is cut into pieces, they become what the whole becomes.
+    pub fn apply<C: BlockCipherEncrypt>(
+        &mut self,
+        direction: Direction,
+        cipher: &C,
+        bytes: &mut [u8],
+        bits: usize,
+    )
         requires { bits ≤ 8 * length bytes.old }
-        ensures after { (iv : List ℕ) (c : List Bool) → IsCfbBitsAt iv c self.old
-            → IsCfbBitsAt iv (c ++ first_bits bits bytes.new) self.new }
-        ensures encrypted { (iv : List ℕ) (c : List Bool) → IsCfbBitsAt iv c self.old
-            → XorsBitsFrom (length c)
-            (cfb_bits 1 (C.encrypted cipher.now) iv (c ++ first_bits bits bytes.new))
-            (first_bits bits bytes.old) (first_bits bits bytes.new) }
+        ensures after { (iv : List ℕ) (c : List Bool) → IsCfbBitsAt iv c self.old → IsCfbBitsAt iv
+            (c ++ first_bits bits (ciphertext direction bytes.old bytes.new)) self.new }
+        ensures xored { (iv : List ℕ) (c : List Bool) → IsCfbBitsAt iv c self.old
+            → XorsBitsFrom (length c) (cfb_bits 1 (C.encrypted cipher.now) iv
+            (c ++ first_bits bits (ciphertext direction bytes.old bytes.new)))
+            (first_bits bits (plaintext direction bytes.old bytes.new))
+            (first_bits bits (ciphertext direction bytes.old bytes.new)) }
         ensures whole { (iv : List ℕ) (p c : List Bool) → IsCfbBitsAt iv c self.old
             → Cfb1 (C.encrypted cipher.now) iv p c → Cfb1 (C.encrypted cipher.now) iv
-            (p ++ first_bits bits bytes.old) (c ++ first_bits bits bytes.new) }
+            (p ++ first_bits bits (plaintext direction bytes.old bytes.new))
+            (c ++ first_bits bits (ciphertext direction bytes.old bytes.new)) }
         ensures rest { drop bits (bits_of_bytes bytes.new) ≡ drop bits (bits_of_bytes bytes.old) }
     {
         'bits: for place in 0..bits {
+            let old = bit_at(bytes, place);
             xor_bit(bytes, place, self.key_bit(cipher));
-            self.advance(bit_at(bytes, place));
-        }
-    }
-
-    /// Decrypts the next bits of the stream in place, the first `bits` bits of the bytes. The others stay
-    /// as they are. However a text is cut into pieces, they become what the whole becomes.
-    pub fn decrypt<C: BlockCipherEncrypt>(&mut self, cipher: &C, bytes: &mut [u8], bits: usize)
-        requires { bits ≤ 8 * length bytes.old }
-        ensures after { (iv : List ℕ) (c : List Bool) → IsCfbBitsAt iv c self.old
-            → IsCfbBitsAt iv (c ++ first_bits bits bytes.old) self.new }
-        ensures decrypted { (iv : List ℕ) (c : List Bool) → IsCfbBitsAt iv c self.old
-            → XorsBitsFrom (length c)
-            (cfb_bits 1 (C.encrypted cipher.now) iv (c ++ first_bits bits bytes.old))
-            (first_bits bits bytes.new) (first_bits bits bytes.old) }
-        ensures whole { (iv : List ℕ) (p c : List Bool) → IsCfbBitsAt iv c self.old
-            → Cfb1 (C.encrypted cipher.now) iv p c → Cfb1 (C.encrypted cipher.now) iv
-            (p ++ first_bits bits bytes.new) (c ++ first_bits bits bytes.old) }
-        ensures rest { drop bits (bits_of_bytes bytes.new) ≡ drop bits (bits_of_bytes bytes.old) }
-    {
-        'bits: for place in 0..bits {
-            let bit = bit_at(bytes, place);
-            xor_bit(bytes, place, self.key_bit(cipher));
-            self.advance(bit);
+            self.advance(direction.ciphertext(old, bit_at(bytes, place)));
         }
     }
 }
@@ -120,7 +109,7 @@ pub fn encrypt<C: BlockCipherEncrypt>(cipher: &C, iv: &[u8; 8], bytes: &mut [u8]
         (first_bits bits bytes.old) (first_bits bits bytes.new) }
     ensures rest { drop bits (bits_of_bytes bytes.new) ≡ drop bits (bits_of_bytes bytes.old) }
 {
-    BitRegister::new(iv).encrypt(cipher, bytes, bits);
+    BitRegister::new(iv).apply(Direction::Encrypt, cipher, bytes, bits);
 }
 
 /// Decrypts in place what `encrypt` makes with the same vector, the first `bits` bits of the bytes. The
@@ -134,5 +123,5 @@ pub fn decrypt<C: BlockCipherEncrypt>(cipher: &C, iv: &[u8; 8], bytes: &mut [u8]
         → first_bits bits bytes.new ≡ text }
     ensures rest { drop bits (bits_of_bytes bytes.new) ≡ drop bits (bits_of_bytes bytes.old) }
 {
-    BitRegister::new(iv).decrypt(cipher, bytes, bits);
+    BitRegister::new(iv).apply(Direction::Decrypt, cipher, bytes, bits);
 }

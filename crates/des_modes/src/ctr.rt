@@ -7,7 +7,7 @@ ghost use Rattle.std.specs.Int.{w64, to_be_bytes, from_be_bytes};
 ghost use Rattle.des_modes.specs.Ctr.{Ctr, ctr_stream};
 ghost use Rattle.des_modes.specs.Streams.{XorsFrom};
 
-use crate::xored::xor_from;
+use crate::xored::xor_blocks_from;
 use des::cipher::BlockCipherEncrypt;
 
 // The blocks that are encrypted together: a cipher may treat some of them side by side.
@@ -32,16 +32,6 @@ fn write_outputs<C: BlockCipherEncrypt>(cipher: &C, blocks: &mut [[u8; 8]], coun
 {
     write_counters(blocks, counter);
     cipher.encrypt_blocks(blocks);
-}
-
-// Each byte of the data becomes its xor with a byte of the blocks, from their byte `from` on.
-fn xor_blocks_from(bytes: &mut [u8], blocks: &[[u8; 8]], from: usize)
-    requires { from + length bytes.old ≤ 8 * length blocks.now }
-    ensures { (i : ℕ) → i < length bytes.old → slice_index bytes.new i
-        ≡ bit_xor (slice_index bytes.old i)
-        (slice_index (slice_index_or blocks.now ((from + i) / 8) []) ((from + i) % 8)) }
-{
-    xor_from(bytes, blocks.as_flattened(), from);
 }
 
 // Encrypts or decrypts bytes by the output blocks of a counter and of those that follow it, from byte
@@ -69,7 +59,7 @@ pub struct Counter {
 }
 
 impl Counter {
-    ghost use Rattle.des_modes.specs.CtrStates.{IsCtrAt};
+    ghost use Rattle.des_modes.specs.States.{IsCtrAt};
 
     /// The beginning of the stream whose first counter block is `block`.
     pub fn new(block: &[u8; 8]) -> Counter

@@ -12,6 +12,7 @@ pub mod cfb_bits;
 mod checks;
 pub mod cms_key_wrap;
 pub mod ctr;
+pub mod direction;
 pub mod lists;
 pub mod modes;
 pub mod ofb;
@@ -20,4 +21,5 @@ pub mod tkw;
 pub mod unwrap_error;
 mod xored;
 
+pub use direction::Direction;
 pub use unwrap_error::UnwrapError;

@@ -9,7 +9,7 @@ pub const CTR: u32 = 31;
 /// The number of output feedback.
 pub const OFB: u32 = 32;
 
-/// The number of cipher feedback of one bit. That with segments of 1 to 8 bytes has so many more: 41 is
+/// The number of cipher feedback of one bit. 41 to 48 are those with segments of 1 to 8 bytes: 41 is
 /// that of 8 bits, 48 that of 64.
 pub const CFB1: u32 = 40;
 
@@ -22,7 +22,7 @@ pub enum Mode {
     OutputFeedback,
     /// Cipher feedback of one bit.
     BitFeedback,
-    /// Cipher feedback with segments of so many bytes.
+    /// Cipher feedback with segments of 1 to 8 bytes, as many as it holds.
     CipherFeedback(usize),
 }
 

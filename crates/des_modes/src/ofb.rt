@@ -18,7 +18,7 @@ pub struct Feedback {
 }
 
 impl Feedback {
-    ghost use Rattle.des_modes.specs.OfbStates.{IsOfbAt};
+    ghost use Rattle.des_modes.specs.States.{IsOfbAt};
 
     /// The beginning of the stream of an initialization vector.
     pub fn new(iv: &[u8; 8]) -> Feedback

@@ -4,18 +4,19 @@ ghost use Rattle.std.specs.Prelude.{◌≡◌, ◌<◌, ◌≤◌, ◌+◌, ◌*
 ghost use Rattle.des.specs.Bits.{bits_of_bytes};
 ghost use Rattle.des.specs.Blocks.{AreBytes, IsBlock};
 ghost use Rattle.des_modes.specs.Cfb.{Cfb};
-ghost use Rattle.des_modes.specs.CfbBits.{Cfb1, first_bits};
+ghost use Rattle.des_modes.specs.CfbBits.{Cfb1, XorsBitsFrom, cfb_bits, first_bits};
 ghost use Rattle.des_modes.specs.Ctr.{Ctr};
+ghost use Rattle.des_modes.specs.Directions.{plaintext, ciphertext};
 ghost use Rattle.des_modes.specs.Modes.{InMode, IsMode};
 ghost use Rattle.des_modes.specs.Ofb.{Ofb};
-ghost use Rattle.des_modes.specs.StreamStates.{HasBegun, IsBitStreamAt, IsCfbBitPlace, IsCfbPlace, IsCtrPlace, IsInMode, IsOfbPlace, IsPlace, IsSound, IsStreamAt, size_of};
-ghost use Rattle.des_modes.specs.CfbStates.{IsCfbAt};
-ghost use Rattle.des_modes.specs.declared.modes.Mode.TheVariants.{BitFeedback};
+ghost use Rattle.des_modes.specs.StreamStates.{HasBegun, IsBitStreamAt, IsCfbBitPlace, IsInMode, IsPlace, IsSound, IsStreamAt, size_of};
+ghost use Rattle.des_modes.specs.declared.modes.Mode.TheVariants.{BitFeedback, CipherFeedback, Counter as CounterMode, OutputFeedback};
 ghost use Rattle.des_modes.specs.declared.modes.TheConstants.{CFB1, CTR};
 
 use crate::cfb::Register;
 use crate::cfb_bits::BitRegister;
 use crate::ctr::Counter;
+use crate::direction::Direction;
 use crate::modes::{CTR, Mode};
 use crate::ofb::Feedback;
 use des::cipher::{BlockCipherEncrypt, are_bytes};
@@ -48,13 +49,20 @@ impl Place {
     }
 
     // Encrypts or decrypts the bytes that come next by the counter mode.
-    fn apply_ctr<C: BlockCipherEncrypt>(&mut self, cipher: &C, bytes: &mut [u8])
+    fn apply_ctr<C: BlockCipherEncrypt>(
+        &mut self,
+        direction: Direction,
+        cipher: &C,
+        bytes: &mut [u8],
+    )
         requires { self.old.used < 8 }
-        ensures after { (t : List ℕ) (n : ℕ) → IsCtrPlace t n self.old
-            → IsCtrPlace t (n + length bytes.old) self.new }
-        ensures whole { (t p c : List ℕ) → IsCtrPlace t (length p) self.old
-            → Ctr (C.encrypted cipher.now) t p c
-            → Ctr (C.encrypted cipher.now) t (p ++ bytes.old) (c ++ bytes.new) }
+        ensures after { (iv c : List ℕ) → IsPlace CounterMode (C.encrypted cipher.now) iv c self.old
+            → IsPlace CounterMode (C.encrypted cipher.now) iv
+            (c ++ ciphertext direction bytes.old bytes.new) self.new }
+        ensures made { (iv p c : List ℕ) → IsPlace CounterMode (C.encrypted cipher.now) iv c self.old
+            → Ctr (C.encrypted cipher.now) iv p c → Ctr (C.encrypted cipher.now) iv
+            (p ++ plaintext direction bytes.old bytes.new)
+            (c ++ ciphertext direction bytes.old bytes.new) }
     {
         let mut counter = Counter {
             counter: u64::from_be_bytes(self.register),
@@ -66,14 +74,22 @@ impl Place {
     }
 
     // Encrypts or decrypts the bytes that come next by output feedback.
-    fn apply_ofb<C: BlockCipherEncrypt>(&mut self, cipher: &C, bytes: &mut [u8])
+    fn apply_ofb<C: BlockCipherEncrypt>(
+        &mut self,
+        direction: Direction,
+        cipher: &C,
+        bytes: &mut [u8],
+    )
         requires { self.old.used < 8 }
-        ensures after { (iv : List ℕ) (n : ℕ) → IsOfbPlace (C.encrypted cipher.now) iv n self.old
-            → IsOfbPlace (C.encrypted cipher.now) iv (n + length bytes.old) self.new }
-        ensures whole { (iv p c : List ℕ)
-            → IsOfbPlace (C.encrypted cipher.now) iv (length p) self.old
-            → Ofb (C.encrypted cipher.now) iv p c
-            → Ofb (C.encrypted cipher.now) iv (p ++ bytes.old) (c ++ bytes.new) }
+        ensures after { (iv c : List ℕ)
+            → IsPlace OutputFeedback (C.encrypted cipher.now) iv c self.old
+            → IsPlace OutputFeedback (C.encrypted cipher.now) iv
+            (c ++ ciphertext direction bytes.old bytes.new) self.new }
+        ensures made { (iv p c : List ℕ)
+            → IsPlace OutputFeedback (C.encrypted cipher.now) iv c self.old
+            → Ofb (C.encrypted cipher.now) iv p c → Ofb (C.encrypted cipher.now) iv
+            (p ++ plaintext direction bytes.old bytes.new)
+            (c ++ ciphertext direction bytes.old bytes.new) }
     {
         let mut feedback = Feedback {
             block: self.register,
@@ -84,178 +100,122 @@ impl Place {
         self.used = feedback.used;
     }
 
-    // The shift register at this place.
-    fn register_by(&self, segment: usize) -> Register
+    // Encrypts or decrypts the bytes that come next by cipher feedback.
+    fn apply_cfb<C: BlockCipherEncrypt>(
+        &mut self,
+        direction: Direction,
+        segment: usize,
+        cipher: &C,
+        bytes: &mut [u8],
+    )
         requires some { 1 ≤ segment }
         requires short { segment ≤ 8 }
-        requires fits { self.now.used < segment }
-        ensures { (encryption : List ℕ → List ℕ) (iv c : List ℕ)
-            → IsCfbPlace segment encryption iv c self.now → IsCfbAt segment encryption iv c result }
+        requires fits { self.old.used < segment }
+        ensures after { (iv c : List ℕ)
+            → IsPlace (CipherFeedback segment) (C.encrypted cipher.now) iv c self.old
+            → IsPlace (CipherFeedback segment) (C.encrypted cipher.now) iv
+            (c ++ ciphertext direction bytes.old bytes.new) self.new }
+        ensures made { (iv p c : List ℕ)
+            → IsPlace (CipherFeedback segment) (C.encrypted cipher.now) iv c self.old
+            → Cfb segment (C.encrypted cipher.now) iv p c → Cfb segment (C.encrypted cipher.now) iv
+            (p ++ plaintext direction bytes.old bytes.new)
+            (c ++ ciphertext direction bytes.old bytes.new) }
     {
-        Register {
+        let mut register = Register {
             register: self.register,
             output: self.output,
             segment,
             used: self.used,
-        }
+        };
+        register.apply(direction, cipher, bytes);
+        self.register = register.register;
+        self.output = register.output;
+        self.used = register.used;
     }
 
-    // The place of a shift register.
-    fn of_register(register: &Register) -> Place
-        ensures { (s : ℕ) (encryption : List ℕ → List ℕ) (iv c : List ℕ)
-            → IsCfbAt s encryption iv c register.now → IsCfbPlace s encryption iv c result }
-    {
-        Place {
-            register: register.register,
-            output: register.output,
-            used: register.used,
-        }
-    }
-
-    // Encrypts the bytes that come next by cipher feedback.
-    fn encrypt_cfb<C: BlockCipherEncrypt>(&mut self, segment: usize, cipher: &C, bytes: &mut [u8])
-        requires some { 1 ≤ segment }
-        requires short { segment ≤ 8 }
-        requires fits { self.old.used < segment }
-        ensures after { (iv c : List ℕ) → IsCfbPlace segment (C.encrypted cipher.now) iv c self.old
-            → IsCfbPlace segment (C.encrypted cipher.now) iv (c ++ bytes.new) self.new }
-        ensures whole { (iv c p : List ℕ)
-            → IsCfbPlace segment (C.encrypted cipher.now) iv c self.old
-            → Cfb segment (C.encrypted cipher.now) iv p c
-            → Cfb segment (C.encrypted cipher.now) iv (p ++ bytes.old) (c ++ bytes.new) }
-    {
-        let mut register = self.register_by(segment);
-        register.encrypt(cipher, bytes);
-        *self = Place::of_register(&register);
-    }
-
-    // Decrypts the bytes that come next by cipher feedback.
-    fn decrypt_cfb<C: BlockCipherEncrypt>(&mut self, segment: usize, cipher: &C, bytes: &mut [u8])
-        requires some { 1 ≤ segment }
-        requires short { segment ≤ 8 }
-        requires fits { self.old.used < segment }
-        ensures after { (iv c : List ℕ) → IsCfbPlace segment (C.encrypted cipher.now) iv c self.old
-            → IsCfbPlace segment (C.encrypted cipher.now) iv (c ++ bytes.old) self.new }
-        ensures whole { (iv c p : List ℕ)
-            → IsCfbPlace segment (C.encrypted cipher.now) iv c self.old
-            → Cfb segment (C.encrypted cipher.now) iv p c
-            → Cfb segment (C.encrypted cipher.now) iv (p ++ bytes.new) (c ++ bytes.old) }
-    {
-        let mut register = self.register_by(segment);
-        register.decrypt(cipher, bytes);
-        *self = Place::of_register(&register);
-    }
-
-    // Encrypts the bits that come next by cipher feedback of one bit.
-    fn encrypt_bits<C: BlockCipherEncrypt>(&mut self, cipher: &C, bytes: &mut [u8], bits: usize)
+    // Encrypts or decrypts the bits that come next by cipher feedback of one bit.
+    fn apply_bits<C: BlockCipherEncrypt>(
+        &mut self,
+        direction: Direction,
+        cipher: &C,
+        bytes: &mut [u8],
+        bits: usize,
+    )
         requires { bits ≤ 8 * length bytes.old }
         ensures after { (iv : List ℕ) (c : List Bool) → IsCfbBitPlace iv c self.old
-            → IsCfbBitPlace iv (c ++ first_bits bits bytes.new) self.new }
+            → IsCfbBitPlace iv
+            (c ++ first_bits bits (ciphertext direction bytes.old bytes.new)) self.new }
+        ensures xored { (iv : List ℕ) (c : List Bool) → IsCfbBitPlace iv c self.old
+            → XorsBitsFrom (length c) (cfb_bits 1 (C.encrypted cipher.now) iv
+            (c ++ first_bits bits (ciphertext direction bytes.old bytes.new)))
+            (first_bits bits (plaintext direction bytes.old bytes.new))
+            (first_bits bits (ciphertext direction bytes.old bytes.new)) }
         ensures whole { (iv : List ℕ) (p c : List Bool) → IsCfbBitPlace iv c self.old
             → Cfb1 (C.encrypted cipher.now) iv p c → Cfb1 (C.encrypted cipher.now) iv
-            (p ++ first_bits bits bytes.old) (c ++ first_bits bits bytes.new) }
+            (p ++ first_bits bits (plaintext direction bytes.old bytes.new))
+            (c ++ first_bits bits (ciphertext direction bytes.old bytes.new)) }
         ensures rest { drop bits (bits_of_bytes bytes.new) ≡ drop bits (bits_of_bytes bytes.old) }
         ensures used { self.new.used ≡ self.old.used }
     {
         let mut register = BitRegister {
             register: self.register,
         };
-        register.encrypt(cipher, bytes, bits);
+        register.apply(direction, cipher, bytes, bits);
         self.register = register.register;
     }
 
-    // Decrypts the bits that come next by cipher feedback of one bit.
-    fn decrypt_bits<C: BlockCipherEncrypt>(&mut self, cipher: &C, bytes: &mut [u8], bits: usize)
-        requires { bits ≤ 8 * length bytes.old }
+    // Encrypts or decrypts the bytes that come next by cipher feedback of one bit: byte by byte, since
+    // eight times their number may not fit its type.
+    fn apply_cfb1<C: BlockCipherEncrypt>(
+        &mut self,
+        direction: Direction,
+        cipher: &C,
+        bytes: &mut [u8],
+    )
         ensures after { (iv : List ℕ) (c : List Bool) → IsCfbBitPlace iv c self.old
-            → IsCfbBitPlace iv (c ++ first_bits bits bytes.old) self.new }
+            → IsCfbBitPlace iv
+            (c ++ bits_of_bytes (ciphertext direction bytes.old bytes.new)) self.new }
         ensures whole { (iv : List ℕ) (p c : List Bool) → IsCfbBitPlace iv c self.old
             → Cfb1 (C.encrypted cipher.now) iv p c → Cfb1 (C.encrypted cipher.now) iv
-            (p ++ first_bits bits bytes.new) (c ++ first_bits bits bytes.old) }
-        ensures rest { drop bits (bits_of_bytes bytes.new) ≡ drop bits (bits_of_bytes bytes.old) }
-        ensures used { self.new.used ≡ self.old.used }
-    {
-        let mut register = BitRegister {
-            register: self.register,
-        };
-        register.decrypt(cipher, bytes, bits);
-        self.register = register.register;
-    }
-
-    // Encrypts the bytes that come next by cipher feedback of one bit: byte by byte, since eight times
-    // their number may not fit its type.
-    fn encrypt_cfb1<C: BlockCipherEncrypt>(&mut self, cipher: &C, bytes: &mut [u8])
-        ensures after { (iv : List ℕ) (c : List Bool) → IsCfbBitPlace iv c self.old
-            → IsCfbBitPlace iv (c ++ bits_of_bytes bytes.new) self.new }
-        ensures whole { (iv : List ℕ) (p c : List Bool) → IsCfbBitPlace iv c self.old
-            → Cfb1 (C.encrypted cipher.now) iv p c → Cfb1 (C.encrypted cipher.now) iv
-            (p ++ bits_of_bytes bytes.old) (c ++ bits_of_bytes bytes.new) }
+            (p ++ bits_of_bytes (plaintext direction bytes.old bytes.new))
+            (c ++ bits_of_bytes (ciphertext direction bytes.old bytes.new)) }
     {
         'bytes: for i in 0..bytes.len() {
-            self.encrypt_bits(cipher, &mut bytes[i..i + 1], 8);
+            self.apply_bits(direction, cipher, &mut bytes[i..i + 1], 8);
         }
     }
 
-    // Decrypts the bytes that come next by cipher feedback of one bit.
-    fn decrypt_cfb1<C: BlockCipherEncrypt>(&mut self, cipher: &C, bytes: &mut [u8])
-        ensures after { (iv : List ℕ) (c : List Bool) → IsCfbBitPlace iv c self.old
-            → IsCfbBitPlace iv (c ++ bits_of_bytes bytes.old) self.new }
-        ensures whole { (iv : List ℕ) (p c : List Bool) → IsCfbBitPlace iv c self.old
-            → Cfb1 (C.encrypted cipher.now) iv p c → Cfb1 (C.encrypted cipher.now) iv
-            (p ++ bits_of_bytes bytes.new) (c ++ bits_of_bytes bytes.old) }
-    {
-        'bytes: for i in 0..bytes.len() {
-            self.decrypt_bits(cipher, &mut bytes[i..i + 1], 8);
-        }
-    }
-
-    // Encrypts the bytes that come next in a mode.
-    fn encrypt<C: BlockCipherEncrypt>(&mut self, mode: Mode, cipher: &C, bytes: &mut [u8])
+    // Encrypts or decrypts the bytes that come next in a mode.
+    fn apply<C: BlockCipherEncrypt>(
+        &mut self,
+        direction: Direction,
+        mode: Mode,
+        cipher: &C,
+        bytes: &mut [u8],
+    )
         requires sound { IsSound mode }
         requires fits { self.old.used < size_of mode }
         ensures after { (iv c : List ℕ) → IsPlace mode (C.encrypted cipher.now) iv c self.old
-            → IsPlace mode (C.encrypted cipher.now) iv (c ++ bytes.new) self.new }
+            → IsPlace mode (C.encrypted cipher.now) iv
+            (c ++ ciphertext direction bytes.old bytes.new) self.new }
         ensures made { (iv p c : List ℕ) → IsPlace mode (C.encrypted cipher.now) iv c self.old
-            → InMode mode (C.encrypted cipher.now) iv p c
-            → InMode mode (C.encrypted cipher.now) iv (p ++ bytes.old) (c ++ bytes.new) }
+            → InMode mode (C.encrypted cipher.now) iv p c → InMode mode (C.encrypted cipher.now) iv
+            (p ++ plaintext direction bytes.old bytes.new)
+            (c ++ ciphertext direction bytes.old bytes.new) }
         ensures after_bits { mode ≡ BitFeedback → (iv : List ℕ) (c : List Bool)
-            → IsCfbBitPlace iv c self.old
-            → IsCfbBitPlace iv (c ++ bits_of_bytes bytes.new) self.new }
+            → IsCfbBitPlace iv c self.old → IsCfbBitPlace iv
+            (c ++ bits_of_bytes (ciphertext direction bytes.old bytes.new)) self.new }
         ensures made_bits { mode ≡ BitFeedback → (iv : List ℕ) (p c : List Bool)
             → IsCfbBitPlace iv c self.old
             → Cfb1 (C.encrypted cipher.now) iv p c → Cfb1 (C.encrypted cipher.now) iv
-            (p ++ bits_of_bytes bytes.old) (c ++ bits_of_bytes bytes.new) }
+            (p ++ bits_of_bytes (plaintext direction bytes.old bytes.new))
+            (c ++ bits_of_bytes (ciphertext direction bytes.old bytes.new)) }
     {
         match mode {
-            Mode::Counter => self.apply_ctr(cipher, bytes),
-            Mode::OutputFeedback => self.apply_ofb(cipher, bytes),
-            Mode::BitFeedback => self.encrypt_cfb1(cipher, bytes),
-            Mode::CipherFeedback(segment) => self.encrypt_cfb(segment, cipher, bytes),
-        }
-    }
-
-    // Decrypts the bytes that come next in a mode.
-    fn decrypt<C: BlockCipherEncrypt>(&mut self, mode: Mode, cipher: &C, bytes: &mut [u8])
-        requires sound { IsSound mode }
-        requires fits { self.old.used < size_of mode }
-        ensures after { (iv c : List ℕ) → IsPlace mode (C.encrypted cipher.now) iv c self.old
-            → IsPlace mode (C.encrypted cipher.now) iv (c ++ bytes.old) self.new }
-        ensures made { (iv p c : List ℕ) → IsPlace mode (C.encrypted cipher.now) iv c self.old
-            → InMode mode (C.encrypted cipher.now) iv p c
-            → InMode mode (C.encrypted cipher.now) iv (p ++ bytes.new) (c ++ bytes.old) }
-        ensures after_bits { mode ≡ BitFeedback → (iv : List ℕ) (c : List Bool)
-            → IsCfbBitPlace iv c self.old
-            → IsCfbBitPlace iv (c ++ bits_of_bytes bytes.old) self.new }
-        ensures made_bits { mode ≡ BitFeedback → (iv : List ℕ) (p c : List Bool)
-            → IsCfbBitPlace iv c self.old
-            → Cfb1 (C.encrypted cipher.now) iv p c → Cfb1 (C.encrypted cipher.now) iv
-            (p ++ bits_of_bytes bytes.new) (c ++ bits_of_bytes bytes.old) }
-    {
-        match mode {
-            Mode::Counter => self.apply_ctr(cipher, bytes),
-            Mode::OutputFeedback => self.apply_ofb(cipher, bytes),
-            Mode::BitFeedback => self.decrypt_cfb1(cipher, bytes),
-            Mode::CipherFeedback(segment) => self.decrypt_cfb(segment, cipher, bytes),
+            Mode::Counter => self.apply_ctr(direction, cipher, bytes),
+            Mode::OutputFeedback => self.apply_ofb(direction, cipher, bytes),
+            Mode::BitFeedback => self.apply_cfb1(direction, cipher, bytes),
+            Mode::CipherFeedback(segment) => self.apply_cfb(direction, segment, cipher, bytes),
         }
     }
 }
@@ -287,8 +247,8 @@ impl Stream {
         })
     }
 
-    /// The place in the stream of the counter mode whose first counter block is `block` that has so
-    /// many blocks behind it: to decrypt a part, no other bytes are needed.
+    /// The place in the stream of the counter mode whose first counter block is `block` that has
+    /// `blocks` blocks behind it: to decrypt a part, no other bytes are needed.
     pub fn ctr_at(block: &[u8; 8], blocks: u64) -> Stream
         ensures { (encryption : List ℕ → List ℕ) (p c : List ℕ) → length p ≡ 8 * blocks
             → AreBytes c → Ctr encryption block.now p c
@@ -343,61 +303,50 @@ impl Stream {
         self.place.used
     }
 
-    /// Encrypts the bytes that come next in place, in the mode of the stream: any number of them. In
-    /// pieces, wherever they are cut, they become what they become as one.
-    pub fn encrypt<C: BlockCipherEncrypt>(&mut self, mode: Mode, cipher: &C, bytes: &mut [u8])
+    /// Encrypts or decrypts the bytes that come next in place, in the mode of the stream: any number of
+    /// them. In pieces, wherever they are cut, they become what they become as one.
+    pub fn apply<C: BlockCipherEncrypt>(
+        &mut self,
+        direction: Direction,
+        mode: Mode,
+        cipher: &C,
+        bytes: &mut [u8],
+    )
         requires { IsInMode mode self.old }
         ensures bytes { (number : ℕ) (iv p c : List ℕ)
             → IsStreamAt number (C.encrypted cipher.now) iv p c self.old
-            → IsStreamAt number (C.encrypted cipher.now) iv (p ++ bytes.old) (c ++ bytes.new) self.new }
+            → IsStreamAt number (C.encrypted cipher.now) iv
+            (p ++ plaintext direction bytes.old bytes.new)
+            (c ++ ciphertext direction bytes.old bytes.new) self.new }
         ensures bits { (iv : List ℕ) (p c : List Bool)
             → IsBitStreamAt (C.encrypted cipher.now) iv p c self.old
             → IsBitStreamAt (C.encrypted cipher.now) iv
-            (p ++ bits_of_bytes bytes.old) (c ++ bits_of_bytes bytes.new) self.new }
+            (p ++ bits_of_bytes (plaintext direction bytes.old bytes.new))
+            (c ++ bits_of_bytes (ciphertext direction bytes.old bytes.new)) self.new }
     {
-        self.place.encrypt(mode, cipher, bytes);
+        are_bytes(bytes);
+        self.place.apply(direction, mode, cipher, bytes);
         are_bytes(bytes);
     }
 
-    /// Decrypts the bytes that come next in place, as `encrypt` encrypts.
-    pub fn decrypt<C: BlockCipherEncrypt>(&mut self, mode: Mode, cipher: &C, bytes: &mut [u8])
-        requires { IsInMode mode self.old }
-        ensures bytes { (number : ℕ) (iv p c : List ℕ)
-            → IsStreamAt number (C.encrypted cipher.now) iv p c self.old
-            → IsStreamAt number (C.encrypted cipher.now) iv (p ++ bytes.new) (c ++ bytes.old) self.new }
-        ensures bits { (iv : List ℕ) (p c : List Bool)
-            → IsBitStreamAt (C.encrypted cipher.now) iv p c self.old
-            → IsBitStreamAt (C.encrypted cipher.now) iv
-            (p ++ bits_of_bytes bytes.new) (c ++ bits_of_bytes bytes.old) self.new }
-    {
-        are_bytes(bytes);
-        self.place.decrypt(mode, cipher, bytes);
-    }
-
-    /// Encrypts the first so many bits in place, which come next in a stream of CFB1: any number of
-    /// them. The others stay.
-    pub fn encrypt_bits<C: BlockCipherEncrypt>(&mut self, cipher: &C, bytes: &mut [u8], bits: usize)
+    /// Encrypts or decrypts the first `bits` bits in place, which come next in a stream of CFB1: any
+    /// number of them. The others stay.
+    pub fn apply_bits<C: BlockCipherEncrypt>(
+        &mut self,
+        direction: Direction,
+        cipher: &C,
+        bytes: &mut [u8],
+        bits: usize,
+    )
         requires mode { IsInMode BitFeedback self.old }
         requires few { bits ≤ 8 * length bytes.old }
         ensures bits { (iv : List ℕ) (p c : List Bool)
             → IsBitStreamAt (C.encrypted cipher.now) iv p c self.old
             → IsBitStreamAt (C.encrypted cipher.now) iv
-            (p ++ first_bits bits bytes.old) (c ++ first_bits bits bytes.new) self.new }
+            (p ++ first_bits bits (plaintext direction bytes.old bytes.new))
+            (c ++ first_bits bits (ciphertext direction bytes.old bytes.new)) self.new }
         ensures rest { drop bits (bits_of_bytes bytes.new) ≡ drop bits (bits_of_bytes bytes.old) }
     {
-        self.place.encrypt_bits(cipher, bytes, bits);
-    }
-
-    /// Decrypts the first so many bits in place, as `encrypt_bits` encrypts.
-    pub fn decrypt_bits<C: BlockCipherEncrypt>(&mut self, cipher: &C, bytes: &mut [u8], bits: usize)
-        requires mode { IsInMode BitFeedback self.old }
-        requires few { bits ≤ 8 * length bytes.old }
-        ensures bits { (iv : List ℕ) (p c : List Bool)
-            → IsBitStreamAt (C.encrypted cipher.now) iv p c self.old
-            → IsBitStreamAt (C.encrypted cipher.now) iv
-            (p ++ first_bits bits bytes.new) (c ++ first_bits bits bytes.old) self.new }
-        ensures rest { drop bits (bits_of_bytes bytes.new) ≡ drop bits (bits_of_bytes bytes.old) }
-    {
-        self.place.decrypt_bits(cipher, bytes, bits);
+        self.place.apply_bits(direction, cipher, bytes, bits);
     }
 }

@@ -14,6 +14,16 @@ pub(crate) fn xor_from(bytes: &mut [u8], key_stream: &[u8], from: usize)
     }
 }
 
+/// Each byte of the data becomes its xor with a byte of the blocks, from their byte `from` on.
+pub(crate) fn xor_blocks_from(bytes: &mut [u8], blocks: &[[u8; 8]], from: usize)
+    requires { from + length bytes.old ≤ 8 * length blocks.now }
+    ensures { (i : ℕ) → i < length bytes.old → slice_index bytes.new i
+        ≡ bit_xor (slice_index bytes.old i)
+        (slice_index (slice_index_or blocks.now ((from + i) / 8) []) ((from + i) % 8)) }
+{
+    xor_from(bytes, blocks.as_flattened(), from);
+}
+
 /// Each segment of `segment` bytes of the data becomes its xor with the first bytes of its block.
 pub(crate) fn xor_segments(bytes: &mut [u8], blocks: &[[u8; 8]], segment: usize)
     requires some { 1 ≤ segment }
@@ -22,6 +32,10 @@ pub(crate) fn xor_segments(bytes: &mut [u8], blocks: &[[u8; 8]], segment: usize)
     ensures { XorsFrom 0 (λ i. slice_index (slice_index_or blocks.now (i / segment) []) (i % segment))
         bytes.old bytes.new }
 {
+    if segment == 8 {
+        xor_blocks_from(bytes, blocks, 0);
+        return;
+    }
     let mut from = 0;
     let mut j = 0;
     'segments: while from < bytes.len() {

@@ -10,7 +10,7 @@ no_one_bit (suc k) [] rest same =
     let first : ◌≡◌ {A = ℕ} 0 0x80 = ap (λ (list : List ℕ). get_or list 0 0) same in omega arith
 no_one_bit (suc k) (byte ∷ m) rest same = no_one_bit k m rest (ap (drop 1) same)
 
--- two lists are one where they are so with a one bit and zeros after them
+-- two lists are one if they are so with a one bit and zeros after them
 before_one_bit : (m n : List ℕ) (some others : ℕ)
     → m ++ 0x80 ∷ replicate some 0 ≡ n ++ 0x80 ∷ replicate others 0 → m ≡ n
 before_one_bit [] [] some others same = refl

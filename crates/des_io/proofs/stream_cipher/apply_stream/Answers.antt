@@ -16,12 +16,12 @@ pub returns-in_err-write_whole-clause-prefix : goal.returns-in_err-write_whole-c
 returns-in_err-write_whole-clause-prefix g c =
     let (k, within, written, full) = c.write_whole.ensures.written in
     AppliesPrefix-written _ _ _ c.in_ok-n.n k c.loop.invariant.so_far c.in_ok-n.ensures.read
-    (length-take-le _ _ (search rules)) c.apply.ensures written (omega (arith, c.min-room.ensures, c.in_ok-n.ensures.within))
+    (length-take-le _ _ (search rules)) c.apply.ensures written (omega (arith, c.min-most.ensures, c.in_ok-n.ensures.within))
 
 pub returns-then-n-capacity : goal.returns-then-n-capacity
 returns-then-n-capacity g c =
     let (k, within, written, full) = c.in_ok-write_whole.ensures.written in
-    let most : c.loop.count + c.in_ok-n.n ≤ c.args.limit = omega (arith, c.min-room.ensures, c.in_ok-n.ensures.within) in
+    let most : c.loop.count + c.in_ok-n.n ≤ c.args.limit = omega (arith, c.min-most.ensures, c.in_ok-n.ensures.within) in
     let all = AppliesAll-more _ _ _ c.in_ok-n.n k c.loop.invariant.so_far c.in_ok-n.ensures.read
     (length-take-le _ _ (search rules)) c.apply.ensures written (full (refl {a = true})) in
     record {
@@ -34,7 +34,7 @@ returns-then-n-capacity g c =
         written = all.written;
         size = all.size;
         ends = elim (eq-or-lt_of_le c.in_ok-n.ensures.within) [
-          | inl same ↦ inr (omega (arith, same, c.min-room.ensures, c.if-n-capacity.true, c.loop.invariant.within))
+          | inl same ↦ inr (omega (arith, same, c.min-most.ensures, c.if-n-capacity.true, c.loop.invariant.within))
           | inr less ↦ inl (c.in_ok-n.ensures.end less)
         ];
         within = most;
@@ -48,7 +48,7 @@ loop-preserved g c =
     let (k, within, written, full) = c.in_ok-write_whole.ensures.written in
     record {
       capacity = search rules;
-      within = omega (arith, c.min-room.ensures, c.in_ok-n.ensures.within);
+      within = omega (arith, c.min-most.ensures, c.in_ok-n.ensures.within);
       so_far = AppliesAll-more _ _ _ c.in_ok-n.n k c.loop.invariant.so_far c.in_ok-n.ensures.read
           (length-take-le _ _ (search rules)) c.apply.ensures written (full (refl {a = true}));
     }

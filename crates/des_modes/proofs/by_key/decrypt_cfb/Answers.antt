@@ -1,6 +1,5 @@
 use Rattle.std.proofs.Common.{◌*◌, refl, arith}
-use Rattle.des_modes.proofs.BitSegments.{XorsBitsFrom-from_Cfb}
-use Rattle.des_modes.proofs.RelatedStreams.{CfbBits-from_bits}
+use Rattle.des_modes.proofs.RelatedStreams.{XorsBitsFrom-from_Cfb, CfbBits-from_bits}
 use Rattle.des_modes.proofs.by_key.decrypt_cfb.Goals as goal
 
 pub returns : goal.returns

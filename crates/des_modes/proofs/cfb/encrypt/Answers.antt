@@ -5,5 +5,5 @@ use Rattle.des_modes.proofs.cfb.encrypt.Goals as goal
 pub returns : goal.returns
 returns g c =
     let begun = beginning c.args.segment c.args.iv.now c.requires.some in
-    c.encrypt.ensures.encrypted c.args.segment c.args.iv.now []
+    c.apply.ensures.xored c.args.segment c.args.iv.now []
     (c.new.ensures (g.C.BlockCipherEncrypt.encrypted c.args.cipher.now) c.args.iv.now [] begun.0 begun.1)

@@ -5,5 +5,5 @@ use Rattle.des_modes.proofs.cfb_bits.encrypt.Goals as goal
 
 pub returns-clause-encrypted : goal.returns-clause-encrypted
 returns-clause-encrypted g c =
-    c.encrypt.ensures.encrypted c.args.iv.now []
+    c.apply.ensures.xored c.args.iv.now []
     (c.new.ensures c.args.iv.now [] (sym (append-nil (bits_of_bytes c.args.iv.now))))

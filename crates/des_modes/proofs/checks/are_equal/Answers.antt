@@ -1,9 +1,21 @@
-use Rattle.std.proofs.Common.{◌≡◌, ℕ, List, get_or, refl, ap, arith, below_more}
+use Rattle.std.proofs.Common.{◌≡◌, ℕ, List, get_or, refl, ap, arith, below_more, bit_or, bit_xor, sym, ◌∙◌}
 use Rattle.std.proofs.lemmas.Bool.{eqb-true, eq-eqb}
-use Rattle.std.specs.Int.Bits.{xor_self}
+use Rattle.std.specs.Int.Bits.{xor_self, xor_zero_l}
 use Rattle.std.proofs.lemmas.Grind.{same_number_lists}
-use Rattle.des_modes.proofs.Differences.{or_zero-first, or_zero-second, xor_zero-same}
+use Rattle.std.proofs.lemmas.Nat.{le_or_l, le_or_r}
+use Rattle.des_modes.proofs.Pieces.{bytes_undone}
 use Rattle.des_modes.proofs.checks.are_equal.Goals as goal
+
+-- if two numbers joined are zero, both are
+or_zero-first : (a b : ℕ) → bit_or a b ≡ 0 → a ≡ 0
+or_zero-first a b zero = omega (arith, le_or_l a b)
+
+or_zero-second : (a b : ℕ) → bit_or a b ≡ 0 → b ≡ 0
+or_zero-second a b zero = omega (arith, le_or_r a b)
+
+-- if the xor of two numbers is zero, they are one
+xor_zero-same : (a b : ℕ) → bit_xor a b ≡ 0 → a ≡ b
+xor_zero-same a b zero = sym (bytes_undone a b) ∙ ap (λ (x : ℕ). bit_xor x b) zero ∙ xor_zero_l b
 
 pub loop-i-preserved : goal.loop-i-preserved
 loop-i-preserved c =

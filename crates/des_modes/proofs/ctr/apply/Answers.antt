@@ -1,4 +1,4 @@
-use Rattle.des_modes.proofs.XoredPieces.{Xors-back, Xors-one, bytes_undone}
+use Rattle.des_modes.proofs.Pieces.{Xors-back, Xors-one, bytes_undone}
 use Rattle.des_modes.proofs.ctr.apply.Goals as goal
 
 pub returns : goal.returns

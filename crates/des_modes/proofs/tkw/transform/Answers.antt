@@ -36,6 +36,6 @@ returns g c =
     let count : ℕ = length c.args.words.now in
     let all : 6 * (length start - 1) ≡ c.steps.t = omega arith in
     let is : c.steps.t ≡ 6 * count = omega arith in
-    ap (λ (n : ℕ). tw_steps E 0 n start) all ∙ c.steps.invariant
+    ap (λ (n : ℕ). tw_steps E n start) all ∙ c.steps.invariant
     ∙ ap (λ (words : List (List ℕ)). c.steps.first ∷ words)
     (first_place c.steps.words (c.steps.t % count) (ap (λ (n : ℕ). n % count) is ∙ mul-mod_left 6 count))

@@ -5,5 +5,5 @@ use Rattle.des_modes.proofs.tkw.transform.Given as goal
 
 abbrev pub invariant-steps : goal.invariant-steps
 invariant-steps g l =
-    tw_steps (g.C.BlockCipherEncrypt.encrypted l.cipher) 0 l.t (l.initial.first ∷ l.initial.words)
+    tw_steps (g.C.BlockCipherEncrypt.encrypted l.cipher) l.t (l.initial.first ∷ l.initial.words)
     ≡ l.first ∷ drop (l.t % l.count) l.words ++ take (l.t % l.count) l.words

@@ -4,51 +4,44 @@ use Rattle.std.specs.Int.{w32, to_be_bytes}
 use Rattle.std.proofs.Math.Nat.{mod-lt, mul-mod_left, zero-mod}
 use Rattle.std.proofs.lemmas.List.{take_more, take-set, drop-set-lt, get_or-set_same, length-set}
 use Rattle.des.specs.Cbc.{xor_blocks}
-use Rattle.des_modes.specs.Tkw.{tw_steps}
-use Rattle.des_modes.proofs.TkwSteps.{tw_steps-first, tw_step-at, first_place, next_place}
+use Rattle.des_modes.specs.Tkw.{tw_step, tw_steps}
+use Rattle.des_modes.proofs.TkwSteps.{tw_steps-next, tw_step-at, first_place, next_place}
 use Rattle.des_modes.proofs.tkw.transform_back.Goals as goal
 
 pub steps-init : goal.steps-init
 steps-init g c =
-    let E : List ℕ → List ℕ = g.C.BlockCipherEncrypt.encrypted c.args.cipher.now in
     let words : List (List ℕ) = c.args.words.now in
-    let count : ℕ = length words in
-    let i : ℕ = 6 * count % count in
-    let none : 6 * count - 6 * count ≡ 0 = omega arith in record {
+    let count : ℕ = length words in record {
       within = omega arith;
-      undone =
-          ap (λ (n : ℕ). tw_steps E (6 * count) n (c.args.first.now ∷ drop i words ++ take i words)) none
-          ∙ ap (λ (xs : List (List ℕ)). c.args.first.now ∷ xs) (first_place words i (mul-mod_left 6 count));
+      undone = λ start same.
+          same ∙ ap (λ (xs : List (List ℕ)). c.args.first.now ∷ xs) (first_place words (6 * count % count) (mul-mod_left 6 count));
     }
 
 pub steps-preserved : goal.steps-preserved
 steps-preserved g c =
     let E : List ℕ → List ℕ = g.C.BlockCipherEncrypt.encrypted c.args.cipher.now in
     let count : ℕ = length c.args.words.now in
-    let left : ℕ = c.steps.left in
-    let t : ℕ = left - 1 in
+    let t : ℕ = c.steps.left - 1 in
     let i : ℕ = t % count in
     let words : List (List ℕ) = c.steps.words in
     let word : List ℕ = c.step_back.new.word in
     let first : List ℕ = c.step_back.new.first in
     let next : List (List ℕ) = set words i word in
     let within : i < length words = omega (arith, mod-lt t c.requires.some) in
-    let place : t + 1 ≡ left = omega arith in
+    let place : t + 1 ≡ c.steps.left = omega arith in
     let there : get_or next i [] ≡ word = get_or-set_same words i word [] within in record {
       within = omega (arith, c.steps.invariant.within);
-      undone =
-          tw_steps-first E t (t + 1) (6 * count - t) (6 * count - left) (first ∷ drop i next ++ take i next) (omega arith)
-          (omega (arith, c.steps.invariant.within))
-          ∙ ap (tw_steps E (t + 1) (6 * count - left))
-          (tw_step-at E (t + 1) i first c.steps.first next words (omega (arith, length-set words i word))
+      undone = λ start same.
+          c.steps.invariant.undone start
+          (ap (λ (n : ℕ). tw_steps E n start) (sym place) ∙ tw_steps-next E t start ∙ ap (tw_step E (t + 1)) same
+          ∙ tw_step-at E (t + 1) i first c.steps.first next words (omega (arith, length-set words i word))
           (sym (drop-set-lt (i + 1) words i word (omega arith)))
           (take_more words i [] within
           ∙ ap (λ (xs : List (List ℕ)). xs ++ get_or words i [] ∷ []) (sym (take-set words i word))
           ∙ ap (λ (x : List ℕ). take i next ++ x ∷ []) (sym (ap (λ (x : List ℕ). drop 4 (E (first ++ x))) there ∙ c.step_back.ensures.word)))
           (ap (λ (x : List ℕ). xor_blocks (take 4 (E (first ++ x))) (to_be_bytes w32 (t + 1))) there ∙ c.step_back.ensures.first)
-          ∙ ap (λ (xs : List (List ℕ)). c.steps.first ∷ xs) (next_place words t count (omega arith) c.requires.some))
-          ∙ ap (λ (n : ℕ). tw_steps E n (6 * count - left) (c.steps.first ∷ drop (n % count) words ++ take (n % count) words)) place
-          ∙ c.steps.invariant.undone;
+          ∙ ap (λ (xs : List (List ℕ)). c.steps.first ∷ xs) (next_place words t count (omega arith) c.requires.some)
+          ∙ ap (λ (n : ℕ). c.steps.first ∷ drop (n % count) words ++ take (n % count) words) place);
     }
 
 pub returns : goal.returns
@@ -57,7 +50,7 @@ returns g c =
     let words : List (List ℕ) = c.steps.words in
     let count : ℕ = length c.args.words.now in
     let none : c.steps.left ≡ 0 = omega arith in
-    let all : 6 * (length (c.steps.first ∷ words) - 1) ≡ 6 * count - 0 = omega arith in
-    ap (λ (n : ℕ). tw_steps E 0 n (c.steps.first ∷ words)) all
-    ∙ ap (λ (xs : List (List ℕ)). tw_steps E 0 (6 * count - 0) (c.steps.first ∷ xs)) (sym (first_place words (0 % count) (zero-mod count)))
-    ∙ (rw none at c.steps.invariant.undone)
+    let all : 6 * (length (c.steps.first ∷ words) - 1) ≡ 6 * count = omega arith in
+    ap (λ (n : ℕ). tw_steps E n (c.steps.first ∷ words)) all
+    ∙ (rw none at c.steps.invariant.undone) (c.steps.first ∷ words)
+    (ap (λ (xs : List (List ℕ)). c.steps.first ∷ xs) (sym (first_place words (0 % count) (zero-mod count))))

@@ -1,13 +1,14 @@
--- The steps after the index are undone.
-use Rattle.std.proofs.Common.{◌≡◌, ◌≤◌, ◌-◌, ◌*◌, ◌%◌, ◌∷◌, ◌++◌, take, drop}
+-- What the steps up to the index make the semiblocks of, all steps make the list of that was given.
+use Rattle.std.proofs.Common.{◌≡◌, ℕ, ◌≤◌, ◌*◌, ◌%◌, List, ◌∷◌, ◌++◌, take, drop}
 use Rattle.des_modes.specs.Tkw.{tw_steps}
 use Rattle.des_modes.proofs.tkw.transform_back.Given as goal
 
 abbrev pub invariant-steps : goal.invariant-steps
 invariant-steps g l = record {
   within : l.left ≤ 6 * l.count;
-  undone : tw_steps (g.C.BlockCipherEncrypt.encrypted l.cipher) l.left (6 * l.count - l.left)
-      (l.first ∷ drop (l.left % l.count) l.words ++ take (l.left % l.count) l.words) ≡ l.initial.first ∷ l.initial.words;
+  undone : (start : List (List ℕ)) → tw_steps (g.C.BlockCipherEncrypt.encrypted l.cipher) l.left start
+      ≡ l.first ∷ drop (l.left % l.count) l.words ++ take (l.left % l.count) l.words
+      → tw_steps (g.C.BlockCipherEncrypt.encrypted l.cipher) (6 * l.count) start ≡ l.initial.first ∷ l.initial.words;
 }
 
 abbrev pub decreases-steps : goal.decreases-steps

@@ -1,5 +1,4 @@
-use Rattle.std.proofs.Common.{◌≡◌, ◌≤◌, ◌-◌, ℕ, true, false, List, [], ◌∷◌, length, get_or, take, drop, refl, ap, sym, ◌∙◌, arith}
-use Rattle.std.proofs.lemmas.List.{take_all}
+use Rattle.std.proofs.Common.{◌≡◌, ℕ, true, false, List, [], get_or, drop, refl, ap, sym, ◌∙◌, arith}
 use Rattle.des_modes.proofs.TkwSteps.{Undoes, unwrapped-one}
 use Rattle.des_modes.proofs.tkw.unwrap.Given.{Over}
 use Rattle.des_modes.proofs.tkw.unwrap.Goals as goal
@@ -10,19 +9,12 @@ laws g cipher = record {
   is_block = g.met.C.BlockCipher.encrypted_is_block cipher;
 }
 
-whole : (wrapped words : List (List ℕ)) → 1 ≤ length wrapped → words ≡ take (length wrapped - 1) (drop 1 wrapped)
-    → get_or wrapped 0 [] ∷ words ≡ wrapped
-whole [] words some rest = absurd (omega arith)
-whole (first ∷ others) words some rest =
-    ap (λ (xs : List (List ℕ)). first ∷ xs) (rest ∙ take_all (length (first ∷ others) - 1) others (omega arith))
-
 pub returns-then-are_equal-clause-accepted : goal.returns-then-are_equal-clause-accepted
 returns-then-are_equal-clause-accepted g c = λ other too wraps. (
   refl,
   ap (drop 1)
       (unwrapped-one (laws g c.args.cipher.now) _ _ other _ (omega arith, c.are_bytes.ensures) c.are_semiblocks.ensures too
-      (omega (arith, c.requires.room))
-      (c.transform_back.ensures ∙ whole c.args.wrapped.now _ (omega (arith, c.requires.room)) c.copy_from_slice.ensures.after) wraps),
+      (omega (arith, c.requires.room)) c.copy_from_slice.ensures.after c.transform_back.ensures wraps),
 )
 
 -- what wraps a key has its check value
@@ -30,7 +22,6 @@ pub returns-clause-accepted : goal.returns-clause-accepted
 returns-clause-accepted g c = λ other too wraps.
     let same =
     unwrapped-one (laws g c.args.cipher.now) _ _ other _ (omega arith, c.are_bytes.ensures) c.are_semiblocks.ensures too
-    (omega (arith, c.requires.room))
-    (c.transform_back.ensures ∙ whole c.args.wrapped.now _ (omega (arith, c.requires.room)) c.copy_from_slice.ensures.after) wraps in
+    (omega (arith, c.requires.room)) c.copy_from_slice.ensures.after c.transform_back.ensures wraps in
     let found : c.are_equal.result ≡ true = c.are_equal.ensures.1 (ap (λ (xs : List (List ℕ)). get_or xs 0 []) same) in
     let bad : false ≡ true = sym c.if-are_equal.false ∙ found in cc bad

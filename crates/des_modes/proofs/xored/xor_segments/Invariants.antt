@@ -8,7 +8,7 @@ abbrev pub invariant-segments : goal.invariant-segments
 invariant-segments l = record {
   within : l.from ≤ length l.bytes;
   counted : l.j ≤ l.from;
-  place : l.from < length l.bytes → l.from ≡ l.segment * l.j;
+  place : l.from < length l.bytes → l.from ≡ l.j * l.segment;
   so_far : InPlace (XorsFrom 0 (λ i. get_or (get_or l.blocks (i / l.segment) []) (i % l.segment) 0)) l.from l.initial.bytes l.bytes;
 }
 

@@ -23,18 +23,18 @@ returns-in-Ofb g c = rw c.in-Ofb.is (record {
 
 pub returns-in-EncryptCfb : goal.returns-in-EncryptCfb
 returns-in-EncryptCfb g c = rw c.in-EncryptCfb.is (record {
-  mode = (c.encrypt.new.self, refl);
+  mode = (c.apply-in-EncryptCfb.new.self, refl);
   goes_on = λ s iv p d behind.
-      (c.encrypt.ensures.after s iv d behind.0, c.encrypt.ensures.whole s iv d p behind.0 behind.1);
+      (c.apply-in-EncryptCfb.ensures.after s iv d behind.0, c.apply-in-EncryptCfb.ensures.whole s iv d p behind.0 behind.1);
 })
 
 pub returns-in-DecryptCfb : goal.returns-in-DecryptCfb
 returns-in-DecryptCfb g c =
     let P : g.row.C.Denot → Type 0 = λ cipher.
     Becomes (g.C.BlockCipherEncrypt.encrypted cipher) (DecryptCfb c.in-DecryptCfb.register) c.args.bytes.now
-    c.decrypt.new.bytes (DecryptCfb c.decrypt.new.self) in
-    rw c.in-DecryptCfb.is (subst P c.new-in-DecryptCfb.ensures (record {
-      mode = (c.decrypt.new.self, refl);
+    c.apply-in-DecryptCfb.new.bytes (DecryptCfb c.apply-in-DecryptCfb.new.self) in
+    rw c.in-DecryptCfb.is (subst P c.new-cipher.ensures (record {
+      mode = (c.apply-in-DecryptCfb.new.self, refl);
       goes_on = λ s iv d p behind.
-          (c.decrypt.ensures.after s iv d behind.0, c.decrypt.ensures.whole s iv d p behind.0 behind.1);
+          (c.apply-in-DecryptCfb.ensures.after s iv d behind.0, c.apply-in-DecryptCfb.ensures.whole s iv d p behind.0 behind.1);
     }))

@@ -4,9 +4,9 @@ use Rattle.des_mac.specs.Padding.{block_count}
 use Rattle.des_mac.proofs.Absorbing.{Absorbed-pending, Absorbed-rest, chain_after-filled, block_after-rest}
 use Rattle.des_mac.proofs.chaining.Chaining.update.Goals as goal
 
--- there is room for the bytes
-pub returns-then-bytes-room-clause-holds : goal.returns-then-bytes-room-clause-holds
-returns-then-bytes-room-clause-holds g c = λ key m holds.
+-- the bytes fit
+pub returns-then-bytes-space-clause-holds : goal.returns-then-bytes-space-clause-holds
+returns-then-bytes-space-clause-holds g c = λ key m holds.
     let bytes = c.args.bytes.now in
     let state = holds.absorbed in
     let long : length (m ++ bytes) ≡ length m + length bytes = length-append m bytes in

@@ -1,9 +1,7 @@
 -- The input blocks stand in the register and the ciphertext behind it.
 use Rattle.std.proofs.Common.{◌≡◌, ℕ, ◌+◌, ◌-◌, ◌*◌, ◌/◌, ◌%◌, ◌<◌, ◌≤◌, List, [], ◌++◌, length, take, drop, get_or, ap, ap₂, subst, sym, ◌∙◌, refl, arith, length-drop, length-take-le}
 use Rattle.std.proofs.lemmas.List.{take_all}
-use Rattle.des_modes.specs.Streams.{XorsFrom}
-use Rattle.des_modes.specs.Cfb.{cfb_stream}
-use Rattle.des_modes.proofs.CfbPlaces.{IsCfbAt-beyond, XorsFrom-beyond, length-iv}
+use Rattle.des_modes.proofs.CfbPlaces.{IsCfbAt-beyond, XorsFrom-beyond}
 use Rattle.des_modes.proofs.cfb.Register.decrypt_segments.Given.{Over}
 use Rattle.des_modes.proofs.cfb.Register.decrypt_segments.Goals as goal
 
@@ -29,8 +27,8 @@ returns-clause-after g c = λ s iv d is.
     let register : List ℕ = c.args.self.now.register in
     let same : length c.xor_segments.new.bytes ≡ length old = c.xor_segments.auto.bytes in
     let place : ℕ = length c.xor_segments.new.bytes in
-    let inputs : List ℕ = take (8 + length old) c.write_joined.new.joined in
-    IsCfbAt-beyond s E iv d old c.args.self.now _ (omega (arith, is.segment)) (omega arith) c.requires.between is refl
+    let inputs : List ℕ = c.write_joined.new.joined in
+    IsCfbAt-beyond s E iv d old c.args.self.now (omega (arith, is.segment)) (omega arith) c.requires.between is refl
     (c.copy_from_slice.ensures.after
     ∙ take_all (length inputs - place) (drop place inputs) (omega (arith, length-drop place inputs)) ∙ ap₂ (λ (m : ℕ) (xs : List ℕ). drop m xs) same c.write_joined.ensures)
     (ap (λ (m : ℕ). m % segment) same)
@@ -43,16 +41,6 @@ returns-clause-after g c = λ s iv d is.
 
 pub returns-clause-decrypted : goal.returns-clause-decrypted
 returns-clause-decrypted g c = λ s iv d is.
-    let E : List ℕ → List ℕ = g.C.BlockCipherEncrypt.encrypted c.args.cipher.now in
-    let segment : ℕ = c.args.self.now.segment in
-    let old : List ℕ = c.args.bytes.now in
-    let register : List ℕ = c.args.self.now.register in
-    let wide : length register ≡ 8 = omega arith in
-    let enough : length old ≤ segment * length c.write_outputs.new.blocks =
-    rw (written g c).0 c.count_of.ensures.enough in
-    let begins : length d % segment ≡ 0 =
-    ap (λ (m : ℕ). length d % m) is.segment ∙ sym is.used ∙ c.requires.between in
-    let P : ℕ → Type 0 = λ m. XorsFrom (length d) (cfb_stream m E iv (d ++ old)) old c.xor_segments.new.bytes in
-    subst P is.segment (XorsFrom-beyond segment E iv d old register c.xor_segments.new.bytes c.write_outputs.new.blocks
-    (omega arith) (length-iv s E iv d c.args.self.now wide is) begins is.register enough (written g c).1
-    c.xor_segments.ensures)
+    XorsFrom-beyond s (g.C.BlockCipherEncrypt.encrypted c.args.cipher.now) iv d c.args.bytes.now c.xor_segments.new.bytes
+    c.write_outputs.new.blocks c.args.self.now (omega (arith, is.segment)) (omega arith) c.requires.between is
+    (rw (written g c).0 c.count_of.ensures.enough) (written g c).1 c.xor_segments.ensures

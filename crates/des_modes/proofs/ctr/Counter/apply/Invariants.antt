@@ -1,7 +1,7 @@
 -- The bytes before the index are done, and those from it on are as they were.
 use Rattle.std.proofs.Common.{◌-◌, ◌≤◌, List, ℕ, length}
 use Rattle.des_modes.specs.Ctr.{ctr_stream}
-use Rattle.des_modes.specs.CtrStates.{IsCtrAt}
+use Rattle.des_modes.specs.States.{IsCtrAt}
 use Rattle.des_modes.proofs.Pieces.{InPlace, ByPlace}
 use Rattle.des_modes.proofs.ctr.Counter.apply.Given as goal
 

@@ -1,7 +1,6 @@
 -- A part more.
 use Rattle.std.proofs.Common.{ℕ, List, length, refl, arith}
-use Rattle.des_modes.proofs.XoredPieces.{Xors-append}
-use Rattle.des_modes.proofs.Pieces.{ByPlace-none, ByPlace-joined, InPlace-more, InPlace-all}
+use Rattle.des_modes.proofs.Pieces.{Xors-append, ByPlace-none, ByPlace-joined, InPlace-more, InPlace-all}
 use Rattle.des_modes.proofs.ofb.Feedback.apply.Goals as goal
 
 pub parts-init : goal.parts-init

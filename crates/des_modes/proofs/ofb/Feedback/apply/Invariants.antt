@@ -1,7 +1,7 @@
 -- The bytes before the index are done, and those from it on are as they were.
 use Rattle.std.proofs.Common.{◌-◌, ◌≤◌, List, ℕ, length}
 use Rattle.des_modes.specs.Ofb.{ofb_stream}
-use Rattle.des_modes.specs.OfbStates.{IsOfbAt}
+use Rattle.des_modes.specs.States.{IsOfbAt}
 use Rattle.des_modes.proofs.Pieces.{InPlace, ByPlace}
 use Rattle.des_modes.proofs.ofb.Feedback.apply.Given as goal
 

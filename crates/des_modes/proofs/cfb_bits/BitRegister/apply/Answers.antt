@@ -1,0 +1,47 @@
+-- A bit more.
+use Rattle.std.proofs.Common.{◌≡◌, ℕ, ◌<◌, Bool, false, List, length, get_or, refl, ap, ap₂, ◌∙◌, arith}
+use Rattle.std.proofs.lemmas.List.{get_or-set_same}
+use Rattle.des.specs.Bits.{bits_of_bytes, xor}
+use Rattle.des.specs.Laws.BitLists.{length-bits_of_bytes}
+use Rattle.des_modes.specs.CfbBits.{first_bits}
+use Rattle.des_modes.specs.States.{IsCfbBitsAt}
+use Rattle.des_modes.specs.Directions.{ciphertext}
+use Rattle.des_modes.proofs.Pieces.{ByText-begun, ByText-directed, texts-map, InPlace-set, Xors-whole}
+use Rattle.des_modes.proofs.CfbPlaces.{ByText-bit_directed, cfb_bits-front, length-iv_bits}
+use Rattle.des_modes.proofs.cfb_bits.BitRegister.apply.Goals as goal
+
+pub bits-init : goal.bits-init
+bits-init g c = λ iv wide. record { done = ByText-begun c.args.direction c.args.self.now; rest = refl }
+
+pub bits-preserved : goal.bits-preserved
+bits-preserved g c =
+    let E : List ℕ → List ℕ = g.C.BlockCipherEncrypt.encrypted c.args.cipher.now in
+    let place : ℕ = c.bits.place in
+    let now : List Bool = bits_of_bytes c.bits.bytes in
+    let within : place < length now = omega (arith, length-bits_of_bytes c.bits.bytes) in
+    let written : c.bit_at.result ≡ xor (get_or now place false) c.key_bit.result =
+    c.bit_at.ensures ∙ ap (λ (bits : List Bool). get_or bits place false) c.xor_bit.ensures ∙ get_or-set_same now place _ false within in
+    let bit : c.ciphertext.result ≡ ciphertext c.args.direction (get_or now place false) (xor (get_or now place false) c.key_bit.result) =
+    c.ciphertext.ensures ∙ ap₂ (ciphertext c.args.direction) c.bit_at-old.ensures written in
+    λ iv wide.
+    InPlace-set _ false c.xor_bit.ensures within
+    (λ done. ByText-directed c.args.direction _ _ _ _ (cfb_bits-front E iv wide) done
+    (ByText-bit_directed E iv c.bits.self c.advance.new.self c.args.direction _ _ wide (rw bit at c.advance.ensures)
+    (ap (xor (get_or now place false)) c.key_bit.ensures))) (c.bits.invariant iv wide)
+
+pub returns : goal.returns
+returns g c =
+    let E : List ℕ → List ℕ = g.C.BlockCipherEncrypt.encrypted c.args.cipher.now in
+    let register : List ℕ = c.args.self.now.register in
+    let all : c.bits.place ≡ c.args.bits = omega arith in
+    let so_far = λ (iv : List ℕ) (wide : length (bits_of_bytes iv) ≡ 64). rw all at (c.bits.invariant iv wide) in
+    let wide = λ (iv : List ℕ) (d : List Bool) (is : IsCfbBitsAt iv d c.args.self.now).
+    length-iv_bits iv d c.args.self.now.register (omega arith) is in
+    let made = λ (iv : List ℕ) (d : List Bool) (is : IsCfbBitsAt iv d c.args.self.now). (so_far iv (wide iv d is)).done.goes d is in
+    let texts = texts-map (first_bits c.args.bits) c.args.direction c.args.bytes.now c.bits.bytes in
+    record {
+      after = λ iv d is. rw texts.1 (made iv d is).0;
+      xored = λ iv d is. rw (texts.0, texts.1) (made iv d is).1;
+      whole = λ iv p d is begun. rw (texts.0, texts.1) (Xors-whole (cfb_bits-front E iv (wide iv d is)) begun (made iv d is).1);
+      rest = (so_far register (omega (arith, length-bits_of_bytes register))).rest;
+    }

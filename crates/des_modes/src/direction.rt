@@ -1,0 +1,26 @@
+//! The two directions of a mode.
+
+ghost use Rattle.std.specs.Prelude.{◌≡◌};
+ghost use Rattle.des_modes.specs.Directions.{ciphertext as ciphertext_of};
+
+/// Whether a text is encrypted or decrypted.
+#[derive(Clone, Copy)]
+pub enum Direction {
+    /// Plaintext becomes ciphertext.
+    Encrypt,
+    /// Ciphertext becomes plaintext.
+    Decrypt,
+}
+
+impl Direction {
+    /// Of two bits, before and after, that of the ciphertext.
+    #[inline]
+    pub(crate) fn ciphertext(self, old: bool, new: bool) -> bool
+        ensures { result ≡ ciphertext_of self old new }
+    {
+        match self {
+            Direction::Encrypt => new,
+            Direction::Decrypt => old,
+        }
+    }
+}
