@@ -1,5 +1,6 @@
 -- The definitions computed at values that servers wrote, so that a wrong constant, order or count in them does not check.
-use Rattle.std.proofs.Common.{◌≡◌, ℕ, List, [], ◌∷◌, ◌++◌, codes, take, drop, replicate, refl}
+use Rattle.std.proofs.Common.{◌≡◌, ℕ, List, [], ◌∷◌, ◌++◌, Option, Some, None, map, codes, take, drop, replicate, refl}
+use Rattle.std.specs.List.{range_with_len}
 use Rattle.md5.specs.Md5.{block_words, rounds, compress, hash_after, digest_bytes, md5}
 use Rattle.des.specs.Bits.{bits_of, bits_of_bytes, number_of, select, xor_bits}
 use Rattle.des.specs.Blocks.{block_of_bits}
@@ -11,9 +12,9 @@ use Rattle.des.specs.Rounds.{after_rounds, through_rounds}
 use Rattle.des.specs.TripleCiphers.{ede3_encryption}
 use Rattle.des_passwords.specs.BytesToKey.{d, ds, repeated}
 use Rattle.des_columns.specs.JavaTripleDes.{derived, digested}
+use Rattle.des_columns.specs.KeyFile.{lines_after, string_in}
 use Rattle.des_columns.specs.Mysql.{key_of, padded}
 use Rattle.des_columns.specs.Pgcrypto.{filled}
-use Rattle.des_columns.specs.Pkcs5.{pbkdf1}
 
 -- what MariaDB 10.11 answers to `des_encrypt('abcdefg', 'k')`, behind its first byte: one block, chained from zeros
 mysql-seven : ede3_encryption (key_of (codes "k")) (padded (codes "abcdefg"))
@@ -31,11 +32,26 @@ unfolding block_words rounds compress hash_after digest_bytes md5 repeated d ds 
     through_rounds block_of_bits
 mysql-three = refl
 
--- three iterations, by Python's hashlib
-pkcs5-thrice : pbkdf1 md5 (codes "password") (1 ∷ 2 ∷ 3 ∷ 4 ∷ 5 ∷ 6 ∷ 7 ∷ 8 ∷ []) 3 16
-    ≡ 0xE0 ∷ 0xDB ∷ 0x83 ∷ 0xF6 ∷ 0xEF ∷ 0x47 ∷ 0xB8 ∷ 0x4A ∷ 0x15 ∷ 0x71 ∷ 0xE2 ∷ 0x5E ∷ 0xE7 ∷ 0x9A ∷ 0x38 ∷ 0xC9 ∷ []
-unfolding block_words rounds compress hash_after digest_bytes md5 repeated
-pkcs5-thrice = refl
+-- and to `des_encrypt('abc')`, whose key is the first of the file, `0 key_zero`
+mysql-default : ede3_encryption (key_of (codes "key_zero")) (padded (codes "abc"))
+    ≡ 0x93 ∷ 0x70 ∷ 0xF9 ∷ 0x10 ∷ 0x0E ∷ 0x6C ∷ 0xAB ∷ 0xCA ∷ []
+unfolding block_words rounds compress hash_after digest_bytes md5 repeated d ds bits_of bits_of_bytes select substitute_by
+    box_entry number_of cipher_function xor_bits round_key c_half d_half rotate shifts_through key_schedule after_rounds
+    through_rounds block_of_bits
+mysql-default = refl
+
+-- the strings that MariaDB takes of a file of keys: the last of 1, none of a line without its end or before a digit
+strings_of : List ℕ → List (Option (List ℕ))
+strings_of file = map (λ number. string_in number (lines_after [] file)) (range_with_len 0 10)
+
+mysql-strings : strings_of (codes "# keys" ++ 10 ∷ codes "3 three" ++ 10 ∷ codes "0 key_zero" ++ 10 ∷ codes "1   another key" ++ 10 ∷ 10
+    ∷ codes "7seven" ++ 10 ∷ codes "9" ++ 9 ∷ 160 ∷ codes "tab and blanks " ++ 1 ∷ 157 ∷ 10 ∷ codes "1 the one that counts" ++ 10
+    ∷ codes "5 " ++ 233 ∷ 116 ∷ 233 ∷ 255 ∷ 13 ∷ 10 ∷ codes "0" ++ 10 ∷ codes " 2 two" ++ 10 ∷ codes "4 a" ++ 0 ∷ codes "b" ++ 10
+    ∷ codes "8 without an end")
+    ≡ Some (codes "key_zero") ∷ Some (codes "the one that counts") ∷ None ∷ Some (codes "three") ∷ Some (codes "a")
+    ∷ Some (233 ∷ 116 ∷ 233 ∷ 255 ∷ []) ∷ None ∷ Some (codes "seven") ∷ None ∷ Some (codes "tab and blanks") ∷ []
+unfolding strings_of
+mysql-strings = refl
 
 -- what a JDK 17 makes of `abc` by PBEWithMD5AndTripleDES under `secret`: equal halves of the salt, 20 iterations
 java_derived : List ℕ

@@ -1,2 +1,17 @@
 pub mod JoinedBlocks
+pub mod Pieces
+pub mod ReadTexts
+pub mod DecryptedBlocks
+pub mod ReadValues
+pub mod KeptBlocks
+pub mod KeyFileLines
+pub mod ValuesByNumber
 pub mod KnownAnswers
+pub mod KnownJasypt
+pub mod Base64Groups
+pub mod ColumnsByValue
+pub mod EncipheredBlocks
+pub mod PaddedTexts
+pub mod WrittenValues
+pub mod SchemeRelations
+pub mod TextsOfValues

@@ -7,7 +7,7 @@ use Rattle.des.specs.Cbc.{Chains}
 abbrev pub joined : List (List ℕ) → List ℕ
 joined blocks = flat_map (λ block. block) blocks
 
--- CBC from a vector takes the bytes p to q, where a relation takes a block to its encryption
+-- CBC from a vector takes the bytes p to q, if a relation takes a block to its encryption
 pub record IsChained (Relates : List ℕ → List ℕ → Type 0) (iv p q : List ℕ) : Type 0 where
   pub p_blocks : List (List ℕ)
   pub q_blocks : List (List ℕ)

@@ -1,6 +1,14 @@
 pub mod ChainedBytes
 pub mod Mysql
-pub mod Pkcs5
+pub mod KeyFile
+pub mod KeptKeys
+pub mod Forms
+pub mod Columns
+pub mod Readings
+pub mod Writings
+pub mod MysqlColumns
+pub mod PgcryptoColumns
 pub mod JavaTripleDes
+pub mod Pbe
+pub mod Jasypt
 pub mod Pgcrypto
-pub mod MysqlErrors

@@ -1,5 +1,5 @@
 -- The values of `DES_ENCRYPT`, as MySQL up to 5.7 and MariaDB have it (Item_func_des_encrypt, sql/item_strfunc.cc).
-use Rattle.std.specs.Prelude.{◌≡◌, ◌≤◌, ℕ, ◌+◌, ◌-◌, ◌%◌, List, [], ◌∷◌, ◌++◌, length, drop, replicate, get_or}
+use Rattle.std.specs.Prelude.{◌≡◌, ℕ, ◌+◌, ◌-◌, ◌%◌, ◌==◌, ◌&&◌, Bool, nat_le, List, [], ◌∷◌, ◌++◌, length, drop, replicate, get_or}
 use Rattle.md5.specs.Md5.{md5}
 use Rattle.des.specs.Triple.{EnciphersEde3}
 use Rattle.des_passwords.specs.BytesToKey.{bytes_to_key}
@@ -25,9 +25,13 @@ abbrev pub IsValueOf : List ℕ → ℕ → List ℕ → List ℕ → Type 0
 IsValueOf key number text value = (get_or value 0 0 ≡ 128 + number) × Enciphered key (padded text) (drop 1 value)
 
 -- bytes that the server takes for encrypted: a byte with the highest bit, and one or more blocks
-abbrev pub HasForm : List ℕ → Type 0
-HasForm value = (9 ≤ length value) × (length value % 8 ≡ 1) × (128 ≤ get_or value 0 0)
+abbrev pub has_form : List ℕ → Bool
+has_form value = nat_le 9 (length value) && (length value % 8 == 1) && nat_le 128 (get_or value 0 0)
 
 -- the last byte
 abbrev pub last_of : List ℕ → ℕ
 last_of value = get_or value (length value - 1) 0
+
+-- the number of the key of a value, which its first byte has above 128
+abbrev pub number_of : List ℕ → ℕ
+number_of value = get_or value 0 0 - 128

@@ -5,7 +5,7 @@ ghost use Rattle.std.specs.Prelude.{◌≡◌, ◌≢◌, ◌≤◌, ◌<◌, �
 ghost use Rattle.md5.specs.Md5.{md5};
 ghost use Rattle.des_columns.specs.JavaTripleDes.{derived, digested, first_half, second_half};
 
-use crate::derived::split;
+use des_passwords::derivation::split;
 use des_passwords::pbkdf2::DeriveError;
 use des_passwords::{HashFunction, KeyAndVector};
 use md5::Md5;

@@ -1,17 +1,28 @@
 //! Values that databases and frameworks encrypted, as they stand in columns and settings: of MySQL
-//! and MariaDB (`mysql`). Their keys: of pgcrypto (`pgcrypto`), and from passwords by PKCS #5 version
-//! 1.5 (`pkcs5`) and by Java's `PBEWithMD5AndTripleDES` (`java`). CBC over bytes, which all of them
-//! take (`chained_bytes`).
+//! and MariaDB (`mysql`, `key_file`), and of pgcrypto (`pgcrypto`), a column at a time, read (`column`,
+//! `one_key`) and written (`writing`). Strings of Jasypt (`jasypt`), each under a key of its own.
+//! Keys from passwords by the names that frameworks give the rules (`pbe`), of which Java's
+//! `PBEWithMD5AndTripleDES` stands here (`java`). CBC over bytes, to write values
+//! (`chained_bytes`).
 //!
 //! These read what others wrote, and write it for those that still read it. No value is
 //! authenticated: write nothing new by them.
 #![tactic(auto)]
 
+mod base64_in_place;
 pub mod chained_bytes;
-mod derived;
+pub mod column;
+pub mod form;
+pub mod jasypt;
 pub mod java;
+mod kept_keys;
+pub mod key_file;
 pub mod mysql;
+pub mod one_key;
+pub mod pbe;
 pub mod pgcrypto;
-pub mod pkcs5;
+pub mod status;
 #[cfg(test)]
 mod tests;
+pub mod value_keys;
+pub mod writing;

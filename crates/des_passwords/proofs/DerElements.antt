@@ -168,7 +168,7 @@ tag_takes tag (t ∷ bytes) rest e =
       | inr other ↦ absurd (no_fault Structure rest other.1)
     ]
 
--- the contents and what follows them, where there are as many octets as the length says
+-- the contents and what follows them, if there are as many octets as the length says
 cut_takes : (tag : ℕ) (bytes : List ℕ) (n : ℕ) (rest : List ℕ) → bytes ≡ tag ∷ length_octets n ++ rest → n < 2 ^ 16
     → IsBytes rest → n ≤ length rest → Takes bytes tag (take n rest) (drop n rest)
 cut_takes tag bytes n rest parts small fits enough =

@@ -42,7 +42,7 @@ last_cut a k xs front last all fits written =
     ∙ sym (take-append-add front last k)
     ∙ ap (λ n. take n (front ++ last)) whole
 
--- where no byte is left, one more adds none
+-- if no byte is left, one more adds none
 pub none_cut : (a : ℕ) (xs front last : List ℕ) → a ≡ length xs → take a xs ≡ front
     → xs ≡ take (length xs) (front ++ last)
 none_cut a xs front last all written =

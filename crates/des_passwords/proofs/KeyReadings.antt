@@ -5,12 +5,12 @@ use Rattle.std.proofs.lemmas.Slice.Eq.{bytes_eq-Decides}
 use Rattle.std.specs.Str.{bytes_eq}
 use Rattle.des_passwords.specs.Der.{fewest, element, integer}
 use Rattle.des_passwords.specs.DerReading.{at_end, at_blanks, digits_of, element_at, last_element_at, whole_element_at, iterations_at}
-use Rattle.des_passwords.specs.EncryptedKeys.{Encryption, pbe_md5_des, pbes2, id_pbkdf2, hmac_sha1, hmac_sha256, des_ede3_cbc, null, eight, pbes1_of, given_length, after_key_length, with_null, prf_named, prf_of, derivation_of, pbkdf2_of, eight_at, vector_at, pbes2_of, encryption_named, encryption_of, encrypted_key_of}
+use Rattle.des_passwords.specs.EncryptedKeys.{Encryption, pbe_md5_des, pbe_sha1_des, pbe_sha1_three_keys, pbe_sha1_two_keys, pbes2, id_pbkdf2, hmac_sha1, hmac_sha256, des_ede3_cbc, null, eight, salt_of, pbe_of, pbe_named, pbe_by, given_length, after_key_length, with_null, prf_named, prf_of, derivation_of, pbkdf2_of, eight_at, vector_at, pbes2_of, encryption_named, encryption_of, encrypted_key_of}
 use Rattle.des_passwords.specs.KeyFileFaults.{Structure, Algorithm, KeyDerivation, KeyLength, Prf, Cipher}
 use Rattle.des_passwords.specs.KeySpellings.{Named, algorithm, pbe_parameter, key_length, prf, pbkdf2_params, pbes2_params, encryption_algorithm, key_contents, key_file, IsInFile, IsRead}
 use Rattle.des_passwords.specs.TextLines.{are_blanks}
 use Rattle.des_passwords.specs.declared.encrypted_keys.Scheme.{Scheme}
-use Rattle.des_passwords.specs.declared.encrypted_keys.Scheme.TheVariants.{Pbes1, Pbes2Sha1, Pbes2Sha256}
+use Rattle.des_passwords.specs.declared.encrypted_keys.Scheme.TheVariants.{Pbes1Md5, Pbes1Sha1, Pkcs12ThreeKeys, Pkcs12TwoKeys, Pbes2Sha1, Pbes2Sha256, DekInfoDes, DekInfoTripleDes}
 use Rattle.des_passwords.proofs.DerElements.{IsBytes, either, ok_is, no_fault, bind_ok, element_takes}
 use Rattle.des_passwords.proofs.DerIntegers.{AreIterations, digits_take, iterations_take}
 
@@ -85,39 +85,49 @@ eight_is octets answer e =
       | inr other ↦ absurd (no_fault Structure answer other.1)
     ]
 
--- ---- PBES1
+-- ---- PBES1 and PKCS #12
 
--- PBEParameter
-pub record IsPbes1 (most : ℕ) (bytes : List ℕ) (e : Encryption) : Type 0 where
+salt_is : (scheme : Scheme) (octets answer : List ℕ) → salt_of scheme octets ≡ Ok answer → octets ≡ answer
+salt_is Pbes1Md5 octets answer e = (eight_is octets answer e).0
+salt_is Pbes1Sha1 octets answer e = (eight_is octets answer e).0
+salt_is Pkcs12ThreeKeys octets answer e = ok_is octets answer e
+salt_is Pkcs12TwoKeys octets answer e = ok_is octets answer e
+salt_is Pbes2Sha1 octets answer e = (eight_is octets answer e).0
+salt_is Pbes2Sha256 octets answer e = (eight_is octets answer e).0
+salt_is DekInfoDes octets answer e = (eight_is octets answer e).0
+salt_is DekInfoTripleDes octets answer e = (eight_is octets answer e).0
+
+-- PBEParameter or pkcs-12PbeParams
+pub record IsPbe (most : ℕ) (scheme : Scheme) (bytes : List ℕ) (e : Encryption) : Type 0 where
   pub parts : bytes ≡ pbe_parameter e
-  pub scheme : e.scheme ≡ Pbes1
-  pub salt : length e.salt ≡ 8
+  pub of_scheme : e.scheme ≡ scheme
+  pub salt : salt_of scheme e.salt ≡ Ok e.salt
   pub vector : e.vector ≡ replicate 8 0
   pub count : AreIterations most e.iterations
 
-pbes1_takes : (most : ℕ) (bytes : List ℕ) (e : Encryption) → IsBytes bytes → pbes1_of most bytes ≡ Ok e
-    → IsPbes1 most bytes e
-unfolding pbes1_of
-pbes1_takes most bytes e fits read =
+pbe_takes : (most : ℕ) (scheme : Scheme) (bytes : List ℕ) (e : Encryption) → IsBytes bytes
+    → pbe_of most scheme bytes ≡ Ok e → IsPbe most scheme bytes e
+unfolding pbe_of
+pbe_takes most scheme bytes e fits read =
     let a = bind_ok (last_element_at 0x30 bytes) _ e read in
     let b = bind_ok (element_at 0x04 a.0) _ e a.2 in
-    let d = bind_ok (eight b.0.0) _ e b.2 in
+    let d = bind_ok (salt_of scheme b.0.0) _ e b.2 in
     let n = bind_ok (iterations_at most b.0.1) _ e d.2 in
     let outer = last_takes 0x30 bytes a.0 fits a.1 in
     let salt = element_takes 0x04 a.0 b.0 outer.fits b.1 in
-    let octets = eight_is b.0.0 d.0 d.1 in
+    let octets = salt_is scheme b.0.0 d.0 d.1 in
     let count = iterations_take most b.0.1 n.0 salt.rest_fits n.1 in
-    let made : Encryption = record { scheme = Pbes1; salt = d.0; iterations = n.0.0; vector = replicate 8 0 } in
+    let made : Encryption = record { scheme = scheme; salt = d.0; iterations = n.0.0; vector = replicate 8 0 } in
     let end = at_end_is n.0.1 made e n.2 in
-    subst (IsPbes1 most bytes) end.1 (record {
+    subst (IsPbe most scheme bytes) end.1 (record {
       parts =
           outer.parts
           ∙ ap (element 0x30) (salt.parts
           ∙ ap (λ (l : List ℕ). element 0x04 b.0.0 ++ l)
           (count.0.parts ∙ ap (λ (l : List ℕ). integer n.0.0 ++ l) end.0 ∙ append-nil (integer n.0.0))
-          ∙ ap (λ (l : List ℕ). element 0x04 l ++ integer n.0.0) octets.0);
-      scheme = refl;
-      salt = octets.1;
+          ∙ ap (λ (l : List ℕ). element 0x04 l ++ integer n.0.0) octets);
+      of_scheme = refl;
+      salt = ap (salt_of scheme) (sym octets) ∙ d.1;
       vector = refl;
       count = count.1;
     })
@@ -361,17 +371,62 @@ pub record IsEncryption (most : ℕ) (bytes : List ℕ) (e : Encryption) : Type 
   pub scheme : IsInFile e.scheme e
   pub count : AreIterations most e.iterations
 
--- with PBES1 it is of no account what is named
-pbes1_is : (most : ℕ) (bytes : List ℕ) (e : Encryption) → IsPbes1 most bytes e
-    → IsEncryption most (element 0x06 pbe_md5_des ++ bytes) e
-pbes1_is most bytes e p = record {
-  named = record { key_length = false; prf = false };
-  parts =
-      ap (λ (l : List ℕ). algorithm pbe_md5_des l) p.parts
-      ∙ sym (ap (encryption_algorithm (record { key_length = false; prf = false }) e) p.scheme);
-  scheme = subst (λ (s : Scheme). IsInFile s e) (sym p.scheme) (p.salt, p.vector);
-  count = p.count;
-}
+-- an object identifier names a scheme that derives the vector with the key
+pub record NamesPbe (oid : List ℕ) (scheme : Scheme) : Type 0 where
+  pub written : (named : Named) (e : Encryption) → encryption_algorithm named e scheme ≡ algorithm oid (pbe_parameter e)
+  pub in_file : (e : Encryption) → salt_of scheme e.salt ≡ Ok e.salt → e.vector ≡ replicate 8 0 → IsInFile scheme e
+
+names_md5 : NamesPbe pbe_md5_des Pbes1Md5
+names_md5 = record { written = λ named e. refl; in_file = λ e salt vector. ((eight_is e.salt e.salt salt).1, vector) }
+
+names_sha1 : NamesPbe pbe_sha1_des Pbes1Sha1
+names_sha1 = record { written = λ named e. refl; in_file = λ e salt vector. ((eight_is e.salt e.salt salt).1, vector) }
+
+names_three_keys : NamesPbe pbe_sha1_three_keys Pkcs12ThreeKeys
+names_three_keys = record { written = λ named e. refl; in_file = λ e salt vector. vector }
+
+names_two_keys : NamesPbe pbe_sha1_two_keys Pkcs12TwoKeys
+names_two_keys = record { written = λ named e. refl; in_file = λ e salt vector. vector }
+
+-- the object identifier that was found equal to one, and the scheme of that one
+names_as : (oid known : List ℕ) (of_known scheme : Scheme) → bytes_eq oid known ≡ true
+    → NamesPbe known of_known → of_known ≡ scheme → NamesPbe oid scheme
+names_as oid known of_known scheme same names is =
+    subst (NamesPbe oid) is
+    (subst (λ (l : List ℕ). NamesPbe l of_known) (sym ((bytes_eq-Decides oid known).0 same)) names)
+
+pbe_names : (oid : List ℕ) (scheme : Scheme) → pbe_named oid ≡ Ok scheme → NamesPbe oid scheme
+unfolding pbe_named
+pbe_names oid scheme read =
+    elim (either (bytes_eq oid pbe_md5_des) _ _ (Ok scheme) read) [
+      | inl md5 ↦ names_as oid pbe_md5_des Pbes1Md5 scheme md5.0 names_md5 (ok_is Pbes1Md5 scheme md5.1)
+      | inr no_md5 ↦ elim (either (bytes_eq oid pbe_sha1_des) _ _ (Ok scheme) no_md5.1) [
+        | inl sha1 ↦ names_as oid pbe_sha1_des Pbes1Sha1 scheme sha1.0 names_sha1 (ok_is Pbes1Sha1 scheme sha1.1)
+        | inr no_sha1 ↦ elim (either (bytes_eq oid pbe_sha1_three_keys) _ _ (Ok scheme) no_sha1.1) [
+          | inl three ↦
+              names_as oid pbe_sha1_three_keys Pkcs12ThreeKeys scheme three.0 names_three_keys
+              (ok_is Pkcs12ThreeKeys scheme three.1)
+          | inr no_three ↦ elim (either (bytes_eq oid pbe_sha1_two_keys) _ _ (Ok scheme) no_three.1) [
+            | inl two ↦ names_as oid pbe_sha1_two_keys Pkcs12TwoKeys scheme two.0 names_two_keys (ok_is Pkcs12TwoKeys scheme two.1)
+            | inr none ↦ absurd (no_fault (Algorithm oid) scheme none.1)
+          ]
+        ]
+      ]
+    ]
+
+-- with these it is of no account what is named
+pbe_is : (most : ℕ) (oid bytes : List ℕ) (scheme : Scheme) (e : Encryption) → NamesPbe oid scheme
+    → IsPbe most scheme bytes e → IsEncryption most (element 0x06 oid ++ bytes) e
+pbe_is most oid bytes scheme e names p =
+    let none : Named = record { key_length = false; prf = false } in
+    record {
+      named = none;
+      parts =
+          ap (λ (l : List ℕ). algorithm oid l) p.parts
+          ∙ sym (ap (encryption_algorithm none e) p.of_scheme ∙ names.written none e);
+      scheme = subst (λ (s : Scheme). IsInFile s e) (sym p.of_scheme) (names.in_file e p.salt p.vector);
+      count = p.count;
+    }
 
 pbes2_is : (most : ℕ) (bytes : List ℕ) (e : Encryption) → IsPbes2Of most bytes e
     → IsEncryption most (element 0x06 pbes2 ++ bytes) e
@@ -394,20 +449,16 @@ pbes2_is most bytes e p =
 
 named_takes : (most : ℕ) (oid parameters : List ℕ) (e : Encryption) → IsBytes parameters
     → encryption_named most oid parameters ≡ Ok e → IsEncryption most (element 0x06 oid ++ parameters) e
-unfolding encryption_named
+unfolding encryption_named pbe_by
 named_takes most oid parameters e fits read =
     elim (either (bytes_eq oid pbes2) _ _ (Ok e) read) [
       | inl second ↦
           subst (λ (l : List ℕ). IsEncryption most (element 0x06 l ++ parameters) e)
           (sym ((bytes_eq-Decides oid pbes2).0 second.0))
           (pbes2_is most parameters e (pbes2_takes most parameters e fits second.1))
-      | inr not ↦ elim (either (bytes_eq oid pbe_md5_des) _ _ (Ok e) not.1) [
-        | inl first ↦
-            subst (λ (l : List ℕ). IsEncryption most (element 0x06 l ++ parameters) e)
-            (sym ((bytes_eq-Decides oid pbe_md5_des).0 first.0))
-            (pbes1_is most parameters e (pbes1_takes most parameters e fits first.1))
-        | inr none ↦ absurd (no_fault (Algorithm oid) e none.1)
-      ]
+      | inr other ↦
+          let s = bind_ok (pbe_named oid) _ e other.1 in
+          pbe_is most oid parameters s.0 e (pbe_names oid s.0 s.1) (pbe_takes most s.0 parameters e fits s.2)
     ]
 
 encryption_takes : (most : ℕ) (bytes : List ℕ) (e : Encryption) → IsBytes bytes → encryption_of most bytes ≡ Ok e

@@ -1,12 +1,13 @@
 -- An encrypted private key that is spelled so is read.
 use Rattle.std.proofs.Common.{◌≡◌, ◌∙◌, refl, sym, ap, ℕ, ◌<◌, ◌^◌, Bool, true, false, eq-eqb, List, [], ◌∷◌, ◌++◌, length, length-append, replicate, append-nil, Ok, arith}
+use Rattle.std.specs.Str.{bytes_eq}
 use Rattle.des_passwords.specs.Der.{fewest, length_octets, element, integer}
 use Rattle.des_passwords.specs.DerReading.{length_at, tag_at, element_at, digits_of, last_element_at, whole_element_at, iterations_at}
-use Rattle.des_passwords.specs.EncryptedKeys.{Encryption, pbe_md5_des, pbes2, id_pbkdf2, des_ede3_cbc, eight, pbes1_of, given_length, after_key_length, prf_named, prf_of, derivation_of, pbkdf2_of, eight_at, vector_at, pbes2_of, encryption_named, encryption_of, encrypted_key_of}
+use Rattle.des_passwords.specs.EncryptedKeys.{Encryption, pbe_md5_des, pbe_sha1_des, pbe_sha1_three_keys, pbe_sha1_two_keys, pbes2, id_pbkdf2, des_ede3_cbc, eight, salt_of, pbe_of, pbe_named, pbe_by, given_length, after_key_length, prf_named, prf_of, derivation_of, pbkdf2_of, eight_at, vector_at, pbes2_of, encryption_named, encryption_of, encrypted_key_of}
 use Rattle.des_passwords.specs.KeySpellings.{Named, algorithm, key_length, prf, pbkdf2_params, pbes2_params, key_file, IsRead}
 use Rattle.des_passwords.specs.TextLines.{are_blanks}
 use Rattle.des_passwords.specs.declared.encrypted_keys.Scheme.{Scheme}
-use Rattle.des_passwords.specs.declared.encrypted_keys.Scheme.TheVariants.{Pbes1, Pbes2Sha1, Pbes2Sha256, DekInfoDes, DekInfoTripleDes}
+use Rattle.des_passwords.specs.declared.encrypted_keys.Scheme.TheVariants.{Pbes1Md5, Pbes1Sha1, Pkcs12ThreeKeys, Pkcs12TwoKeys, Pbes2Sha1, Pbes2Sha256, DekInfoDes, DekInfoTripleDes}
 use Rattle.des_passwords.proofs.DerElements.{element_again}
 use Rattle.des_passwords.proofs.DerIntegers.{AreIterations, iterations_again}
 
@@ -46,18 +47,18 @@ last_iterations most n are bound =
 eight_again : (octets : List ℕ) → length octets ≡ 8 → eight octets ≡ Ok octets
 eight_again octets long = rw (eq-eqb (length octets) 8 long) refl
 
--- ---- PBES1
+-- ---- PBES1 and PKCS #12
 
-pbes1_again : (most : ℕ) (salt : List ℕ) (n : ℕ) → length salt ≡ 8 → IsSmall (element 0x04 salt ++ integer n)
-    → AreIterations most n → most < 2 ^ 32
-    → pbes1_of most (element 0x30 (element 0x04 salt ++ integer n))
-    ≡ Ok (record { scheme = Pbes1; salt = salt; iterations = n; vector = replicate 8 0 })
-unfolding pbes1_of
-pbes1_again most salt n long small are bound =
+pbe_again : (most : ℕ) (scheme : Scheme) (salt : List ℕ) (n : ℕ) → salt_of scheme salt ≡ Ok salt
+    → IsSmall (element 0x04 salt ++ integer n) → AreIterations most n → most < 2 ^ 32
+    → pbe_of most scheme (element 0x30 (element 0x04 salt ++ integer n))
+    ≡ Ok (record { scheme = scheme; salt = salt; iterations = n; vector = replicate 8 0 })
+unfolding pbe_of
+pbe_again most scheme salt n read small are bound =
     rw (
       last_again 0x30 (element 0x04 salt ++ integer n) small,
       element_again 0x04 salt (integer n) (inside 0x04 salt (left (element 0x04 salt) (integer n) small)),
-      eq-eqb (length salt) 8 long,
+      read,
       last_iterations most n are bound,
     ) refl
 
@@ -149,10 +150,17 @@ pbes2_again most parameters vector e read long small =
 
 -- ---- the file
 
-first_again : (most : ℕ) (parameters : List ℕ) (e : Encryption) → pbes1_of most parameters ≡ Ok e
-    → encryption_of most (element 0x06 pbe_md5_des ++ parameters) ≡ Ok e
-unfolding encryption_of encryption_named
-first_again most parameters e read = rw (element_again 0x06 pbe_md5_des parameters (omega arith)) read
+-- an object identifier of a scheme that derives the vector with the key
+record IsOid (oid : List ℕ) (scheme : Scheme) : Type 0 where
+  small : IsSmall oid
+  no_pbes2 : bytes_eq oid pbes2 ≡ false
+  names : pbe_named oid ≡ Ok scheme
+
+first_again : (most : ℕ) (oid parameters : List ℕ) (scheme : Scheme) (e : Encryption) → IsOid oid scheme
+    → pbe_of most scheme parameters ≡ Ok e → encryption_of most (element 0x06 oid ++ parameters) ≡ Ok e
+unfolding encryption_of encryption_named pbe_by
+first_again most oid parameters scheme e is read =
+    rw (element_again 0x06 oid parameters is.small, is.no_pbes2, is.names) read
 
 second_again : (most : ℕ) (parameters : List ℕ) (e : Encryption) → pbes2_of most parameters ≡ Ok e
     → encryption_of most (element 0x06 pbes2 ++ parameters) ≡ Ok e
@@ -174,6 +182,41 @@ file_again most encryption encrypted blanks e read blank small =
       last_again 0x04 encrypted (inside 0x04 encrypted (right (element 0x30 encryption) text small)),
       read,
     ) refl
+
+-- under such a scheme
+pbe_file : (most : ℕ) (oid : List ℕ) (scheme : Scheme) (salt : List ℕ) (n : ℕ) (vector encrypted blanks : List ℕ)
+    → IsOid oid scheme → salt_of scheme salt ≡ Ok salt → vector ≡ replicate 8 0 → AreIterations most n → most < 2 ^ 32
+    → are_blanks blanks ≡ true
+    → IsSmall (algorithm oid (element 0x30 (element 0x04 salt ++ integer n)) ++ element 0x04 encrypted)
+    → encrypted_key_of most (element 0x30
+    (algorithm oid (element 0x30 (element 0x04 salt ++ integer n)) ++ element 0x04 encrypted) ++ blanks)
+    ≡ Ok (encryption scheme salt n vector, encrypted)
+pbe_file most oid scheme salt n vector encrypted blanks is read zeros are bound blank small =
+    let inner = element 0x04 salt ++ integer n in
+    let parameters = element 0x06 oid ++ element 0x30 inner in
+    let outer_small = inside 0x30 parameters (left (element 0x30 parameters) (element 0x04 encrypted) small) in
+    let inner_small = inside 0x30 inner (right (element 0x06 oid) (element 0x30 inner) outer_small) in
+    file_again most parameters encrypted blanks (encryption scheme salt n vector)
+    (first_again most oid (element 0x30 inner) scheme (encryption scheme salt n vector) is
+    (pbe_again most scheme salt n read inner_small are bound
+    ∙ ap (λ (v : List ℕ). Ok (encryption scheme salt n v)) (sym zeros)))
+    blank small
+
+is_md5 : IsOid pbe_md5_des Pbes1Md5
+unfolding pbe_named
+is_md5 = record { small = omega arith; no_pbes2 = refl; names = refl }
+
+is_sha1 : IsOid pbe_sha1_des Pbes1Sha1
+unfolding pbe_named
+is_sha1 = record { small = omega arith; no_pbes2 = refl; names = refl }
+
+is_three_keys : IsOid pbe_sha1_three_keys Pkcs12ThreeKeys
+unfolding pbe_named
+is_three_keys = record { small = omega arith; no_pbes2 = refl; names = refl }
+
+is_two_keys : IsOid pbe_sha1_two_keys Pkcs12TwoKeys
+unfolding pbe_named
+is_two_keys = record { small = omega arith; no_pbes2 = refl; names = refl }
 
 -- under PBES2
 pbes2_file : (most : ℕ) (named : Named) (scheme : Scheme) (salt : List ℕ) (n : ℕ) (vector encrypted blanks : List ℕ)
@@ -206,17 +249,18 @@ parts_again : (most : ℕ) (named : Named) (scheme : Scheme) (salt : List ℕ) (
     → are_blanks blanks ≡ true → most < 2 ^ 32
     → encrypted_key_of most (key_file named (encryption scheme salt n vector) encrypted ++ blanks)
     ≡ Ok (encryption scheme salt n vector, encrypted)
-parts_again most named Pbes1 salt n vector encrypted blanks h blank bound =
-    let are : AreIterations most n = record { some = h.some; few = h.few } in
-    let inner = element 0x04 salt ++ integer n in
-    let parameters = element 0x06 pbe_md5_des ++ element 0x30 inner in
-    let outer_small = inside 0x30 parameters (left (element 0x30 parameters) (element 0x04 encrypted) h.size) in
-    let inner_small = inside 0x30 inner (right (element 0x06 pbe_md5_des) (element 0x30 inner) outer_small) in
-    file_again most parameters encrypted blanks (encryption Pbes1 salt n vector)
-    (first_again most (element 0x30 inner) (encryption Pbes1 salt n vector)
-    (pbes1_again most salt n h.scheme.0 inner_small are bound
-    ∙ ap (λ (v : List ℕ). Ok (encryption Pbes1 salt n v)) (sym h.scheme.1)))
-    blank h.size
+parts_again most named Pbes1Md5 salt n vector encrypted blanks h blank bound =
+    pbe_file most pbe_md5_des Pbes1Md5 salt n vector encrypted blanks is_md5 (eight_again salt h.scheme.0) h.scheme.1
+    (record { some = h.some; few = h.few }) bound blank h.size
+parts_again most named Pbes1Sha1 salt n vector encrypted blanks h blank bound =
+    pbe_file most pbe_sha1_des Pbes1Sha1 salt n vector encrypted blanks is_sha1 (eight_again salt h.scheme.0) h.scheme.1
+    (record { some = h.some; few = h.few }) bound blank h.size
+parts_again most named Pkcs12ThreeKeys salt n vector encrypted blanks h blank bound =
+    pbe_file most pbe_sha1_three_keys Pkcs12ThreeKeys salt n vector encrypted blanks is_three_keys refl h.scheme
+    (record { some = h.some; few = h.few }) bound blank h.size
+parts_again most named Pkcs12TwoKeys salt n vector encrypted blanks h blank bound =
+    pbe_file most pbe_sha1_two_keys Pkcs12TwoKeys salt n vector encrypted blanks is_two_keys refl h.scheme
+    (record { some = h.some; few = h.few }) bound blank h.size
 parts_again most named Pbes2Sha1 salt n vector encrypted blanks h blank bound =
     pbes2_file most named Pbes2Sha1 salt n vector encrypted blanks (sha1_again named.prf)
     (record { some = h.some; few = h.few }) bound h.scheme blank h.size

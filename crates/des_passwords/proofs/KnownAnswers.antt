@@ -5,9 +5,10 @@ use Rattle.sha1.specs.Sha1.{first_words, schedule, rounds as rounds_1, compress 
 use Rattle.des_passwords.specs.BytesToKey.{bytes_to_key, d, ds, repeated}
 use Rattle.des_passwords.specs.Der.{fewest}
 use Rattle.des_passwords.specs.Hmac.{hmac}
-use Rattle.des_passwords.specs.KeySpellings.{Named, key_file}
+use Rattle.des_passwords.specs.KeySpellings.{Named, encryption_algorithm, key_file}
+use Rattle.des_passwords.specs.Pbkdf1.{pbkdf1}
 use Rattle.des_passwords.specs.Pbkdf2.{blocks, pbkdf2, u, xor_of}
-use Rattle.des_passwords.specs.declared.encrypted_keys.Scheme.TheVariants.{Pbes1, Pbes2Sha256}
+use Rattle.des_passwords.specs.declared.encrypted_keys.Scheme.TheVariants.{Pbes1Md5, Pbes1Sha1, Pkcs12ThreeKeys, Pkcs12TwoKeys, Pbes2Sha256}
 
 -- RFC 2202, section 2, test case 2
 hmac-md5 : hmac md5 (codes "Jefe") (codes "what do ya want for nothing?")
@@ -39,6 +40,13 @@ bytes_to_key-thrice : bytes_to_key md5 16 (codes "password") (1 ∷ 2 ∷ 3 ∷ 
 unfolding block_words rounds compress hash_after digest_bytes md5 repeated d ds
 bytes_to_key-thrice = refl
 
+-- PBKDF1 with SHA-1, by hashlib too
+pbkdf1-thrice : pbkdf1 sha1 (codes "password") (1 ∷ 2 ∷ 3 ∷ 4 ∷ 5 ∷ 6 ∷ 7 ∷ 8 ∷ []) 3 16
+    ≡ 0xdf ∷ 0xcb ∷ 0xa5 ∷ 0x6b ∷ 0x39 ∷ 0xf1 ∷ 0xcb ∷ 0xad
+    ∷ 0xca ∷ 0x08 ∷ 0x74 ∷ 0x72 ∷ 0x4d ∷ 0x50 ∷ 0xb5 ∷ 0xac ∷ []
+unfolding first_words schedule rounds_1 compress_1 hash_after_1 digest_bytes_1 sha1 repeated
+pbkdf1-thrice = refl
+
 nothing_named : Named
 nothing_named = record { key_length = false; prf = false }
 
@@ -52,7 +60,7 @@ first_encrypted =
     ∷ 0x6d ∷ 0xb0 ∷ 0x41 ∷ 0x3b ∷ 0xf0 ∷ 0xc3 ∷ 0xbc ∷ 0xa4 ∷ []
 
 first_file : key_file nothing_named (record {
-  scheme = Pbes1;
+  scheme = Pbes1Md5;
   salt = 0xec ∷ 0x10 ∷ 0x38 ∷ 0xf6 ∷ 0x27 ∷ 0x3d ∷ 0x79 ∷ 0x4e ∷ [];
   iterations = 2048;
   vector = replicate 8 0;
@@ -68,7 +76,44 @@ first_file : key_file nothing_named (record {
 unfolding fewest nothing_named first_encrypted
 first_file = refl
 
--- and with `-v2 des3 -v2prf hmacWithSHA256`
+-- the algorithms that it writes with `-v1 PBE-SHA1-DES`, `-v1 PBE-SHA1-3DES` and `-v1 PBE-SHA1-2DES`
+sha1_algorithm : encryption_algorithm nothing_named (record {
+  scheme = Pbes1Sha1;
+  salt = 0x4d ∷ 0x45 ∷ 0xc1 ∷ 0x2b ∷ 0x32 ∷ 0x35 ∷ 0xe0 ∷ 0x43 ∷ [];
+  iterations = 2048;
+  vector = replicate 8 0;
+}) Pbes1Sha1
+    ≡ 0x30 ∷ 0x1b ∷ 0x06 ∷ 0x09 ∷ 0x2a ∷ 0x86 ∷ 0x48 ∷ 0x86 ∷ 0xf7 ∷ 0x0d ∷ 0x01 ∷ 0x05
+    ∷ 0x0a ∷ 0x30 ∷ 0x0e ∷ 0x04 ∷ 0x08 ∷ 0x4d ∷ 0x45 ∷ 0xc1 ∷ 0x2b ∷ 0x32 ∷ 0x35 ∷ 0xe0
+    ∷ 0x43 ∷ 0x02 ∷ 0x02 ∷ 0x08 ∷ 0x00 ∷ []
+unfolding fewest nothing_named
+sha1_algorithm = refl
+
+three_keys_algorithm : encryption_algorithm nothing_named (record {
+  scheme = Pkcs12ThreeKeys;
+  salt = 0x38 ∷ 0x83 ∷ 0xc5 ∷ 0x6c ∷ 0xe6 ∷ 0x29 ∷ 0xc6 ∷ 0x03 ∷ [];
+  iterations = 2048;
+  vector = replicate 8 0;
+}) Pkcs12ThreeKeys
+    ≡ 0x30 ∷ 0x1c ∷ 0x06 ∷ 0x0a ∷ 0x2a ∷ 0x86 ∷ 0x48 ∷ 0x86 ∷ 0xf7 ∷ 0x0d ∷ 0x01 ∷ 0x0c
+    ∷ 0x01 ∷ 0x03 ∷ 0x30 ∷ 0x0e ∷ 0x04 ∷ 0x08 ∷ 0x38 ∷ 0x83 ∷ 0xc5 ∷ 0x6c ∷ 0xe6 ∷ 0x29
+    ∷ 0xc6 ∷ 0x03 ∷ 0x02 ∷ 0x02 ∷ 0x08 ∷ 0x00 ∷ []
+unfolding fewest nothing_named
+three_keys_algorithm = refl
+
+two_keys_algorithm : encryption_algorithm nothing_named (record {
+  scheme = Pkcs12TwoKeys;
+  salt = 0xc5 ∷ 0xf5 ∷ 0x46 ∷ 0x19 ∷ 0xcb ∷ 0xa0 ∷ 0x92 ∷ 0xd9 ∷ [];
+  iterations = 2048;
+  vector = replicate 8 0;
+}) Pkcs12TwoKeys
+    ≡ 0x30 ∷ 0x1c ∷ 0x06 ∷ 0x0a ∷ 0x2a ∷ 0x86 ∷ 0x48 ∷ 0x86 ∷ 0xf7 ∷ 0x0d ∷ 0x01 ∷ 0x0c
+    ∷ 0x01 ∷ 0x04 ∷ 0x30 ∷ 0x0e ∷ 0x04 ∷ 0x08 ∷ 0xc5 ∷ 0xf5 ∷ 0x46 ∷ 0x19 ∷ 0xcb ∷ 0xa0
+    ∷ 0x92 ∷ 0xd9 ∷ 0x02 ∷ 0x02 ∷ 0x08 ∷ 0x00 ∷ []
+unfolding fewest nothing_named
+two_keys_algorithm = refl
+
+-- and the file with `-v2 des3 -v2prf hmacWithSHA256`
 second_encrypted : List ℕ
 second_encrypted =
     0x39 ∷ 0x8f ∷ 0xc9 ∷ 0xa9 ∷ 0xfa ∷ 0xa7 ∷ 0x67 ∷ 0xdf ∷ 0x25 ∷ 0xf7 ∷ 0x96 ∷ 0x30

@@ -34,7 +34,7 @@ abbrev pub behind : List (List ℕ) → Result (List (List ℕ)) Fault → Resul
 behind front (Ok body) = Ok (front ++ body)
 behind front (Err e) = Err e
 
--- `front` and `rest` are the text; where something is left, what follows `front` begins a line; and the body is the
+-- `front` and `rest` are the text; if something is left, what follows `front` begins a line; and the body is the
 -- lines of `front`, and then those of the rest that are of it
 pub record IsBodySoFar (last text front rest : List ℕ) : Type 0 where
   pub parts : text ≡ front ++ rest
@@ -103,7 +103,7 @@ whole_more front end line whole then x =
     ∙ sym (append_assoc (lines_of front) (line ∷ []) (lines_of x))
     ∙ ap (λ (l : List (List ℕ)). l ++ lines_of x) (sym (lines_more front end line whole then))
 
--- where nothing is left, no line ends the body, whatever stands before
+-- if nothing is left, no line ends the body, whatever stands before
 body_missing : (last rest : List ℕ) (front other : List (List ℕ)) → rest ≡ []
     → behind front (body_of last (lines_of rest)) ≡ behind other (body_of last (lines_of rest))
 body_missing last rest front other none =

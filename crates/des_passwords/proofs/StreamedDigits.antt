@@ -52,7 +52,7 @@ unfolding after_all given_by
 over position None whole end = tt
 over position (Some rest) whole end = rw (end, whole) refl
 
--- a read that gave nothing, where there is room, and does not end short
+-- a read that gave nothing, if there is room, and does not end short
 whole_at_end : (next : Position) (buf : List ℕ) → (not (length buf == 0) && not (is_whole next)) ≡ false → 0 < length buf
     → (is_whole next ≡ true) × (is_some next.fault ≡ false)
 whole_at_end next [] long some = absurd (omega (arith, some))

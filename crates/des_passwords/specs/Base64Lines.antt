@@ -14,21 +14,21 @@ use Rattle.des_passwords.specs.declared.base64_lines.Base64Error.TheVariants.{Li
 abbrev pub characters_in : List (List ℕ) → List ℕ
 characters_in lines = flat_map trimmed lines
 
--- the place of the character at fault: the last one of all where characters are missing
+-- the place of the character at fault: the last one of all if characters are missing
 abbrev pub place_of : DecodeError → ℕ → ℕ
 place_of (InvalidByte place byte) count = place
 place_of (InvalidLastSymbol place symbol value) count = place
 place_of (InvalidLength place) count = count - 1
 place_of InvalidPadding count = count - 1
 
--- the number of the line with the character at a place, where the first is line n
+-- the number of the line with the character at a place, if the first is line n
 unfoldable pub line_at : ℕ → ℕ → List (List ℕ) → ℕ
 line_at n place [] = n
 line_at n place (line ∷ rest) =
     if nat_lt place (length (trimmed line)) then n
     else line_at (n + 1) (place - length (trimmed line)) rest
 
--- what decoding gives, with the line at fault, where the first is line n
+-- what decoding gives, with the line at fault, if the first is line n
 abbrev pub in_lines : ℕ → List (List ℕ) → Result (List ℕ) DecodeError → Result (List ℕ) ℕ
 in_lines n lines (Ok bytes) = Ok bytes
 in_lines n lines (Err error) = Err (line_at n (place_of error (length (characters_in lines))) lines)

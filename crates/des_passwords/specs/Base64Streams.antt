@@ -80,7 +80,7 @@ module _ {R : Type 0} (remaining : R → Option (List ℕ)) where
   abbrev pub characters_remaining : Characters R → Option (List ℕ)
   characters_remaining reader = option_map (characters_from reader.position) (remaining reader.inner)
 
-  -- the bytes to come, where the text is known and decodes
+  -- the bytes to come, if the text is known and decodes
   abbrev pub bytes_remaining : Base64Reader R → Option (List ℕ)
   bytes_remaining reader = decoder_remaining characters_remaining reader.decoder
 
@@ -88,6 +88,6 @@ module _ {R : Type 0} (remaining : R → Option (List ℕ)) where
   abbrev pub outlook_on : Base64Reader R → Outlook
   outlook_on reader = outlook characters_remaining reader.decoder
 
--- the bytes that a text encodes, where it is Base64 as an engine decodes it
+-- the bytes that a text encodes, if it is Base64 as an engine decodes it
 abbrev pub bytes_of : GeneralPurpose → List ℕ → Option (List ℕ)
 bytes_of engine text = decoded_of engine (characters_from beginning text)

@@ -1,4 +1,4 @@
--- How OpenSSL makes keys from passwords (manual page EVP_BytesToKey(3)). Where one digest is long enough for key and
+-- How OpenSSL makes keys from passwords (manual page EVP_BytesToKey(3)). If one digest is long enough for key and
 -- vector, this is PBKDF1 (RFC 8018, section 5.1).
 use Rattle.std.specs.Prelude.{ℕ, zero, suc, ◌+◌, ◌/◌, List, [], ◌++◌, take}
 

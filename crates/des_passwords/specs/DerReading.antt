@@ -15,7 +15,7 @@ abbrev pub Gives : {X Y : Type 0} → (X → Y) → Result X KeyFileError → Re
 Gives view (Ok x) read = read ≡ Ok (view x)
 Gives view (Err e) read = read ≡ Err (fault_of e)
 
--- the octets of a length, one or two, behind those that say how many (8.1.3.5), where no fewer would do (10.1)
+-- the octets of a length, one or two, behind those that say how many (8.1.3.5), if no fewer would do (10.1)
 unfoldable pub one_octet : List ℕ → Result (ℕ × List ℕ) Fault
 one_octet [] = Err Structure
 one_octet (n ∷ rest) = if nat_lt n 128 then Err Structure else Ok (n, rest)

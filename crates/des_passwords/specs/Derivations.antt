@@ -17,7 +17,7 @@ derived Sha256 password salt length = bytes_to_key sha256 32 password salt 1 len
 derived (Pbkdf2Sha1 count) password salt length = pbkdf2 (hmac sha1 password) 20 salt count length
 derived (Pbkdf2Sha256 count) password salt length = pbkdf2 (hmac sha256 password) 32 salt count length
 
--- there is an iteration, and so many bytes can be derived: PBKDF2 gives 2 ^ 32 - 1 digests at most
+-- there is an iteration, and a key of this length can be derived: PBKDF2 gives 2 ^ 32 - 1 digests at most
 abbrev pub IsDerivable : Derivation → ℕ → Type 0
 IsDerivable Md5 length = Unit {0}
 IsDerivable Sha1 length = Unit {0}

@@ -1,5 +1,5 @@
--- Encrypted private keys of PKCS #8 (RFC 5958, section 3) under PBES1 and PBES2 (RFC 8018, section 6 and appendix A),
--- read with the first fault that is met, and the key of the file.
+-- Encrypted private keys of PKCS #8 (RFC 5958, section 3) under PBES1 and PBES2 (RFC 8018, section 6 and appendix A), and
+-- under PKCS #12's schemes of triple DES (RFC 7292, appendix C), read with the first fault that is met; the key of the file.
 use Rattle.std.specs.Prelude.{ℕ, List, [], ◌∷◌, ◌++◌, length, take, drop, replicate, Result, Ok, Err, ◌==◌, if◌then◌else◌}
 use Rattle.std.specs.Str.{bytes_eq}
 use Rattle.md5.specs.Md5.{md5}
@@ -8,17 +8,28 @@ use Rattle.sha2.specs.Sha256.{sha256}
 use Rattle.des_passwords.specs.BytesToKey.{bytes_to_key}
 use Rattle.des_passwords.specs.DerReading.{◌>>=◌, at_end, digits_of, element_at, last_element_at, whole_element_at, iterations_at}
 use Rattle.des_passwords.specs.Hmac.{hmac}
+use Rattle.des_passwords.specs.Pbkdf1.{pbkdf1}
 use Rattle.des_passwords.specs.Pbkdf2.{pbkdf2}
+use Rattle.des_passwords.specs.Pkcs12.{pkcs12}
 use Rattle.des_passwords.specs.declared.encrypted_keys.EncryptedKey.{EncryptedKey}
 use Rattle.des_passwords.specs.declared.encrypted_keys.Parameters.{Parameters}
 use Rattle.des_passwords.specs.declared.encrypted_keys.Scheme.{Scheme}
-use Rattle.des_passwords.specs.declared.encrypted_keys.Scheme.TheVariants.{Pbes1, Pbes2Sha1, Pbes2Sha256, DekInfoDes, DekInfoTripleDes}
+use Rattle.des_passwords.specs.declared.encrypted_keys.Scheme.TheVariants.{Pbes1Md5, Pbes1Sha1, Pkcs12ThreeKeys, Pkcs12TwoKeys, Pbes2Sha1, Pbes2Sha256, DekInfoDes, DekInfoTripleDes}
 use Rattle.des_passwords.specs.KeyFileFaults.{Fault, Structure, Algorithm, KeyDerivation, KeyLength, Prf, Cipher}
 
--- object identifiers, as their contents in DER: those of RFC 8018, appendix C, 1.2.840.113549.1.5.3, .13 and .12,
--- 1.2.840.113549.2.7 and .9, and 1.2.840.113549.3.7
+-- object identifiers, as their contents in DER: those of RFC 8018, appendix C, 1.2.840.113549.1.5.3, .10, .13 and .12,
+-- 1.2.840.113549.2.7 and .9, and 1.2.840.113549.3.7; of RFC 7292, appendix C, 1.2.840.113549.1.12.1.3 and .4
 abbrev pub pbe_md5_des : List ℕ
 pbe_md5_des = 0x2a ∷ 0x86 ∷ 0x48 ∷ 0x86 ∷ 0xf7 ∷ 0x0d ∷ 0x01 ∷ 0x05 ∷ 0x03 ∷ []
+
+abbrev pub pbe_sha1_des : List ℕ
+pbe_sha1_des = 0x2a ∷ 0x86 ∷ 0x48 ∷ 0x86 ∷ 0xf7 ∷ 0x0d ∷ 0x01 ∷ 0x05 ∷ 0x0a ∷ []
+
+abbrev pub pbe_sha1_three_keys : List ℕ
+pbe_sha1_three_keys = 0x2a ∷ 0x86 ∷ 0x48 ∷ 0x86 ∷ 0xf7 ∷ 0x0d ∷ 0x01 ∷ 0x0c ∷ 0x01 ∷ 0x03 ∷ []
+
+abbrev pub pbe_sha1_two_keys : List ℕ
+pbe_sha1_two_keys = 0x2a ∷ 0x86 ∷ 0x48 ∷ 0x86 ∷ 0xf7 ∷ 0x0d ∷ 0x01 ∷ 0x0c ∷ 0x01 ∷ 0x04 ∷ []
 
 abbrev pub pbes2 : List ℕ
 pbes2 = 0x2a ∷ 0x86 ∷ 0x48 ∷ 0x86 ∷ 0xf7 ∷ 0x0d ∷ 0x01 ∷ 0x05 ∷ 0x0d ∷ []
@@ -57,14 +68,20 @@ seen key = (view key.parameters, key.encrypted.now)
 abbrev pub eight : List ℕ → Result (List ℕ) Fault
 eight octets = if length octets == 8 then Ok octets else Err Structure
 
--- PBEParameter (RFC 8018, appendix A.3): a salt of eight octets, and the iterations
-unfoldable pub pbes1_of : ℕ → List ℕ → Result Encryption Fault
-pbes1_of most bytes = do
+-- the salt: of PBES1 eight octets (RFC 8018, appendix A.3), of PKCS #12 any number
+abbrev pub salt_of : Scheme → List ℕ → Result (List ℕ) Fault
+salt_of Pkcs12ThreeKeys octets = Ok octets
+salt_of Pkcs12TwoKeys octets = Ok octets
+salt_of other octets = eight octets
+
+-- PBEParameter (RFC 8018, appendix A.3), pkcs-12PbeParams (RFC 7292, appendix C): the salt, and the iterations
+unfoldable pub pbe_of : ℕ → Scheme → List ℕ → Result Encryption Fault
+pbe_of most scheme bytes = do
   parameters ← last_element_at 0x30 bytes
   salt ← element_at 0x04 parameters
-  octets ← eight salt.0
+  octets ← salt_of scheme salt.0
   count ← iterations_at most salt.1
-  at_end count.1 (record { scheme = Pbes1; salt = octets; iterations = count.0; vector = replicate 8 0 })
+  at_end count.1 (record { scheme = scheme; salt = octets; iterations = count.0; vector = replicate 8 0 })
 
 -- the length of the key (appendix A.2), which is 24, and what follows it
 unfoldable pub given_length : List ℕ → Result (List ℕ) Fault
@@ -133,12 +150,24 @@ pbes2_of most bytes = do
   vector ← vector_at derivation.1
   pbkdf2_of most derivation.0 vector
 
+-- the schemes that derive the vector with the key, by their object identifiers
+unfoldable pub pbe_named : List ℕ → Result Scheme Fault
+pbe_named oid =
+    if bytes_eq oid pbe_md5_des then Ok Pbes1Md5
+    else if bytes_eq oid pbe_sha1_des then Ok Pbes1Sha1
+    else if bytes_eq oid pbe_sha1_three_keys then Ok Pkcs12ThreeKeys
+    else if bytes_eq oid pbe_sha1_two_keys then Ok Pkcs12TwoKeys
+    else Err (Algorithm oid)
+
+unfoldable pub pbe_by : ℕ → List ℕ → List ℕ → Result Encryption Fault
+pbe_by most oid parameters = do
+  scheme ← pbe_named oid
+  pbe_of most scheme parameters
+
 -- the algorithm with its parameters, by its object identifier
 unfoldable pub encryption_named : ℕ → List ℕ → List ℕ → Result Encryption Fault
 encryption_named most oid parameters =
-    if bytes_eq oid pbes2 then pbes2_of most parameters
-    else if bytes_eq oid pbe_md5_des then pbes1_of most parameters
-    else Err (Algorithm oid)
+    if bytes_eq oid pbes2 then pbes2_of most parameters else pbe_by most oid parameters
 
 unfoldable pub encryption_of : ℕ → List ℕ → Result Encryption Fault
 encryption_of most bytes = do
@@ -160,21 +189,27 @@ encrypted_key_of most bytes = do
 abbrev pub thrice : List ℕ → List ℕ
 thrice key = key ++ key ++ key
 
--- PBKDF1 with MD5 (RFC 8018, section 5.1): what EVP_BytesToKey gives of one digest
-abbrev pub pbkdf1 : List ℕ → List ℕ → ℕ → List ℕ
-pbkdf1 password salt count = bytes_to_key md5 16 password salt count 16
+-- two keys of triple DES as three: the first is the third too
+abbrev pub two_as_three : List ℕ → List ℕ
+two_as_three key = key ++ take 8 key
 
--- the key for triple DES with three keys (RFC 8018, sections 6.1.2 and 6.2.2)
+-- the key for triple DES with three keys (RFC 8018, sections 6.1.2 and 6.2.2; RFC 7292, appendix B.3)
 abbrev pub key_of : Scheme → List ℕ → List ℕ → ℕ → List ℕ
-key_of Pbes1 password salt count = thrice (take 8 (pbkdf1 password salt count))
+key_of Pbes1Md5 password salt count = thrice (take 8 (pbkdf1 md5 password salt count 16))
+key_of Pbes1Sha1 password salt count = thrice (take 8 (pbkdf1 sha1 password salt count 16))
+key_of Pkcs12ThreeKeys password salt count = pkcs12 sha1 20 1 password salt count 24
+key_of Pkcs12TwoKeys password salt count = two_as_three (pkcs12 sha1 20 1 password salt count 16)
 key_of Pbes2Sha1 password salt count = pbkdf2 (hmac sha1 password) 20 salt count 24
 key_of Pbes2Sha256 password salt count = pbkdf2 (hmac sha256 password) 32 salt count 24
 key_of DekInfoDes password salt count = thrice (bytes_to_key md5 16 password salt count 8)
 key_of DekInfoTripleDes password salt count = bytes_to_key md5 16 password salt count 24
 
--- the vector: derived with the key under PBES1, and else that of the file
+-- the vector: derived with the key under PBES1 and by PKCS #12, and else that of the file
 abbrev pub vector_of : Scheme → List ℕ → List ℕ → ℕ → List ℕ → List ℕ
-vector_of Pbes1 password salt count vector = drop 8 (pbkdf1 password salt count)
+vector_of Pbes1Md5 password salt count vector = drop 8 (pbkdf1 md5 password salt count 16)
+vector_of Pbes1Sha1 password salt count vector = drop 8 (pbkdf1 sha1 password salt count 16)
+vector_of Pkcs12ThreeKeys password salt count vector = pkcs12 sha1 20 2 password salt count 8
+vector_of Pkcs12TwoKeys password salt count vector = pkcs12 sha1 20 2 password salt count 8
 vector_of Pbes2Sha1 password salt count vector = vector
 vector_of Pbes2Sha256 password salt count vector = vector
 vector_of DekInfoDes password salt count vector = vector

@@ -54,7 +54,7 @@ byte_of position character =
 abbrev pub is_whole : Position → Bool
 is_whole position = not (is_some position.fault) && not (is_some position.first)
 
--- a read into a buffer that has room gave nothing, and what was read is no whole text
+-- a read into a buffer that is not empty gave nothing, and what was read is no whole text
 abbrev pub ends_short : {E : Type 0} → Position → Result ℕ E → (buf : List ℕ) → Bool
 ends_short position (Ok count) buf = (count == 0) && (not (length buf == 0) && not (is_whole position))
 ends_short position (Err error) buf = false
@@ -77,11 +77,11 @@ fault_at None None = None
 -- ---- readers
 
 module _ {R : Type 0} (remaining : R → Option (List ℕ)) where
-  -- the bytes to come, where the text is known, or none where it is no text of digits
+  -- the bytes to come, if the text is known, or none if it is no text of digits
   abbrev pub outlook_on : HexReader R → Outlook
   outlook_on reader = option_map (bytes_from reader.position) (remaining reader.inner)
 
-  -- the bytes to come, where the text is known and is one of digits
+  -- the bytes to come, if the text is known and is one of digits
   abbrev pub bytes_remaining : HexReader R → Option (List ℕ)
   bytes_remaining reader = option_and_then (λ bytes. bytes) (outlook_on reader)
 

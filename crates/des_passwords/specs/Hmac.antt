@@ -3,7 +3,7 @@ use Rattle.std.specs.Prelude.{ℕ, ◌-◌, List, ◌++◌, length, replicate, b
 use Rattle.std.specs.Simd.Lanes.{zip2}
 use Rattle.des_passwords.specs.declared.hmac.Hmac.{Hmac}
 
--- the key itself, or its digest where it is longer than a block
+-- the key itself, or its digest if it is longer than a block
 abbrev pub short_key : (List ℕ → List ℕ) → List ℕ → List ℕ
 short_key digest key = cond (leb (length key) 64) key (digest key)
 

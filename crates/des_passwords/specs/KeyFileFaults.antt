@@ -24,7 +24,7 @@ fault_of (errors.Cipher oid) = Cipher oid.now
 
 abbrev pub text_of : KeyFileError → List ℕ
 text_of errors.Structure = codes "the bytes are not the DER of an encrypted private key"
-text_of (errors.Algorithm oid) = codes "the algorithm is neither PBES2 nor pbeWithMD5AndDES-CBC"
+text_of (errors.Algorithm oid) = codes "the algorithm is neither PBES2 nor one of DES or triple DES by PKCS #5 or PKCS #12"
 text_of (errors.KeyDerivation oid) = codes "the key is not derived by PBKDF2"
 text_of errors.Iterations = codes "the iterations are none, or more than are allowed"
 text_of errors.KeyLength = codes "the key does not have 24 bytes"

@@ -1,14 +1,14 @@
--- Encrypted private keys of PKCS #8 (RFC 5958, section 3) under PBES1 and PBES2 (RFC 8018, section 6 and appendix A),
--- written in DER.
+-- Encrypted private keys of PKCS #8 (RFC 5958, section 3) under PBES1 and PBES2 (RFC 8018, section 6 and appendix A), and
+-- under PKCS #12's schemes of triple DES (RFC 7292, appendix C), written in DER.
 use Rattle.std.specs.Prelude.{◌≡◌, ℕ, ◌<◌, ◌≤◌, ◌^◌, Bool, true, false, List, [], ◌++◌, length, replicate}
 use Rattle.des_passwords.specs.Der.{element, integer}
-use Rattle.des_passwords.specs.EncryptedKeys.{Encryption, pbe_md5_des, pbes2, id_pbkdf2, hmac_sha1, hmac_sha256, des_ede3_cbc, null}
+use Rattle.des_passwords.specs.EncryptedKeys.{Encryption, pbe_md5_des, pbe_sha1_des, pbe_sha1_three_keys, pbe_sha1_two_keys, pbes2, id_pbkdf2, hmac_sha1, hmac_sha256, des_ede3_cbc, null}
 use Rattle.des_passwords.specs.TextLines.{are_blanks}
 use Rattle.des_passwords.specs.declared.encrypted_keys.Scheme.{Scheme}
-use Rattle.des_passwords.specs.declared.encrypted_keys.Scheme.TheVariants.{Pbes1, Pbes2Sha1, Pbes2Sha256, DekInfoDes, DekInfoTripleDes}
+use Rattle.des_passwords.specs.declared.encrypted_keys.Scheme.TheVariants.{Pbes1Md5, Pbes1Sha1, Pkcs12ThreeKeys, Pkcs12TwoKeys, Pbes2Sha1, Pbes2Sha256, DekInfoDes, DekInfoTripleDes}
 
--- whether a file names what it may leave out: the length of the key, and the function of PBKDF2 where it is HMAC-SHA-1.
--- As a default DER leaves this one out (ITU-T X.690, section 11.5); where it is named, it is read too.
+-- whether a file names what it may leave out: the length of the key, and the function of PBKDF2 if it is HMAC-SHA-1.
+-- As a default DER leaves this one out (ITU-T X.690, section 11.5); if it is named, it is read too.
 pub record Named : Type 0 where
   pub key_length : Bool
   pub prf : Bool
@@ -17,7 +17,8 @@ pub record Named : Type 0 where
 abbrev pub algorithm : List ℕ → List ℕ → List ℕ
 algorithm oid parameters = element 0x30 (element 0x06 oid ++ parameters)
 
--- PBEParameter ::= SEQUENCE { salt OCTET STRING (SIZE(8)), iterationCount INTEGER } (appendix A.3)
+-- PBEParameter ::= SEQUENCE { salt OCTET STRING (SIZE(8)), iterationCount INTEGER } (appendix A.3), and
+-- pkcs-12PbeParams ::= SEQUENCE { salt OCTET STRING, iterations INTEGER } (RFC 7292, appendix C)
 abbrev pub pbe_parameter : Encryption → List ℕ
 pbe_parameter e = element 0x30 (element 0x04 e.salt ++ integer e.iterations)
 
@@ -44,9 +45,13 @@ abbrev pub pbes2_params : Named → Encryption → List ℕ
 pbes2_params named e =
     element 0x30 (algorithm id_pbkdf2 (pbkdf2_params named e) ++ algorithm des_ede3_cbc (element 0x04 e.vector))
 
--- encryptionAlgorithm: pbeWithMD5AndDES-CBC (appendix A.3), or PBES2
+-- encryptionAlgorithm: pbeWithMD5AndDES-CBC or pbeWithSHA1AndDES-CBC (appendix A.3), pbeWithSHAAnd3-KeyTripleDES-CBC or
+-- pbeWithSHAAnd2-KeyTripleDES-CBC (RFC 7292, appendix C), or PBES2
 abbrev pub encryption_algorithm : Named → Encryption → Scheme → List ℕ
-encryption_algorithm named e Pbes1 = algorithm pbe_md5_des (pbe_parameter e)
+encryption_algorithm named e Pbes1Md5 = algorithm pbe_md5_des (pbe_parameter e)
+encryption_algorithm named e Pbes1Sha1 = algorithm pbe_sha1_des (pbe_parameter e)
+encryption_algorithm named e Pkcs12ThreeKeys = algorithm pbe_sha1_three_keys (pbe_parameter e)
+encryption_algorithm named e Pkcs12TwoKeys = algorithm pbe_sha1_two_keys (pbe_parameter e)
 encryption_algorithm named e other = algorithm pbes2 (pbes2_params named e)
 
 -- EncryptedPrivateKeyInfo ::= SEQUENCE { encryptionAlgorithm AlgorithmIdentifier, encryptedData OCTET STRING }
@@ -57,15 +62,19 @@ key_contents named e encrypted = encryption_algorithm named e e.scheme ++ elemen
 abbrev pub key_file : Named → Encryption → List ℕ → List ℕ
 key_file named e encrypted = element 0x30 (key_contents named e encrypted)
 
--- PBES1 has a salt of eight octets and no vector of its own, PBES2 a vector of eight; a PEM header is not written so
+-- PBES1 has a salt of eight octets, it and PKCS #12 no vector of their own, PBES2 a vector of eight; a PEM header is not
+-- written so
 abbrev pub IsInFile : Scheme → Encryption → Type 0
-IsInFile Pbes1 e = (length e.salt ≡ 8) × (e.vector ≡ replicate 8 0)
+IsInFile Pbes1Md5 e = (length e.salt ≡ 8) × (e.vector ≡ replicate 8 0)
+IsInFile Pbes1Sha1 e = (length e.salt ≡ 8) × (e.vector ≡ replicate 8 0)
+IsInFile Pkcs12ThreeKeys e = e.vector ≡ replicate 8 0
+IsInFile Pkcs12TwoKeys e = e.vector ≡ replicate 8 0
 IsInFile Pbes2Sha1 e = length e.vector ≡ 8
 IsInFile Pbes2Sha256 e = length e.vector ≡ 8
 IsInFile DekInfoDes e = ⊥
 IsInFile DekInfoTripleDes e = ⊥
 
--- what a file says, whose contents have fewer than 2 ^ 16 octets, of at least one iteration and at most so many
+-- what a file says, whose contents have fewer than 2 ^ 16 octets, of one to `most` iterations
 pub record IsRead (most : ℕ) (named : Named) (e : Encryption) (encrypted : List ℕ) : Type 0 where
   pub scheme : IsInFile e.scheme e
   pub some : 0 < e.iterations

@@ -1,4 +1,5 @@
 pub mod Base64Lines
+pub mod BmpStrings
 pub mod Decoding
 pub mod BytesToKey
 pub mod Der
@@ -11,9 +12,11 @@ pub mod HexTexts
 pub mod Hmac
 pub mod KeyFileFaults
 pub mod KeySpellings
+pub mod Pbkdf1
 pub mod Pbkdf2
 pub mod Pem
 pub mod PemFaults
+pub mod Pkcs12
 pub mod Salted
 pub mod TextLines
 pub mod Base64Streams

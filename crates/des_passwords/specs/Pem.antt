@@ -65,7 +65,7 @@ start_of n (line ∷ rest) =
       | None ↦ start_of (n + 1) rest
     ]
 
--- the first characters, where a text begins with these, are left out
+-- the first characters, if a text begins with these, are left out
 unfoldable pub after_prefix : List ℕ → List ℕ → Option (List ℕ)
 after_prefix prefix text =
     if bytes_eq (take (length prefix) text) prefix then Some (drop (length prefix) text) else None
@@ -82,7 +82,7 @@ body_of last (line ∷ rest) =
       body ← body_of last rest
       Ok (line ∷ body)
 
--- what follows a line, where it is the first
+-- what follows a line, if it is the first
 unfoldable pub after_line : List ℕ → List (List ℕ) → Option (List (List ℕ))
 after_line wanted [] = None
 after_line wanted (line ∷ rest) = if is_line line wanted then Some rest else None
@@ -124,7 +124,7 @@ dek_info_at (line ∷ rest) = do
 abbrev pub is_encrypted : List ℕ → Bool
 is_encrypted line = option_eq bytes_eq (value_of (codes "Proc-Type:") line) (Some (codes "4,ENCRYPTED"))
 
--- what follows it, where it is the first line
+-- what follows it, if it is the first line
 unfoldable pub after_proc_type : List (List ℕ) → Option (List (List ℕ))
 after_proc_type [] = None
 after_proc_type (line ∷ rest) = if is_encrypted line then Some rest else None

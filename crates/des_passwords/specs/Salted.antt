@@ -1,4 +1,4 @@
--- What `openssl enc` writes where it salts (manual page openssl-enc(1)), and the texts of what is wrong with it.
+-- What `openssl enc` writes if it salts (manual page openssl-enc(1)), and the texts of what is wrong with it.
 use Rattle.std.specs.Prelude.{◌≡◌, ℕ, List, ◌++◌, length, codes}
 use Rattle.des_passwords.specs.declared.salted.SaltedError.{SaltedError}
 use Rattle.des_passwords.specs.declared.salted.SaltedError.TheVariants.{NotSalted, SaltCut}

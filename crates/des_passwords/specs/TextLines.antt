@@ -9,11 +9,11 @@ use Rattle.std.specs.Str.Lines.{lines}
 unfoldable pub lines_of : List ℕ → List (List ℕ)
 lines_of text = lines text
 
--- what stands before the first such byte, all where there is none
+-- what stands before the first such byte, all if there is none
 abbrev pub before : ℕ → List ℕ → List ℕ
 before byte text = before_first (λ b. b == byte) text
 
--- what stands after it, nothing where there is none
+-- what stands after it, nothing if there is none
 abbrev pub after : ℕ → List ℕ → List ℕ
 after byte text = after_first (λ b. b == byte) text
 

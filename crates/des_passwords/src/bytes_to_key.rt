@@ -5,17 +5,7 @@ ghost use Rattle.des_passwords.specs.BytesToKey.{bytes_to_key, d, repeated};
 
 use crate::hash_function::HashFunction;
 use crate::pbkdf2::DeriveError;
-
-// The digest of bytes, over them.
-fn hash_again<H: HashFunction>(bytes: &mut [u8])
-    requires { length bytes.old ≡ H.SIZE }
-    ensures digest { bytes.new ≡ H.digest bytes.old }
-    ensures length { length bytes.new ≡ H.SIZE }
-{
-    let mut hash = H::new();
-    hash.add(bytes);
-    hash.write_digest(bytes);
-}
+use crate::repeated::repeat;
 
 // The digest of the first `count` bytes of `last`, the password and the salt, over `last`.
 fn write_first<H: HashFunction>(count: usize, password: &[u8], salt: &[u8], last: &mut [u8])
@@ -47,9 +37,7 @@ fn write_next<H: HashFunction>(
     ensures length { length last.new ≡ H.SIZE }
 {
     write_first::<H>(count, password, salt, last);
-    'steps: for _ in 1..iterations {
-        hash_again::<H>(last);
-    }
+    repeat::<H>(iterations, last);
 }
 
 /// Writes key and vector of a password and a salt, one after the other and together as long as the

@@ -1,6 +1,6 @@
 //! Keys and vectors as `openssl enc` derives them from passwords.
 
-ghost use Rattle.std.specs.Prelude.{◌≡◌, ◌≤◌, ◌+◌, ◌↔◌, ◌++◌, length, IsOk, IsErrOf, IfOk, OnOk, OnErr};
+ghost use Rattle.std.specs.Prelude.{◌≡◌, ◌≤◌, ◌+◌, ◌↔◌, ◌++◌, length, take, IsOk, IsErrOf, IfOk, OnOk, OnErr};
 ghost use Rattle.des_passwords.specs.Derivations.{derived, HasNoIteration, IsDerivable, IsTooLong};
 
 use crate::bytes_to_key::bytes_to_key;
@@ -29,6 +29,19 @@ pub struct KeyAndVector<const N: usize> {
     pub key: [u8; N],
     /// The initialization vector, of no use in ECB mode.
     pub vector: [u8; 8],
+}
+
+/// The key of `N` bytes, and the vector behind it, as they stand in what is derived.
+pub fn split<const N: usize>(bytes: &[u8]) -> KeyAndVector<N>
+    requires key { N ≤ 24 }
+    requires bytes { N + 8 ≤ length bytes.now }
+    ensures { result.key ++ result.vector ≡ take (N + 8) bytes.now }
+{
+    let mut key = [0; N];
+    key.copy_from_slice(&bytes[..N]);
+    let mut vector = [0; 8];
+    vector.copy_from_slice(&bytes[N..N + 8]);
+    KeyAndVector { key, vector }
 }
 
 impl Derivation {
@@ -73,10 +86,6 @@ impl Derivation {
     {
         let mut bytes = [0; 32];
         self.write_bytes(password, salt, &mut bytes[..N + 8])?;
-        let mut key = [0; N];
-        key.copy_from_slice(&bytes[..N]);
-        let mut vector = [0; 8];
-        vector.copy_from_slice(&bytes[N..N + 8]);
-        Ok(KeyAndVector { key, vector })
+        Ok(split(&bytes))
     }
 }

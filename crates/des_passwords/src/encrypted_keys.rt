@@ -1,9 +1,9 @@
 //! Private keys that others encrypted with a password under DES or triple DES: PKCS #8 (RFC 5958)
-//! with PBES1 or PBES2 (RFC 8018), as DER.
+//! with PBES1 or PBES2 (RFC 8018), or a scheme of PKCS #12 (RFC 7292, appendix C), as DER.
 
 ghost use Rattle.std.specs.Prelude.{◌≡◌, ◌≢◌, ◌↔◌, List, ℕ, length, Ok, IsOk, IsErrOf, IfOk};
 ghost use Rattle.des_passwords.specs.DerReading.{Gives};
-ghost use Rattle.des_passwords.specs.EncryptedKeys.{Encryption, after_key_length, derivation_of, eight_at, encrypted_key_of, encryption_named, encryption_of, key_of, pbes1_of, pbes2_of, pbkdf2_of, prf_named, prf_of, seen, thrice, vector_at, vector_of, view, with_null};
+ghost use Rattle.des_passwords.specs.EncryptedKeys.{Encryption, after_key_length, derivation_of, eight_at, encrypted_key_of, encryption_named, encryption_of, key_of, pbe_by, pbe_named, pbe_of, pbes2_of, pbkdf2_of, prf_named, prf_of, salt_of, seen, thrice, two_as_three, vector_at, vector_of, view, with_null};
 ghost use Rattle.des_passwords.specs.KeySpellings.{IsFile};
 
 use crate::bytes_to_key::bytes_to_key;
@@ -14,6 +14,7 @@ use crate::der::{
 use crate::derivation::KeyAndVector;
 use crate::key_file_error::KeyFileError;
 use crate::pbkdf2::{DeriveError, pbkdf2};
+use crate::{pbkdf1, pkcs12};
 use md5::Md5;
 use sha1::Sha1;
 use sha2::Sha256;
@@ -21,9 +22,16 @@ use sha2::Sha256;
 /// The most iterations that `read_encrypted_key` takes.
 pub const MOST_ITERATIONS: u32 = 10_000_000;
 
-// 1.2.840.113549.1.5.3, .13 and .12, 1.2.840.113549.2.7 and .9, and 1.2.840.113549.3.7.
+// 1.2.840.113549.1.5.3 and .10, and 1.2.840.113549.1.12.1.3 and .4.
 const PBE_MD5_DES: [u8; 9] = [0x2a, 0x86, 0x48, 0x86, 0xf7, 0x0d, 0x01, 0x05, 0x03];
 
+const PBE_SHA1_DES: [u8; 9] = [0x2a, 0x86, 0x48, 0x86, 0xf7, 0x0d, 0x01, 0x05, 0x0a];
+
+const PBE_SHA1_THREE_KEYS: [u8; 10] = [0x2a, 0x86, 0x48, 0x86, 0xf7, 0x0d, 0x01, 0x0c, 0x01, 0x03];
+
+const PBE_SHA1_TWO_KEYS: [u8; 10] = [0x2a, 0x86, 0x48, 0x86, 0xf7, 0x0d, 0x01, 0x0c, 0x01, 0x04];
+
+// 1.2.840.113549.1.5.13 and .12, 1.2.840.113549.2.7 and .9, and 1.2.840.113549.3.7.
 const PBES2: [u8; 9] = [0x2a, 0x86, 0x48, 0x86, 0xf7, 0x0d, 0x01, 0x05, 0x0d];
 
 const PBKDF2: [u8; 9] = [0x2a, 0x86, 0x48, 0x86, 0xf7, 0x0d, 0x01, 0x05, 0x0c];
@@ -40,7 +48,13 @@ const NULL: [u8; 2] = [0x05, 0x00];
 #[derive(Clone, Copy, Debug, PartialEq, Eq)]
 pub enum Scheme {
     /// DES, the key and the vector by PBKDF1 with MD5.
-    Pbes1,
+    Pbes1Md5,
+    /// DES, the key and the vector by PBKDF1 with SHA-1.
+    Pbes1Sha1,
+    /// Triple DES with three keys, they and the vector by PKCS #12 with SHA-1.
+    Pkcs12ThreeKeys,
+    /// Triple DES with two keys, they and the vector by PKCS #12 with SHA-1.
+    Pkcs12TwoKeys,
     /// Triple DES with three keys, the key by PBKDF2 with HMAC-SHA-1.
     Pbes2Sha1,
     /// Triple DES with three keys, the key by PBKDF2 with HMAC-SHA-256.
@@ -65,8 +79,8 @@ pub struct Parameters<'a> {
 impl Parameters<'_> {
     /// The key and the vector with which `TdesEde3` decrypts the file in CBC mode: what comes out
     /// is padded as PKCS #5 says. If the file is under DES, the key is that of DES three times,
-    /// and triple DES is then DES. `NoIteration` if the iterations are 0, as they never are in
-    /// what is read.
+    /// and triple DES is then DES; if it is under two keys, the first is the third too.
+    /// `NoIteration` if the iterations are 0, as they never are in what is read.
     pub fn key_and_vector(&self, password: &[u8]) -> Result<KeyAndVector<24>, DeriveError>
         ensures accepted { IsOk result ↔ (self.now.iterations ≢ 0) }
         ensures no_iteration { IsErrOf result DeriveError.NoIteration
@@ -79,14 +93,21 @@ impl Parameters<'_> {
     {
         let salt = self.salt;
         let count = self.iterations;
-        let mut vector = self.vector;
+        let vector = self.vector;
         let mut key = [0; 24];
         match self.scheme {
-            Scheme::Pbes1 => {
-                let mut both = [0; 16];
-                bytes_to_key::<Md5>(password, salt, count, &mut both)?;
-                key = thrice(&both[..8]);
-                vector.copy_from_slice(&both[8..]);
+            Scheme::Pbes1Md5 => {
+                let single = pbkdf1::key_and_vector::<Md5>(password, salt, count)?;
+                return Ok(as_triple(&single));
+            }
+            Scheme::Pbes1Sha1 => {
+                let single = pbkdf1::key_and_vector::<Sha1>(password, salt, count)?;
+                return Ok(as_triple(&single));
+            }
+            Scheme::Pkcs12ThreeKeys => return pkcs12::key_and_vector::<24>(password, salt, count),
+            Scheme::Pkcs12TwoKeys => {
+                let two = pkcs12::key_and_vector::<16>(password, salt, count)?;
+                return Ok(as_three(&two));
             }
             Scheme::Pbes2Sha1 => pbkdf2::<Sha1>(password, salt, count, &mut key)?,
             Scheme::Pbes2Sha256 => pbkdf2::<Sha256>(password, salt, count, &mut key)?,
@@ -98,6 +119,32 @@ impl Parameters<'_> {
             Scheme::DekInfoTripleDes => bytes_to_key::<Md5>(password, salt, count, &mut key)?,
         }
         Ok(KeyAndVector { key, vector })
+    }
+}
+
+// A key of DES as one of triple DES, with its vector.
+fn as_triple(single: &KeyAndVector<8>) -> KeyAndVector<24>
+    ensures key { result.key ≡ thrice single.now.key }
+    ensures vector { result.vector ≡ single.now.vector }
+{
+    KeyAndVector {
+        key: thrice(&single.key),
+        vector: single.vector,
+    }
+}
+
+// Two keys as three, with their vector.
+fn as_three(two: &KeyAndVector<16>) -> KeyAndVector<24>
+    ensures key { result.key ≡ two_as_three two.now.key }
+    ensures vector { result.vector ≡ two.now.vector }
+{
+    let mut key = [0; 24];
+    let (front, back) = key.split_at_mut(16);
+    front.copy_from_slice(&two.key);
+    back.copy_from_slice(&two.key[..8]);
+    KeyAndVector {
+        key,
+        vector: two.vector,
     }
 }
 
@@ -122,22 +169,31 @@ pub struct EncryptedKey<'a> {
     pub encrypted: &'a [u8],
 }
 
-// PBEParameter: a salt of eight octets, and the iterations.
-#[tactic(auto, unfolding(crate::specs::EncryptedKeys::pbes1_of))]
-fn pbes1_of(most: u32, bytes: &[u8]) -> Result<Parameters<'_>, KeyFileError<'_>>
-    ensures { Gives view result (pbes1_of most bytes.now) }
+// The salt: of PBES1 eight octets, of PKCS #12 any number.
+fn salt_of(scheme: Scheme, octets: &[u8]) -> Result<&[u8], KeyFileError<'_>>
+    ensures { Gives (λ x. x.now) result (salt_of scheme octets.now) }
+{
+    match scheme {
+        Scheme::Pkcs12ThreeKeys | Scheme::Pkcs12TwoKeys => Ok(octets),
+        _ if octets.len() == 8 => Ok(octets),
+        _ => Err(KeyFileError::Structure),
+    }
+}
+
+// PBEParameter or pkcs-12PbeParams: the salt, and the iterations.
+#[tactic(auto, unfolding(crate::specs::EncryptedKeys::pbe_of))]
+fn pbe_of(most: u32, scheme: Scheme, bytes: &[u8]) -> Result<Parameters<'_>, KeyFileError<'_>>
+    ensures { Gives view result (pbe_of most scheme bytes.now) }
 {
     let parameters = last_element_at(SEQUENCE, bytes)?;
     let (salt, rest) = element_at(OCTETS, parameters)?;
-    if salt.len() != 8 {
-        return Err(KeyFileError::Structure);
-    }
+    let salt = salt_of(scheme, salt)?;
     let (iterations, rest) = iterations_at(most, rest)?;
     if !rest.is_empty() {
         return Err(KeyFileError::Structure);
     }
     Ok(Parameters {
-        scheme: Scheme::Pbes1,
+        scheme,
         salt,
         iterations,
         vector: [0; 8],
@@ -268,6 +324,37 @@ fn pbes2_of(most: u32, bytes: &[u8]) -> Result<Parameters<'_>, KeyFileError<'_>>
     pbkdf2_of(most, derivation, vector)
 }
 
+// The scheme by its object identifier, if it derives the vector with the key.
+#[tactic(auto, unfolding(crate::specs::EncryptedKeys::pbe_named))]
+fn pbe_named(oid: &[u8]) -> Result<Scheme, KeyFileError<'_>>
+    ensures { Gives (λ x. x) result (pbe_named oid.now) }
+{
+    if oid == PBE_MD5_DES.as_slice() {
+        Ok(Scheme::Pbes1Md5)
+    } else if oid == PBE_SHA1_DES.as_slice() {
+        Ok(Scheme::Pbes1Sha1)
+    } else if oid == PBE_SHA1_THREE_KEYS.as_slice() {
+        Ok(Scheme::Pkcs12ThreeKeys)
+    } else if oid == PBE_SHA1_TWO_KEYS.as_slice() {
+        Ok(Scheme::Pkcs12TwoKeys)
+    } else {
+        Err(KeyFileError::Algorithm(oid))
+    }
+}
+
+// That scheme with its parameters.
+#[tactic(auto, unfolding(crate::specs::EncryptedKeys::pbe_by))]
+fn pbe_by<'a>(
+    most: u32,
+    oid: &'a [u8],
+    parameters: &'a [u8],
+) -> Result<Parameters<'a>, KeyFileError<'a>>
+    ensures { Gives view result (pbe_by most oid.now parameters.now) }
+{
+    let scheme = pbe_named(oid)?;
+    pbe_of(most, scheme, parameters)
+}
+
 // The algorithm by its object identifier, with its parameters.
 #[tactic(auto, unfolding(crate::specs::EncryptedKeys::encryption_named))]
 fn encryption_named<'a>(
@@ -279,10 +366,8 @@ fn encryption_named<'a>(
 {
     if oid == PBES2.as_slice() {
         pbes2_of(most, parameters)
-    } else if oid == PBE_MD5_DES.as_slice() {
-        pbes1_of(most, parameters)
     } else {
-        Err(KeyFileError::Algorithm(oid))
+        pbe_by(most, oid, parameters)
     }
 }
 

@@ -26,8 +26,8 @@ impl<W: Write> HexWriter<W> {
 impl<W: Write> Write for HexWriter<W> {
     fn write(&mut self, buf: &[u8]) -> io::Result<usize> {
         let count = buf.len().min(BYTES_AT_A_TIME);
-        let mut room = [0; 2 * BYTES_AT_A_TIME];
-        let digits = &mut room[..2 * count];
+        let mut buffer = [0; 2 * BYTES_AT_A_TIME];
+        let digits = &mut buffer[..2 * count];
         if hex::encode_to_slice(&buf[..count], digits).is_err() {
             return Err(io::Error::from(ErrorKind::Other));
         }

@@ -11,7 +11,7 @@ pub enum KeyFileError<'a> {
     /// another one, a length or a number is not in the fewest bytes, or bytes follow the last one
     /// that are no blanks.
     Structure,
-    /// The algorithm is neither PBES2 nor pbeWithMD5AndDES-CBC.
+    /// The algorithm is neither PBES2 nor one of DES or triple DES by PKCS #5 or PKCS #12.
     Algorithm(&'a [u8]),
     /// The key is not derived by PBKDF2.
     KeyDerivation(&'a [u8]),
@@ -36,7 +36,9 @@ impl fmt::Display for KeyFileError<'_> {
     fn fmt<W: fmt::Write>(&self, f: &mut fmt::Formatter<W>) -> fmt::Result {
         f.write_str(match self {
             KeyFileError::Structure => "the bytes are not the DER of an encrypted private key",
-            KeyFileError::Algorithm(_) => "the algorithm is neither PBES2 nor pbeWithMD5AndDES-CBC",
+            KeyFileError::Algorithm(_) => {
+                "the algorithm is neither PBES2 nor one of DES or triple DES by PKCS #5 or PKCS #12"
+            }
             KeyFileError::KeyDerivation(_) => "the key is not derived by PBKDF2",
             KeyFileError::Iterations => "the iterations are none, or more than are allowed",
             KeyFileError::KeyLength => "the key does not have 24 bytes",

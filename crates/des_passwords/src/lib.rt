@@ -1,8 +1,8 @@
-//! Keys from passwords: HMAC (RFC 2104), PBKDF2 (RFC 8018, section 5.2), and `bytes_to_key`, as
-//! OpenSSL's `EVP_BytesToKey` makes keys, over MD5, SHA-1 and SHA-256. Files that others wrote
-//! under passwords: those of `openssl enc` (`salted`, `derivation`), and encrypted private keys
-//! (`encrypted_keys`, `pem`). Readers of bytes that are written as text: Base64 in lines
-//! (`base64_reader`), hexadecimal digits (`hex_reader`).
+//! Keys from passwords: HMAC (RFC 2104), PBKDF1 and PBKDF2 (RFC 8018, section 5), the method of PKCS #12
+//! (RFC 7292, appendix B), and `bytes_to_key`, as OpenSSL's `EVP_BytesToKey` makes keys, over MD5, SHA-1
+//! and SHA-256. Files that others wrote under passwords: those of `openssl enc` (`salted`,
+//! `derivation`), and encrypted private keys (`encrypted_keys`, `pem`). Readers of bytes that are
+//! written as text: Base64 in lines (`base64_reader`), hexadecimal digits (`hex_reader`).
 //!
 //! These read what others wrote. MD5 and SHA-1 are broken as hashes, and `bytes_to_key` with one
 //! iteration makes a password quick to guess: write nothing new by them.
@@ -10,6 +10,7 @@
 
 mod base64_lines;
 pub mod base64_reader;
+mod bmp_string;
 pub mod bytes_to_key;
 mod decoding;
 mod der;
@@ -21,8 +22,11 @@ pub mod hex_text;
 pub mod hex_writer;
 pub mod hmac;
 pub mod key_file_error;
+pub mod pbkdf1;
 pub mod pbkdf2;
 pub mod pem;
+pub mod pkcs12;
+mod repeated;
 pub mod salted;
 pub mod text_lines;
 mod xored;

@@ -48,7 +48,7 @@ fn step<H: HashFunction>(prf: &Hmac<H>, bytes: &mut [u8])
     mac.write_tag(bytes);
 }
 
-// Writes T, a block of the key: the xor of U_1, U_2 and so on. `last` is room for one U at a time.
+// Writes T, a block of the key: the xor of U_1, U_2 and so on. `last` is the buffer of one U at a time.
 fn write_block<H: HashFunction>(
     prf: &Hmac<H>,
     salt: &[u8],

@@ -1,26 +1,34 @@
 //! What `des_encrypt` of MariaDB 10.11 answers.
 
-use crate::mysql::{DecryptError, decrypt, encrypt, key_number, key_of};
+use crate::mysql::{decrypt_values, encrypt_values, key_of};
+use crate::status::{ERR_NOT_ENCRYPTED, ERR_PADDING, OK};
+use std::simd::prelude::*;
 
 // Whether a text has this value under a key string or the key of a number, both ways.
 fn has_value(string: &[u8], number: u8, text: &[u8], value: &[u8]) -> bool {
     let key = key_of(string);
     let blocks = text.len() / 8 + 1;
-    if number > 127 || text.len() > 31 {
+    if number > 127 || text.is_empty() || text.len() > 31 {
         return false;
     }
-    let mut room = [[0; 8]; 4];
     let mut bytes = [0; 33];
-    let room = &mut room[..blocks];
     let bytes = &mut bytes[..8 * blocks + 1];
-    encrypt(&key, number, text, bytes, room);
-    if *bytes != *value || key_number(bytes) != Some(number) {
-        return false;
-    }
-    match decrypt(&key, bytes, room) {
-        Ok(count) => bytes[1..].starts_with(text) && count == text.len(),
-        Err(_) => false,
-    }
+    encrypt_values::<u64x2>(&key, number, text, &[text.len()], bytes);
+    let mut texts = [0; 33];
+    let texts = &mut texts[..bytes.len()];
+    let mut lengths = [0; 1];
+    let mut statuses = [1; 1];
+    *bytes == *value
+        && decrypt_values::<u64x2>(
+            &key,
+            bytes,
+            &[bytes.len()],
+            texts,
+            &mut lengths,
+            &mut statuses,
+        )
+        && texts.starts_with(text)
+        && lengths == [text.len()]
 }
 
 fn values_are_mariadbs() -> bool {
@@ -67,15 +75,23 @@ fn values_are_mariadbs() -> bool {
     )
 }
 
-// An empty value, one that is no ciphertext, and one with a last byte above 8.
+// An empty value, one that is no ciphertext, one with a last byte above 8, and one that is read.
 fn faults_are_named() -> bool {
     let key = key_of(b"k");
-    let mut short = [0xff, 0x00];
-    let mut wrong = [0xff, 0, 0, 0, 0, 0, 0, 0, 0];
-    decrypt(&key, &mut [], &mut []) == Ok(0)
-        && decrypt(&key, &mut short, &mut []) == Err(DecryptError::NotEncrypted)
-        && short == [0xff, 0x00]
-        && decrypt(&key, &mut wrong, &mut [[0; 8]; 1]) == Err(DecryptError::Padding)
+    let values = b"\xff\x00\xff\0\0\0\0\0\0\0\0\xFF\xF0\xF1\x9F\xAD\x28\x3C\x97\x14";
+    let mut texts = [1; 20];
+    let mut lengths = [1; 4];
+    let mut statuses = [1; 4];
+    !decrypt_values::<u64x2>(
+        &key,
+        values,
+        &[0, 2, 9, 9],
+        &mut texts,
+        &mut lengths,
+        &mut statuses,
+    ) && texts == *b"\0\0\0\0\0\0\0\0\0\0\0abcdefg\0\0"
+        && lengths == [0, 0, 0, 7]
+        && statuses == [OK, ERR_NOT_ENCRYPTED, ERR_PADDING, OK]
 }
 
 #[test]

@@ -1,9 +1,10 @@
 //! Keys from passwords, by what Jasypt 1.9.3 and a JDK 17 encrypted under them.
 
-use crate::{java, pkcs5};
+use crate::java;
 use des::cipher::KeyInit;
 use des_fast::many::ManyBlocks;
 use des_fast::{Des, TdesEde3};
+use des_passwords::pbkdf1;
 use md5::Md5;
 
 // What Jasypt encrypts in each of its strings, with its padding.
@@ -15,7 +16,7 @@ fn jasypts_default_opens() -> bool {
         *b"\x94\xad\xe1\xcf\x64\xb0\x05\x9f",
         *b"\xec\xf1\xf3\x5f\xa9\x13\xe8\xcd",
     ];
-    let Ok(both) = pkcs5::key_and_vector::<Md5>(b"secret", salt, 1000) else {
+    let Ok(both) = pbkdf1::key_and_vector::<Md5>(b"secret", salt, 1000) else {
         return false;
     };
     Des::new(&both.key).decrypt_cbc(&both.vector, &mut blocks);

@@ -1,0 +1,18 @@
+-- The blocks of the first values stand at the front of the buffer.
+use Rattle.std.proofs.Common.{◌≡◌, ◌≤◌, ◌-◌, length, take, sum}
+use Rattle.std.specs.List.{flat_map}
+use Rattle.des_columns.specs.Forms.{blocks_of}
+use Rattle.des_columns.specs.Columns.{pieces}
+use Rattle.des_columns.proofs.column.gather.Given as goal
+
+abbrev pub invariant-values : goal.invariant-values
+invariant-values l = record {
+  count : l.count ≤ length l.lengths;
+  bytes : l.bytes ≡ sum (take l.count l.lengths);
+  blocks : l.blocks ≤ length l.buffer;
+  buffer : length l.buffer ≡ length l.initial.buffer;
+  gathered : take l.blocks l.buffer ≡ flat_map (blocks_of l.form) (take l.count (pieces l.lengths l.values));
+}
+
+abbrev pub decreases-values : goal.decreases-values
+decreases-values l = length l.lengths - l.count

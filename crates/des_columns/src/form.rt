@@ -1,0 +1,225 @@
+//! What a value is around its encrypted blocks, and what its blocks are around the text.
+
+ghost use Rattle.std.specs.Prelude.{◌≡◌, ◌==◌, false, get_or, ◌≤◌, ◌*◌, ◌%◌, ◌∷◌, length, take};
+ghost use Rattle.std.specs.List.{list_all};
+ghost use Rattle.std.specs.Simd.Lanes.{zip2};
+ghost use Rattle.des.specs.Cbc.{xor_blocks};
+ghost use Rattle.des_columns.specs.ChainedBytes.{joined};
+ghost use Rattle.des_columns.specs.Forms.{HasVector, blocks_of, fault_before, filled_to, mode_after, part_of, pkcs7_size, size_in, status_after, status_of, text_after, text_of, unchained};
+ghost use Rattle.des_columns.specs.Mysql.{has_form, last_of, number_of};
+
+use crate::status::{ERR_BLOCKS, ERR_KEY_NUMBER, ERR_NOT_ENCRYPTED, ERR_PADDING, OK};
+use des::cbc;
+use des::cipher::are_blocks;
+
+/// How the blocks of a value were encrypted.
+#[derive(Clone, Copy)]
+pub enum BlockMode {
+    /// Each block by itself.
+    Ecb,
+    /// By cipher block chaining from this vector.
+    Cbc([u8; 8]),
+}
+
+/// What stands in a value around its blocks, and in these around the text.
+#[derive(Clone, Copy, Debug, PartialEq, Eq)]
+pub enum Form {
+    /// A byte that names the key before the blocks, and MySQL's padding in them.
+    Mysql,
+    /// As `Mysql`, if the byte names one of these keys.
+    MysqlByNumber([bool; 10]),
+    /// The padding of PKCS#7 (RFC 5652, section 6.3).
+    Pkcs7,
+    /// The text alone, whole blocks.
+    Unpadded,
+}
+
+/// What was read of a value: a status, and how many bytes of text.
+#[derive(Clone, Copy)]
+pub(crate) struct Reading {
+    pub status: i32,
+    pub length: usize,
+}
+
+// Whether a server of MySQL takes bytes for encrypted: the first has its highest bit, and one or more
+// blocks of 8 bytes follow it.
+fn is_encrypted(value: &[u8]) -> bool
+    ensures { result ≡ has_form value.now }
+{
+    value.len() >= 9 && value.len() % 8 == 1 && value[0] >= 128
+}
+
+// Whether the byte before the blocks of a value names one of these keys.
+fn names_key(numbers: &[bool; 10], value: &[u8]) -> bool
+    ensures { result ≡ get_or numbers.now (number_of value.now) false }
+{
+    let number = value.first().map_or(0, |byte| byte.saturating_sub(128));
+    numbers.get(number as usize).copied().unwrap_or(false)
+}
+
+impl BlockMode {
+    // The vector has 8 bytes: what the type says, for those that cite it.
+    pub(crate) fn has_vector(self)
+        ensures { HasVector self }
+    {
+        if let BlockMode::Cbc(iv) = self {
+            are_blocks(&[iv]);
+        }
+    }
+
+    /// Makes of blocks, once each was decrypted, what was encrypted, and returns the mode of those
+    /// that come after them.
+    pub(crate) fn unchain(self, blocks: &[[u8; 8]], answers: &mut [[u8; 8]]) -> BlockMode
+        requires { length answers.old ≡ length blocks.now }
+        ensures unchained { answers.new ≡ unchained self blocks.now answers.old }
+        ensures mode { result ≡ mode_after self blocks.now }
+        ensures count { length answers.new ≡ length answers.old }
+    {
+        match self {
+            BlockMode::Ecb => self,
+            BlockMode::Cbc(iv) => {
+                unchain(&iv, blocks, answers);
+                BlockMode::Cbc(cbc::next_vector(&iv, blocks))
+            }
+        }
+    }
+}
+
+impl Form {
+    /// Why a value can't be decrypted.
+    pub(crate) fn fault_before(self, value: &[u8]) -> Option<i32>
+        ensures { result ≡ fault_before self value.now }
+    {
+        let whole = value.len() % 8 == 0;
+        match self {
+            Form::Mysql if value.is_empty() || is_encrypted(value) => None,
+            Form::MysqlByNumber(_) if value.is_empty() => None,
+            Form::MysqlByNumber(numbers) if is_encrypted(value) => {
+                if names_key(&numbers, value) {
+                    None
+                } else {
+                    Some(ERR_KEY_NUMBER)
+                }
+            }
+            Form::Mysql | Form::MysqlByNumber(_) => Some(ERR_NOT_ENCRYPTED),
+            Form::Pkcs7 if whole && !value.is_empty() => None,
+            Form::Unpadded if whole => None,
+            _ => Some(ERR_BLOCKS),
+        }
+    }
+
+    /// The bytes of a value that were encrypted, whole blocks: none of one that can't be decrypted.
+    pub(crate) fn part_of(self, value: &[u8]) -> &[u8]
+        ensures part { result.now ≡ part_of self value.now }
+        ensures whole { length result.now % 8 ≡ 0 }
+        ensures within { length result.now ≤ length value.now }
+    {
+        match (self.fault_before(value), self) {
+            (Some(_), _) => &value[..0],
+            (None, Form::Mysql | Form::MysqlByNumber(_)) => &value[value.len().min(1)..],
+            (None, _) => value,
+        }
+    }
+
+    // How many bytes of text what was decrypted has, if it ends with the padding.
+    fn size_in(self, plain: &[u8]) -> Option<usize>
+        requires { length plain.now % 8 ≡ 0 }
+        ensures size { result ≡ size_in self plain.now }
+    {
+        let last = match plain.last() {
+            Some(byte) => *byte as usize,
+            None => 0,
+        };
+        match self {
+            Form::Mysql | Form::MysqlByNumber(_) if last <= 8 => Some(plain.len() - last),
+            Form::Mysql | Form::MysqlByNumber(_) => None,
+            Form::Pkcs7 => pkcs7_size(last, plain),
+            Form::Unpadded => Some(plain.len()),
+        }
+    }
+}
+
+// How many bytes stand before the padding of PKCS#7, n bytes with the value n.
+fn pkcs7_size(n: usize, plain: &[u8]) -> Option<usize>
+    ensures { result ≡ pkcs7_size n plain.now }
+{
+    if n < 1 || n > 8 || n > plain.len() {
+        return None;
+    }
+    let size = plain.len() - n;
+    if are_all(n, &plain[size..]) {
+        Some(size)
+    } else {
+        None
+    }
+}
+
+// Whether each byte has this value.
+fn are_all(value: usize, bytes: &[u8]) -> bool
+    ensures { result ≡ list_all (λ byte. byte == value) bytes.now }
+{
+    bytes.iter().all(|byte| *byte as usize == value)
+}
+
+// Takes blocks out of the chain from a vector, once each was decrypted.
+fn unchain(iv: &[u8; 8], blocks: &[[u8; 8]], answers: &mut [[u8; 8]])
+    requires { length answers.old ≡ length blocks.now }
+    ensures { answers.new ≡ zip2 xor_blocks answers.old (iv.now ∷ blocks.now) }
+{
+    let mut before = *iv;
+    'steps: for k in 0..answers.len() {
+        cbc::xor(&mut answers[k], &before);
+        before = blocks[k];
+    }
+}
+
+/// Makes of what was decrypted of a value, at the front of its place, the text and zeros; or zeros
+/// alone, if the value could not be decrypted.
+pub(crate) fn finish(form: Form, fault: Option<i32>, count: usize, place: &mut [u8]) -> Reading
+    requires whole { count % 8 ≡ 0 }
+    requires count { count ≤ length place.old }
+    ensures status { result.status ≡ status_after fault (size_in form (take count place.old)) }
+    ensures length { result.length
+        ≡ length (text_after fault (size_in form (take count place.old)) (take count place.old)) }
+    ensures text { place.new ≡ filled_to (length place.old)
+        (text_after fault (size_in form (take count place.old)) (take count place.old)) }
+{
+    let reading = match fault {
+        Some(status) => Reading { status, length: 0 },
+        None => match form.size_in(&place[..count]) {
+            Some(length) => Reading { status: OK, length },
+            None => Reading {
+                status: ERR_PADDING,
+                length: 0,
+            },
+        },
+    };
+    place[reading.length..].fill(0);
+    reading
+}
+
+/// Writes the text of a value into its place, before zeros, where the answers are its blocks, each
+/// decrypted.
+pub(crate) fn write_text(
+    form: Form,
+    mode: BlockMode,
+    value: &[u8],
+    answers: &mut [[u8; 8]],
+    place: &mut [u8],
+) -> Reading
+    requires answers { length answers.old * 8 ≡ length (part_of form value.now) }
+    requires place { length place.old ≡ length value.now }
+    ensures status { result.status ≡ status_of form value.now
+        (joined (unchained mode (blocks_of form value.now) answers.old)) }
+    ensures length { result.length ≡ length (text_of form value.now
+        (joined (unchained mode (blocks_of form value.now) answers.old))) }
+    ensures text { place.new ≡ filled_to (length value.now) (text_of form value.now
+        (joined (unchained mode (blocks_of form value.now) answers.old))) }
+{
+    let part = form.part_of(value);
+    let (blocks, _) = part.as_chunks::<8>();
+    mode.unchain(blocks, answers);
+    let plain = answers.as_flattened();
+    place[..plain.len()].copy_from_slice(plain);
+    finish(form, form.fault_before(value), plain.len(), place)
+}

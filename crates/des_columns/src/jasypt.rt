@@ -1,0 +1,208 @@
+//! Strings of Jasypt, as settings have them inside `ENC(` and `)`: in Base64 a salt of 8 bytes, and
+//! behind it what is encrypted by CBC and the padding of PKCS#7. Key and vector come from a password,
+//! the salt and a number of iterations, by default 1,000, by one of the algorithms of `pbe`: by
+//! `Md5Des` before version 3 of Jasypt's integration into Spring Boot.
+
+ghost use Rattle.std.specs.Prelude.{◌≡◌, ◌≢◌, ◌≤◌, ◌+◌, ◌↔◌, IsTrue, length, take, drop, sum, IsOk, IfOk, OnOk, OnErr};
+ghost use Rattle.std.specs.List.{All};
+ghost use Rattle.des_columns.specs.Columns.{pieces};
+ghost use Rattle.des_columns.specs.Forms.{filled_to};
+ghost use Rattle.des_columns.specs.Jasypt.{inside, Reads, ReadsBy};
+ghost use Rattle.des_columns.specs.Pbe.{derived_by, key_size};
+ghost use Rattle.des_columns.specs.Readings.{IsColumnRead, IsReading};
+ghost use Rattle.des_passwords.specs.TextLines.{trimmed};
+ghost use Rattle.des_columns.specs.declared.form.BlockMode.TheVariants.{Cbc};
+ghost use Rattle.des_columns.specs.declared.form.Form.TheVariants.{Pkcs7};
+
+use crate::base64_in_place::{decode, write_characters};
+use crate::column::{Reader, are_ok};
+use crate::form::{BlockMode, Form, Reading, finish};
+use crate::pbe::{Algorithm, PbeError};
+use crate::status::{ERR_BASE64, ERR_SALT_LENGTH, OK};
+use crate::value_keys::OneKey;
+use des::cipher::are_bytes;
+use des_fast::many::ManyBlocks;
+use des_fast::{Des, TdesEde2, TdesEde3};
+use des_passwords::derivation::split;
+use des_passwords::pbkdf2::DeriveError;
+use std::simd::prelude::*;
+
+// The blocks that are decrypted together: mostly all of a value.
+const BLOCKS: usize = 128;
+
+// A value without the white space around it.
+fn trimmed(value: &[u8]) -> &[u8]
+    ensures trimmed { result.now ≡ trimmed value.now }
+    ensures within { length result.now ≤ length value.now }
+{
+    value.trim_ascii()
+}
+
+// What stands inside `ENC(` and `)`, or all of it.
+fn inside(value: &[u8]) -> &[u8]
+    ensures inside { result.now ≡ inside value.now }
+    ensures within { length result.now ≤ length value.now }
+{
+    if value.starts_with(b"ENC(") && value[4..].ends_with(b")") {
+        &value[4..value.len() - 1]
+    } else {
+        value
+    }
+}
+
+// Makes of what is encrypted under a key, from a vector, the text at its front.
+fn decrypt<C: ManyBlocks + Drop>(
+    key: &C::Key,
+    vector: &[u8; 8],
+    encrypted: &mut [u8],
+    buffer: &mut [[u8; 8]],
+) -> Reading
+    requires buffer { 1 ≤ length buffer.old }
+    ensures buffer { length buffer.new ≡ length buffer.old }
+    ensures within { result.length ≤ length encrypted.new }
+    ensures read { IsReading Pkcs7 (Cbc vector.now) (C.relation (C.Key.bytes_of key.now))
+        encrypted.old result.status (take result.length encrypted.new) }
+{
+    let mode = BlockMode::Cbc(*vector);
+    mode.has_vector();
+    are_bytes(encrypted);
+    let reader = Reader {
+        keys: OneKey {
+            cipher: C::new(key),
+        },
+        form: Form::Pkcs7,
+        mode,
+    };
+    let fault = Form::Pkcs7.fault_before(encrypted);
+    let count = Form::Pkcs7.part_of(encrypted).len();
+    reader.decipher::<u64x2>(&[], &mut encrypted[..count], buffer);
+    finish(Form::Pkcs7, fault, count, encrypted)
+}
+
+// The same under the key of an algorithm, and the vector behind it.
+fn decrypt_by(by: Algorithm, both: &[u8], encrypted: &mut [u8], buffer: &mut [[u8; 8]]) -> Reading
+    requires both { length both.now ≡ key_size by + 8 }
+    requires buffer { 1 ≤ length buffer.old }
+    ensures buffer { length buffer.new ≡ length buffer.old }
+    ensures within { result.length ≤ length encrypted.new }
+    ensures read { ReadsBy by both.now encrypted.old result.status (take result.length encrypted.new) }
+{
+    match by {
+        Algorithm::Md5Des | Algorithm::Sha1Des => {
+            let both = split::<8>(both);
+            decrypt::<Des>(&both.key, &both.vector, encrypted, buffer)
+        }
+        Algorithm::Md5TripleDes | Algorithm::Sha1TripleDes => {
+            let both = split::<24>(both);
+            decrypt::<TdesEde3>(&both.key, &both.vector, encrypted, buffer)
+        }
+        Algorithm::Sha1TwoKeys => {
+            let both = split::<16>(both);
+            decrypt::<TdesEde2>(&both.key, &both.vector, encrypted, buffer)
+        }
+    }
+}
+
+// Makes of a salt, and what is encrypted behind it, the text at their front.
+fn open(
+    by: Algorithm,
+    iterations: u32,
+    password: &[u8],
+    bytes: &mut [u8],
+    buffer: &mut [[u8; 8]],
+) -> Reading
+    requires iterations { iterations ≢ 0 }
+    requires salt { 8 ≤ length bytes.old }
+    requires buffer { 1 ≤ length buffer.old }
+    ensures buffer { length buffer.new ≡ length buffer.old }
+    ensures within { result.length ≤ length bytes.new }
+    ensures read { ReadsBy by (derived_by by password.now (take 8 bytes.old) iterations)
+        (drop 8 bytes.old) result.status (take result.length bytes.new) }
+{
+    let count = bytes.len() - 8;
+    bytes.rotate_left(8);
+    let (encrypted, salt) = bytes.split_at_mut(count);
+    let mut both = [0; 32];
+    let both = &mut both[..by.key_size() + 8];
+    let _ = by.write_key(password, salt, iterations, both);
+    decrypt_by(by, both, encrypted, buffer)
+}
+
+// Reads a value: the text stands at the front of its place, before zeros.
+fn read_value(
+    by: Algorithm,
+    iterations: u32,
+    password: &[u8],
+    value: &[u8],
+    place: &mut [u8],
+    buffer: &mut [[u8; 8]],
+) -> Reading
+    requires iterations { iterations ≢ 0 }
+    requires place { length place.old ≡ length value.now }
+    requires buffer { 1 ≤ length buffer.old }
+    ensures buffer { length buffer.new ≡ length buffer.old }
+    ensures within { result.length ≤ length place.new }
+    ensures read { Reads by iterations password.now value.now result.status
+        (take result.length place.new) }
+    ensures place { place.new ≡ filled_to (length value.now) (take result.length place.new) }
+{
+    let count = write_characters(inside(trimmed(value)), place);
+    let reading = match decode(&mut place[..count]) {
+        None => Reading {
+            status: ERR_BASE64,
+            length: 0,
+        },
+        Some(size) if size < 8 => Reading {
+            status: ERR_SALT_LENGTH,
+            length: 0,
+        },
+        Some(size) => open(by, iterations, password, &mut place[..size], buffer),
+    };
+    place[reading.length..].fill(0);
+    reading
+}
+
+/// Reads strings of Jasypt under a password, one after another, of these lengths: with or without
+/// `ENC(` and `)` around, and white space around these and within does not count. Text k is written
+/// where value k begins, before zeros, and its length; and status k, which is `OK`, or
+/// `ERR_BASE64`, `ERR_SALT_LENGTH` if the value ends within its salt, `ERR_BLOCKS` if nothing or no
+/// whole blocks are encrypted, `ERR_PADDING` if the padding is wrong, as mostly under a wrong password.
+/// Returns whether all are `OK`. `Derive` if `iterations` is 0, and then nothing is written. The key of
+/// each value is derived by itself.
+pub fn decrypt_values(
+    by: Algorithm,
+    iterations: u32,
+    password: &[u8],
+    values: &[u8],
+    lengths: &[usize],
+    texts: &mut [u8],
+    text_lengths: &mut [usize],
+    statuses: &mut [i32],
+) -> Result<bool, PbeError>
+    requires whole { sum lengths.now ≡ length values.now }
+    requires texts { length texts.old ≡ length values.now }
+    requires text_lengths { length text_lengths.old ≡ length lengths.now }
+    requires statuses { length statuses.old ≡ length lengths.now }
+    ensures accepted { IsOk result ↔ (iterations ≢ 0) }
+    ensures read { OnOk result (IsColumnRead (Reads by iterations password.now)
+        (pieces lengths.now values.now) texts.new text_lengths.new statuses.new) }
+    ensures all { IfOk result (λ all. IsTrue all ↔ All (λ status. status ≡ OK) statuses.new) }
+    ensures kept { OnErr result ((texts.new ≡ texts.old) × (text_lengths.new ≡ text_lengths.old)
+        × (statuses.new ≡ statuses.old)) }
+{
+    if iterations == 0 {
+        return Err(PbeError::Derive(DeriveError::NoIteration));
+    }
+    let mut buffer = [[0; 8]; BLOCKS];
+    let mut start = 0;
+    'values: for k in 0..lengths.len() {
+        let end = start + lengths[k];
+        let value = &values[start..end];
+        let place = &mut texts[start..end];
+        let reading = read_value(by, iterations, password, value, place, &mut buffer);
+        text_lengths[k] = reading.length;
+        statuses[k] = reading.status;
+        start = end;
+    }
+    Ok(are_ok(statuses))
+}

@@ -1,0 +1,195 @@
+//! The server's file of keys of MySQL and MariaDB (`des-key-file`), and columns of values whose first
+//! bytes name them.
+
+ghost use Rattle.std.specs.Prelude.{◌≡◌, ◌==◌, ◌<◌, ℕ, List, Some, None, not, drop, map, get_or, replicate, is_some};
+ghost use Rattle.std.specs.List.{before_first, position_or_len};
+ghost use Rattle.std.specs.Option.{option_map, option_or, unwrap_or};
+ghost use Rattle.des.specs.Blocks.{IsKey};
+ghost use Rattle.des.specs.TripleCiphers.{ede3_decryption};
+ghost use Rattle.des_columns.specs.KeyFile.{is_line, is_shown, is_space, keys_in, string_at, string_of, until_shown};
+ghost use Rattle.des_columns.specs.Mysql.{key_of, number_of};
+
+use crate::form::Form;
+use crate::kept_keys::{KEPT, Progress, decrypt_kept, decrypt_under, take_blocks};
+use crate::value_keys::ValueKeys;
+use des::cipher::KeyBytes;
+use des_fast::many::Slice;
+use des_passwords::Derivation;
+
+// The most bytes that the server reads of a line.
+const LINE: usize = 1022;
+
+/// The keys of a server's file, by their numbers.
+#[derive(Drop)]
+pub struct KeyFile {
+    pub keys: [Option<[u8; 24]>; 10],
+}
+
+/// The key of a key string, as the server makes it: by `EVP_BytesToKey` with MD5, no salt and one
+/// iteration. Its parity bits are as derived, not set.
+pub fn key_of(string: &[u8]) -> [u8; 24]
+    ensures { result ≡ key_of string.now }
+{
+    let mut key = [0; 24];
+    let _ = Derivation::Md5.write_bytes(string, &[], &mut key);
+    key
+}
+
+// Whether bytes are a line: there is its end, or as many as the server reads.
+fn is_line(bytes: &[u8]) -> bool
+    ensures { result ≡ is_line bytes.now }
+{
+    bytes.last() == Some(&b'\n') || bytes.len() >= LINE
+}
+
+// Whether a byte is white space in latin1.
+fn is_space(byte: u8) -> bool
+    ensures { result ≡ is_space byte }
+{
+    (9..=13).contains(&byte) || byte == b' ' || byte == 0xA0
+}
+
+// Whether a byte is a character that is shown, in MySQL's latin1.
+fn is_shown(byte: u8) -> bool
+    ensures { result ≡ is_shown byte }
+{
+    byte > b' ' && !matches!(byte, 0x7F | 0x81 | 0x8D | 0x8F | 0x90 | 0x9D | 0xA0)
+}
+
+// What stands before a zero, if there is one.
+fn before_zero(bytes: &[u8]) -> &[u8]
+    ensures { result.now ≡ before_first (λ byte. byte == 0) bytes.now }
+{
+    let mut end = 0;
+    'text: while end < bytes.len() && bytes[end] != 0 {
+        end += 1;
+    }
+    &bytes[..end]
+}
+
+// Bytes without white space in front.
+fn without_space(bytes: &[u8]) -> &[u8]
+    ensures { result.now ≡ drop (position_or_len (λ byte. not (is_space byte)) bytes.now) bytes.now }
+{
+    let mut start = 0;
+    'space: while start < bytes.len() && is_space(bytes[start]) {
+        start += 1;
+    }
+    &bytes[start..]
+}
+
+// Bytes without those behind the last that is shown.
+fn until_shown(bytes: &[u8]) -> &[u8]
+    ensures { result.now ≡ until_shown bytes.now }
+{
+    let mut end = bytes.len();
+    'hidden: while end > 0 && !is_shown(bytes[end - 1]) {
+        end -= 1;
+    }
+    &bytes[..end]
+}
+
+// The string of a line behind its digit.
+fn string_of(rest: &[u8]) -> &[u8]
+    ensures { result.now ≡ string_of rest.now }
+{
+    until_shown(without_space(before_zero(rest)))
+}
+
+// Takes the key of a line, if it has one, in place of an earlier one of its number.
+fn take_key(line: &[u8], keys: &mut [Option<[u8; 24]>; 10])
+    ensures { (number : ℕ) → number < 10 → get_or keys.new number None
+        ≡ option_or (option_map key_of (string_at number line.now)) (get_or keys.old number None) }
+{
+    let Some((digit, rest)) = line.split_first() else {
+        return;
+    };
+    let string = string_of(rest);
+    if digit.is_ascii_digit() && !string.is_empty() {
+        keys[(*digit - b'0') as usize] = Some(key_of(string));
+    }
+}
+
+impl KeyFile {
+    /// Reads the bytes of a file as the server does. A line has a digit, white space and a key string,
+    /// of which control characters at its end are none; a later line replaces an earlier one of its
+    /// digit. Lines that are no key are passed over: also what is left without the end of a line.
+    /// Where a line is longer than 1,022 bytes, what is behind these is another.
+    pub fn read(file: &[u8]) -> KeyFile
+        ensures { result.keys ≡ keys_in file.now }
+    {
+        let mut keys = [None; 10];
+        let mut start = 0;
+        'bytes: for at in 0..file.len() {
+            let line = &file[start..at + 1];
+            if is_line(line) {
+                take_key(line, &mut keys);
+                start = at + 1;
+            }
+        }
+        KeyFile { keys }
+    }
+
+    /// Of which numbers there is a key.
+    pub(crate) fn numbers(&self) -> [bool; 10]
+        ensures { result ≡ map is_some self.now.keys }
+    {
+        let mut numbers = [false; 10];
+        'numbers: for number in 0..10 {
+            numbers[number] = self.keys[number].is_some();
+        }
+        numbers
+    }
+
+    // The keys are keys: what the type says, for those that cite it.
+    pub(crate) fn are_keys(&self)
+        ensures { (number : ℕ) (key : List ℕ) → get_or self.now.keys number None ≡ Some key
+            → IsKey 24 key }
+    {
+        'numbers: for number in 0..10 {
+            if let Some(key) = &self.keys[number] {
+                key.as_bytes();
+            }
+        }
+    }
+
+    // The key of a value, or zeros if there is none.
+    fn key_for(&self, value: &[u8]) -> [u8; 24]
+        ensures { result ≡ unwrap_or (get_or self.now.keys (number_of value.now) None) (replicate 24 0) }
+    {
+        let number = value.first().map_or(0, |byte| byte.saturating_sub(128));
+        match self.keys.get(number as usize) {
+            Some(Some(key)) => *key,
+            _ => [0; 24],
+        }
+    }
+}
+
+impl ValueKeys for KeyFile {
+    ghost decryption = { λ file value. ede3_decryption
+        (unwrap_or (get_or file.keys (number_of value) None) (replicate 24 0)) };
+
+    fn decrypt_values<S: Slice>(
+        &self,
+        form: Form,
+        values: &[u8],
+        lengths: &[usize],
+        blocks: &mut [[u8; 8]],
+    ) {
+        let mut keys = [[0; 24]; KEPT];
+        let mut progress = Progress { done: 0, kept: 0 };
+        let mut rest = values;
+        'values: for k in 0..lengths.len() {
+            let (value, others) = rest.split_at(lengths[k].min(rest.len()));
+            let count = form.part_of(value).len() / 8;
+            let key = self.key_for(value);
+            progress = take_blocks::<S>(&key, count, progress, &mut keys, blocks);
+            rest = others;
+        }
+        decrypt_kept::<S>(progress, &keys, blocks);
+    }
+
+    fn decrypt_part<S: Slice>(&self, value: &[u8], blocks: &mut [[u8; 8]]) {
+        decrypt_under::<S>(&self.key_for(value), blocks);
+    }
+}

@@ -1,0 +1,56 @@
+//! The keys of the values of a column.
+
+ghost use Rattle.std.specs.Prelude.{◌≡◌, ℕ, List, map};
+ghost use Rattle.std.specs.List.{flat_map};
+ghost use Rattle.des_columns.specs.Forms.{blocks_of};
+ghost use Rattle.des_columns.specs.Columns.{decrypted, pieces};
+
+use crate::form::Form;
+use des_fast::many::{ManyBlocks, Slice};
+
+/// What decrypts the blocks of values. No call reads a table at an index that depends on a key or
+/// a block.
+pub trait ValueKeys {
+    // What a block of a value decrypts to.
+    ghost decryption: { Self → List ℕ → List ℕ → List ℕ };
+
+    /// Decrypts the blocks of values in place, one value after another.
+    fn decrypt_values<S: Slice>(
+        &self,
+        form: Form,
+        values: &[u8],
+        lengths: &[usize],
+        blocks: &mut [[u8; 8]],
+    )
+        requires { blocks.old ≡ flat_map (blocks_of form) (pieces lengths.now values.now) }
+        ensures { blocks.new
+            ≡ flat_map (decrypted form (decryption self.now)) (pieces lengths.now values.now) };
+
+    /// Decrypts some blocks of a value in place.
+    fn decrypt_part<S: Slice>(&self, value: &[u8], blocks: &mut [[u8; 8]])
+        ensures { blocks.new ≡ map (decryption self.now value.now) blocks.old };
+}
+
+/// One key for all values: the cipher made from it.
+#[derive(Drop)]
+pub struct OneKey<C> {
+    pub cipher: C,
+}
+
+impl<C: ManyBlocks + Drop> ValueKeys for OneKey<C> {
+    ghost decryption = { λ keys value. C.decrypted keys.cipher };
+
+    fn decrypt_values<S: Slice>(
+        &self,
+        form: Form,
+        values: &[u8],
+        lengths: &[usize],
+        blocks: &mut [[u8; 8]],
+    ) {
+        self.cipher.decrypt_list_by::<S>(true, blocks);
+    }
+
+    fn decrypt_part<S: Slice>(&self, value: &[u8], blocks: &mut [[u8; 8]]) {
+        self.cipher.decrypt_list_by::<S>(true, blocks);
+    }
+}

@@ -1,0 +1,228 @@
+//! Columns, written under one key: the values of texts, one after another.
+
+ghost use Rattle.std.specs.Prelude.{◌≡◌, ◌≤◌, ◌<◌, ◌+◌, ◌-◌, ◌*◌, ◌/◌, ◌%◌, ◌^◌, ◌++◌, ◌↔◌, IsTrue, length, replicate, sum};
+ghost use Rattle.std.specs.List.{All, flat_map, sum_by};
+ghost use Rattle.des_columns.specs.Columns.{pieces};
+ghost use Rattle.des_columns.specs.Forms.{mode_after};
+ghost use Rattle.des_columns.specs.Mysql.{padded};
+ghost use Rattle.des_columns.specs.Writings.{IsColumnWritten, IsTextSize, IsWriting, enciphered, enciphered_bytes, padded_by, value_of, value_size};
+
+use crate::column::add_up_to;
+use crate::form::{BlockMode, Form};
+use des::cbc::next_vector;
+use des::cipher::are_bytes;
+use des_fast::many::{ManyBlocks, Slice};
+
+// The blocks that are encrypted together.
+const BLOCKS: usize = 1024;
+
+// Writes a text that is not empty, and MySQL's padding.
+fn write_starred(text: &[u8], bytes: &mut [u8])
+    requires { length bytes.old ≡ (length text.now / 8 + 1) * 8 }
+    ensures padded { bytes.new ≡ padded text.now }
+    ensures count { length bytes.new ≡ length bytes.old }
+{
+    let past = text.len() % 8;
+    let (front, tail) = bytes.split_at_mut(text.len());
+    front.copy_from_slice(text);
+    let (stars, last) = tail.split_at_mut(7 - past);
+    stars.fill(b'*');
+    last.fill(8 - past as u8);
+}
+
+// Writes a text and the padding of PKCS#7.
+fn write_counted(text: &[u8], bytes: &mut [u8])
+    requires { length bytes.old ≡ (length text.now / 8 + 1) * 8 }
+    ensures padded { bytes.new ≡ text.now
+        ++ replicate (8 - length text.now % 8) (8 - length text.now % 8) }
+    ensures count { length bytes.new ≡ length bytes.old }
+{
+    let past = text.len() % 8;
+    let (front, tail) = bytes.split_at_mut(text.len());
+    front.copy_from_slice(text);
+    tail.fill(8 - past as u8);
+}
+
+impl Form {
+    // How many bytes the value of a text of `size` bytes has.
+    fn value_size(self, size: usize) -> usize
+        requires { size < 2 ^ 63 }
+        ensures { result ≡ value_size self size }
+    {
+        match self {
+            Form::Mysql | Form::MysqlByNumber(_) if size == 0 => 0,
+            Form::Mysql | Form::MysqlByNumber(_) => (size / 8 + 1) * 8 + 1,
+            Form::Pkcs7 => (size / 8 + 1) * 8,
+            Form::Unpadded => size,
+        }
+    }
+
+    // Writes a text and its padding.
+    fn write_padded(self, text: &[u8], bytes: &mut [u8])
+        requires size { IsTextSize self (length text.now) }
+        requires count { length bytes.old ≡ value_size self (length text.now) / 8 * 8 }
+        ensures padded { bytes.new ≡ padded_by self text.now }
+        ensures count { length bytes.new ≡ length bytes.old }
+    {
+        match self {
+            Form::Mysql | Form::MysqlByNumber(_) if text.is_empty() => (),
+            Form::Mysql | Form::MysqlByNumber(_) => write_starred(text, bytes),
+            Form::Pkcs7 => write_counted(text, bytes),
+            Form::Unpadded => bytes.copy_from_slice(text),
+        }
+    }
+}
+
+// How the values of a column are written: by which cipher, into which form, under which number of
+// a key, and by which mode.
+#[derive(Drop)]
+struct Writer<C> {
+    cipher: C,
+    form: Form,
+    number: u8,
+    mode: BlockMode,
+}
+
+impl<C: ManyBlocks + Drop> Writer<C> {
+    // Encrypts blocks in place, and returns the mode of those that come after them.
+    fn encrypt<S: Slice>(&self, mode: BlockMode, blocks: &mut [[u8; 8]]) -> BlockMode
+        ensures enciphered { blocks.new ≡ enciphered mode (C.encrypted self.now.cipher) blocks.old }
+        ensures mode { result ≡ mode_after mode blocks.new }
+        ensures count { length blocks.new ≡ length blocks.old }
+    {
+        match mode {
+            BlockMode::Ecb => {
+                self.cipher.encrypt_list_by::<S>(true, blocks);
+                mode
+            }
+            BlockMode::Cbc(iv) => {
+                self.cipher.encrypt_cbc_list(true, &iv, blocks);
+                BlockMode::Cbc(next_vector(&iv, blocks))
+            }
+        }
+    }
+
+    // Encrypts whole blocks in place, however many they are, as many at a time as the buffer takes.
+    fn encipher<S: Slice>(&self, bytes: &mut [u8], buffer: &mut [[u8; 8]])
+        requires whole { length bytes.old % 8 ≡ 0 }
+        requires buffer { 1 ≤ length buffer.old }
+        ensures buffer { length buffer.new ≡ length buffer.old }
+        ensures enciphered { bytes.new
+            ≡ enciphered_bytes self.now.mode (C.encrypted self.now.cipher) bytes.old }
+    {
+        let mut mode = self.mode;
+        let mut from = 0;
+        'parts: while from < bytes.len() / 8 {
+            let count = buffer.len().min(bytes.len() / 8 - from);
+            let part = &mut bytes[from * 8..(from + count) * 8];
+            let (blocks, _) = part.as_chunks::<8>();
+            let answers = &mut buffer[..count];
+            answers.copy_from_slice(blocks);
+            mode = self.encrypt::<S>(mode, answers);
+            part.copy_from_slice(answers.as_flattened());
+            from += count;
+        }
+    }
+
+    // Writes the value of a text.
+    fn write_value<S: Slice>(&self, text: &[u8], value: &mut [u8], buffer: &mut [[u8; 8]])
+        requires number { self.now.number < 128 }
+        requires size { IsTextSize self.now.form (length text.now) }
+        requires value { length value.old ≡ value_size self.now.form (length text.now) }
+        requires buffer { 1 ≤ length buffer.old }
+        ensures buffer { length buffer.new ≡ length buffer.old }
+        ensures value { value.new ≡ value_of self.now.form self.now.number self.now.mode
+            (C.encrypted self.now.cipher) text.now }
+    {
+        let (head, bytes) = value.split_at_mut(value.len() % 8);
+        head.fill(128 + self.number);
+        self.form.write_padded(text, bytes);
+        self.encipher::<S>(bytes, buffer);
+    }
+
+    // Writes the values of texts of these lengths, one after another.
+    fn write<S: Slice>(&self, texts: &[u8], lengths: &[usize], values: &mut [u8])
+        requires number { self.now.number < 128 }
+        requires whole { sum lengths.now ≡ length texts.now }
+        requires sizes { All (IsTextSize self.now.form) lengths.now }
+        requires values { length values.old ≡ sum_by (value_size self.now.form) lengths.now }
+        ensures { values.new ≡ flat_map (value_of self.now.form self.now.number self.now.mode
+            (C.encrypted self.now.cipher)) (pieces lengths.now texts.now) }
+    {
+        let mut buffer = [[0; 8]; BLOCKS];
+        let mut from = 0;
+        let mut start = 0;
+        'texts: for k in 0..lengths.len() {
+            let text = &texts[from..from + lengths[k]];
+            let size = self.form.value_size(text.len());
+            self.write_value::<S>(text, &mut values[start..start + size], &mut buffer);
+            from += text.len();
+            start += size;
+        }
+    }
+}
+
+/// Writes the values of a column under one key, of texts of these lengths, one after another: each
+/// with the number of the key, if the form has one. Value k stands behind those before it.
+pub fn write_values<C: ManyBlocks + Drop, S: Slice>(
+    key: &C::Key,
+    form: Form,
+    number: u8,
+    mode: BlockMode,
+    texts: &[u8],
+    lengths: &[usize],
+    values: &mut [u8],
+)
+    requires number { number < 128 }
+    requires whole { sum lengths.now ≡ length texts.now }
+    requires sizes { All (IsTextSize form) lengths.now }
+    requires values { length values.old ≡ sum_by (value_size form) lengths.now }
+    ensures { IsColumnWritten (value_size form)
+        (IsWriting form number mode (C.relation (C.Key.bytes_of key.now)))
+        (pieces lengths.now texts.now) values.new }
+{
+    mode.has_vector();
+    are_bytes(texts);
+    let writer = Writer {
+        cipher: C::new(key),
+        form,
+        number,
+        mode,
+    };
+    writer.write::<S>(texts, lengths, values);
+}
+
+/// Whether the arguments of a call that writes a column fit: the lengths add up to the bytes of the
+/// texts, and those of their values to the length of the buffer.
+pub fn fits(form: Form, texts: &[u8], lengths: &[usize], values: &[u8]) -> bool
+    ensures { IsTrue result ↔ (sum lengths.now ≡ length texts.now)
+        × (sum_by (value_size form) lengths.now ≡ length values.now) }
+{
+    add_up_to(lengths, texts.len()) && sizes_add_up_to(form, lengths, values.len())
+}
+
+// Whether the values of texts of these lengths have `total` bytes together.
+fn sizes_add_up_to(form: Form, lengths: &[usize], total: usize) -> bool
+    requires { sum lengths.now < 2 ^ 63 }
+    ensures { IsTrue result ↔ (sum_by (value_size form) lengths.now ≡ total) }
+{
+    let mut left = total;
+    'texts: for k in 0..lengths.len() {
+        let size = form.value_size(lengths[k]);
+        if left < size {
+            return false;
+        }
+        left -= size;
+    }
+    left == 0
+}
+
+/// Whether texts of these lengths can be written: those without padding are whole blocks.
+pub fn are_whole(form: Form, lengths: &[usize]) -> bool
+    ensures { IsTrue result ↔ All (IsTextSize form) lengths.now }
+{
+    match form {
+        Form::Unpadded => lengths.iter().all(|length| *length % 8 == 0),
+        _ => true,
+    }
+}
