@@ -1,4 +1,4 @@
--- A test as a number: one where it is true.
+-- A test as a number: one if it is true.
 use Rattle.std.proofs.Common.{◌≡◌, ℕ, ◌+◌, ◌≤◌, Bool, true, false, cond, refl, arith}
 use mir.Val.{bool_byte}
 

@@ -36,7 +36,7 @@ module _ (number n : ℕ) where
   below : 2 ^ n < 2 ^ suc n
   below = omega (arith, pow-suc 2 n, one-le-pow n 2 (omega arith))
 
-  -- the bit at the place, where it is one, is set
+  -- the bit at the place, if it is one, is set
   cleared-one : bit_at number n ≡ 1 → cleared number n ≡ bit_or (cleared number (suc n)) (2 ^ n)
   cleared-one one =
       let q : ℕ = number / 2 ^ n in
@@ -65,7 +65,7 @@ bit_at-counter last n low =
 pub cleared-register : (last : ℕ) → cleared last 21 ≡ last - last % 2 ^ 21
 cleared-register last = omega (arith, shr_split last 21)
 
--- a place more: the next key where the counter's bit is one, and else the key as it is
+-- a place more: the next key if the counter's bit is one, and else the key as it is
 pub derived-place : (last n : ℕ) (key : List ℕ) → n < 21
     → derived (ones_below n (last % 2 ^ 21)) (cleared last n)
     (if bit_at (last % 2 ^ 21) n == 1 then next_key (cleared last n) key else key)

@@ -1,4 +1,4 @@
--- The digits of two numbers, after a zero where they are odd in number, as a part of a longer text.
+-- The digits of two numbers, after a zero if they are odd in number, as a part of a longer text.
 use Rattle.std.proofs.Common.{◌≡◌, ℕ, ◌+◌, ◌-◌, ◌%◌, ◌≤◌, List, ◌++◌, length, take, drop, replicate, IsTrue, true, refl, sym, ap, ◌∙◌, arith}
 use Rattle.std.proofs.Math.Seq.{take-append_seam}
 use Rattle.std.proofs.lemmas.List.{length-append, length-replicate, drop-append-le, drop-replicate}
@@ -14,7 +14,7 @@ zeros = replicate 16 48
 abbrev pub even_digits : List ℕ → List ℕ
 even_digits digits = replicate (length digits % 2) 48 ++ digits
 
--- the last of the zeros before the digits is taken with them where they are odd in number
+-- the last of the zeros before the digits is taken with them if they are odd in number
 pub even_digits-taken : (digits rest : List ℕ) (n m : ℕ) → n ≡ 16 - length digits % 2
     → m ≡ length digits + length digits % 2 → take m (drop n ((zeros ++ digits) ++ rest)) ≡ even_digits digits
 even_digits-taken digits rest n m start count =

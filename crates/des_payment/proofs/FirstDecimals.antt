@@ -22,7 +22,7 @@ moved is same same_list = record {
       is.written k room (omega (arith, same)) ∙ ap (λ (zs : List ℕ). get_or zs k 0) (sym same_list);
 }
 
--- a digit is written after them: it counts where it is chosen
+-- a digit is written after them: it counts if it is chosen
 module _ (count : ℕ) (value after xs : List ℕ) (digit : ℕ) (is : IsWritten count value xs)
     (long : length after ≡ length value)
     (writes : (k : ℕ) → k < length value → get_or after k 0 ≡ (if k == count then digit else get_or value k 0)) where
@@ -78,7 +78,7 @@ IsWritten-all count value xs is room =
     is.written k within (omega (arith, is.count_is))
     ∙ sym (get_or-take (length value) xs k 0 within))
 
--- one digit more of a list: found where it passes the test
+-- one digit more of a list: found if it passes the test
 pub found-decimal : (digits : List ℕ) (i : ℕ) → i < length digits
     → filter is_decimal (take (i + 1) digits)
     ≡ filter is_decimal (take i digits) ++ cond (is_decimal (get_or digits i 0)) (get_or digits i 0 ∷ []) []

@@ -47,7 +47,7 @@ hex_number-injective (suc n) a b a_in b_in same =
     let lasts : a % 16 ≡ b % 16 = hex_digit-injective (a % 16) (b % 16) (omega arith) (omega arith) parts.1 in
     omega arith
 
--- the number of a text of so many characters is the one that was found, and none where none was
+-- the number that a text of `n` digits was found to be is written by that text
 pub number-at : (n number : ℕ) (part : List ℕ) → length part ≡ n → hex_number (length part) number ≡ part
     → hex_number n number ≡ part
 number-at n number part count is = subst (λ k. hex_number k number ≡ part) count is

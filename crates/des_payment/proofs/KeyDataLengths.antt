@@ -58,7 +58,7 @@ of_blocks (suc (suc (suc zero))) from to = refl
 of_blocks (suc (suc (suc (suc zero)))) from to = refl
 of_blocks (suc (suc (suc (suc (suc n))))) from to = absurd (omega arith)
 
--- so many characters are those of one to four blocks and of a MAC
+-- one to four blocks and a MAC have a length of key data
 pub sealed-length : (version : Version) (n size : ℕ) → 1 ≤ n → n ≤ 4 → size ≡ 16 * n + 2 * mac_size version
     → IsTrue (is_sealed_length version size)
 sealed-length version n size from to count =

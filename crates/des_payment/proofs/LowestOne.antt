@@ -6,7 +6,7 @@ use Rattle.std.proofs.lemmas.Nat.Bits.{bit_at-trailing_zeros, bit_at_above}
 use Rattle.std.proofs.lemmas.Bool.{cases_lt}
 use Rattle.des_payment.proofs.PlaceNumbers.{one_more}
 
--- where no bit below a place is one, there are zeros
+-- if no bit below a place is one, there are zeros
 none_below : (n p : ℕ) → ((i : ℕ) → i < p → bit_at n i ≡ 0) → n % 2 ^ p ≡ 0
 none_below n zero none = mod-one n
 none_below n (suc p) none =

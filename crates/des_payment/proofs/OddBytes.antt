@@ -17,7 +17,7 @@ odd-parts byte =
       count_ones-xor_one byte (omega (arith, eqb-false (count_ones byte % 2) 1 is_not)),
     ))
 
--- the lowest bit is turned where the number is even
+-- the lowest bit is turned if the number is even
 pub odd-by_xor : (byte : ℕ) → bit_xor byte (1 - count_ones byte % 2) ≡ odd byte
 odd-by_xor byte =
     cond_both (count_ones byte % 2 == 1) byte (bit_xor byte 1)

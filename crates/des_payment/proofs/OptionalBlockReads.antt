@@ -28,7 +28,7 @@ rest-step blocks before count block same =
     drop-set-lt (count + 1) blocks count block (omega arith) ∙ sym (drop-drop 1 count blocks) ∙ ap (drop 1) same
     ∙ drop-drop 1 count before
 
--- what is left of the blocks of a text after so many
+-- what is left of the blocks of a text after some
 pub record LeftBlocks (read : List (List ℕ × List ℕ)) (count : ℕ) (rest : List ℕ) : Type 0 where
   pub others : List (List ℕ × List ℕ)
   pub are : AreOptionalBlocks others rest

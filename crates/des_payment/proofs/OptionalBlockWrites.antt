@@ -42,7 +42,7 @@ are-step blocks i d at n size text last within there count are is =
     (sym (more-pairs blocks i d within)) more in
     subst (λ (front : List ℕ). AreOptionalBlocks (take (i + 1) (pairs_of blocks)) front) (sym e) both
 
--- the last block is written, where one is needed
+-- the last block is written, if one is needed
 pub are-filled : (blocks : List (List ℕ × List ℕ)) (at n : ℕ) (text content last : List ℕ) → at ≡ size_of_all blocks
     → at % 8 ≢ 0 → at + n ≡ length text → length last ≡ n → content ≡ zeros_for at
     → AreOptionalBlocks blocks (take at text) → IsOptionalBlock (codes "PB") content last

@@ -119,7 +119,7 @@ picked-decimal right field count picked long is_count few digits is =
     lt-ltb (get_or picked k 0) 10 (subst (λ (digit : ℕ). digit < 10) (sym (is.1 k (omega (arith, is.0))))
     (small right field count k long is_count few digits))))
 
--- where it is right, they are those of the PIN
+-- if it is right, they are those of the PIN
 pub picked-text : (right : Bool) (field : List ℕ) (count : ℕ) (picked : List ℕ) → length field ≡ 16
     → count ≡ (if right then slice_index field 1 else 4) → (IsTrue right → slice_index field 1 ≤ 12)
     → IsPicked right field count picked → IsTrue right → text_of (take count picked) ≡ text_of (pin_digits field)

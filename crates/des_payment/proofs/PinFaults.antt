@@ -1,4 +1,4 @@
--- The fault of a PIN field, where its tests are known.
+-- The fault of a PIN field, if its tests are known.
 use Rattle.std.proofs.Common.{◌≡◌, ℕ, ◌≤◌, List, Bool, true, ◌==◌, ◌&&◌, not, nat_lt, nat_le, if◌then◌else◌, slice_index, Some, None, refl, eq-eqb}
 use Rattle.std.specs.List.{list_all}
 use Rattle.std.specs.Cmp.Derive.{both_true}

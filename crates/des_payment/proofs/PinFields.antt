@@ -26,7 +26,7 @@ module _ (pin fill : List ℕ) (is_pin : IsPin pin) where
       let count : 14 ≡ length (values pin) + (14 - length pin) = omega (arith, long, is_pin.1) in
       ap (λ (n : ℕ). take n (values pin ++ fill)) count ∙ take-append-add (values pin) fill (14 - length pin)
 
-  -- also where the values stand before others
+  -- also if the values stand before others
   pub pin_field-made : (format count : ℕ) (before digits : List ℕ) → count ≡ length pin
       → take (length pin) before ≡ values pin
       → digits ≡ take count before ++ take (14 - count) fill
@@ -73,7 +73,7 @@ module _ (format least : ℕ) (pin fill : List ℕ) (is_pin : IsPin pin) (filled
 
 -- ---- what is read was made
 
--- four tests in a row find no fault where each of them passes
+-- four tests in a row find no fault if each of them passes
 all_pass : (a b c d : Bool)
     → (if not a then Some Format
     else (if not b then Some PinLength else (if not c then Some PinDigit else (if not d then Some Fill else None))))

@@ -1,4 +1,4 @@
--- The key of what is sealed after a front, and the fault where there is none.
+-- The key of what is sealed after a front, and the fault if there is none.
 use Rattle.std.proofs.Common.{◌≡◌, ℕ, ◌*◌, ◌≤◌, List, length, Result, Ok, Err, IfOk, sym, ap, ◌∙◌, subst}
 use Rattle.std.specs.Prelude.{IsTrue, IsOkAnd, IfErr}
 use Rattle.des_payment.specs.KeyBlocks.{key_data, is_key_data, IsSealed}
@@ -25,7 +25,7 @@ module _ (version : Version) (protection front text clear : List ℕ)
   )
   key-opened (Err error) n count few found = tt
 
-  -- where they have none, they are no key data
+  -- if they have none, they are no key data
   pub key-fault : (result : Result (List ℕ) KeyBlockError) → IfErr result (λ error. error ≡ KeyLength)
       → ((key padding : List ℕ) → IsTrue (is_key key) → clear ≡ key_data key padding
       → IsOkAnd result (λ opened. opened ≡ key))

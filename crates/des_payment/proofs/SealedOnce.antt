@@ -109,7 +109,7 @@ same-ends a b c d long same =
 
 module _ (version : Version) (protection front text mac : List ℕ) (p q : List (List ℕ))
     (opened : IsOpened version protection front text mac p q) where
-  -- where the MAC is that of what was opened, this is sealed
+  -- if the MAC is that of what was opened, this is sealed
   pub sealed-opened : mac
       ≡ take (mac_size version) (tag_of version (mac_key version protection) front (joined p) (joined q))
       → IsSealed version protection front (joined p) text

@@ -78,7 +78,7 @@ text-step blocks i d at n size text last within there count so_far is =
     ∙ sym (blocks_text-more (take i (pairs_of blocks)) (pair_of (get_or blocks i d)))
     ∙ ap blocks_text (sym (more-pairs blocks i d within))
 
--- the last is written, where one is needed
+-- the last is written, if one is needed
 pub text-filled : (blocks : List (List ℕ × List ℕ)) (at n : ℕ) (text content last : List ℕ) → at ≡ size_of_all blocks
     → at % 8 ≢ 0 → at + n ≡ length text → length last ≡ n → content ≡ zeros_for at
     → take at text ≡ blocks_text blocks → last ≡ block_text (codes "PB", content)
@@ -93,7 +93,7 @@ text-filled blocks at n text content last is_at part all count zeros so_far is =
     ∙ sym (blocks_text-more blocks (codes "PB", zeros_for size))
     ∙ ap (λ (fill : List (List ℕ × List ℕ)). blocks_text (blocks ++ fill)) (sym needed)
 
--- and where none is
+-- and if none is
 pub text-whole : (blocks : List (List ℕ × List ℕ)) (at : ℕ) (text : List ℕ) → at ≡ size_of_all blocks → at % 8 ≡ 0
     → length text ≡ size_of_all (filled blocks) → take at text ≡ blocks_text blocks
     → text ≡ blocks_text (filled blocks)

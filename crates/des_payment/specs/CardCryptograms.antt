@@ -37,7 +37,7 @@ card_key issuer account sequence = key_of_block issuer (card_block account seque
 
 -- ---- and by option B (A1.4.2)
 
--- the bytes that digits write, two a byte, after a zero where they are odd in number
+-- the bytes that digits write, two a byte, after a zero if they are odd in number
 abbrev pub even_bytes : List ℕ → List ℕ
 even_bytes digits = bytes_of (values (replicate (length digits % 2) 48 ++ digits))
 

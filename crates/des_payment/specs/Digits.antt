@@ -12,6 +12,6 @@ bytes_of [] = []
 bytes_of (high ∷ []) = []
 bytes_of (high ∷ low ∷ digits) = (16 * high + low) ∷ bytes_of digits
 
--- the digit at a place of a number of so many digits, the first, at place 0, the highest
+-- the digit at a place of a number of `count` digits; place 0 has the highest
 abbrev pub digit_in : ℕ → ℕ → ℕ → ℕ
 digit_in number count place = number / 2 ^ (4 * (count - (place + 1))) % 16

@@ -119,7 +119,7 @@ parts_fault protection header key padding =
     else if not (is_key_data key padding) then Some PaddingLength
     else None
 
--- what is written before key data in a block of so many characters; the key may be stored and exchanged
+-- what is written before key data in a block of `size` characters; the key may be stored and exchanged
 abbrev pub front_text : Header → List (List ℕ × List ℕ) → ℕ → List ℕ
 front_text header blocks size = header_text header StorageOrExchange size (length blocks) ++ blocks_text blocks
 
@@ -138,9 +138,9 @@ blocks_fault blocks =
     else if nat_lt 99 (length (filled blocks)) then Some OptionalBlock
     else None
 
--- the first fault, where there is room for so many characters
+-- the first fault of a block for which there are this many characters
 abbrev pub wrap_fault : List ℕ → Header → List (List ℕ × List ℕ) → List ℕ → List ℕ → ℕ → Option KeyBlockError
-wrap_fault protection header blocks key padding room =
+wrap_fault protection header blocks key padding capacity =
     let size = size_of_block header.version blocks key padding in
     option_or (parts_fault protection header key padding)
-    (option_or (blocks_fault blocks) (if nat_lt 9999 size || nat_lt room size then Some Length else None))
+    (option_or (blocks_fault blocks) (if nat_lt 9999 size || nat_lt capacity size then Some Length else None))

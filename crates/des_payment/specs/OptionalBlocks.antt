@@ -35,7 +35,7 @@ AreOptionalBlocks (block ∷ blocks) text =
     (first : List ℕ) × ((rest : List ℕ) × ((text ≡ first ++ rest)
     × IsOptionalBlock block.0 block.1 first × AreOptionalBlocks blocks rest))
 
--- how many characters blocks have where each has the shorter form, if it can, and else a length of four digits
+-- how many characters blocks have if each has the shorter form, if it can, and else a length of four digits
 abbrev pub size_of : List ℕ → ℕ
 size_of content = if nat_lt (length content + 4) 256 then length content + 4 else length content + 10
 
@@ -43,7 +43,7 @@ unfoldable pub size_of_all : List (List ℕ × List ℕ) → ℕ
 size_of_all [] = 0
 size_of_all (block ∷ blocks) = size_of block.1 + size_of_all blocks
 
--- the text of such blocks: where the length has four digits, it is said to have two bytes
+-- the text of such blocks: if the length has four digits, it is said to have two bytes
 abbrev pub block_text : List ℕ × List ℕ → List ℕ
 block_text block =
     if nat_lt (length block.1 + 4) 256 then short_block block.0 block.1 else long_block 2 block.0 block.1
@@ -51,7 +51,7 @@ block_text block =
 abbrev pub blocks_text : List (List ℕ × List ℕ) → List ℕ
 blocks_text blocks = flat_map block_text blocks
 
--- a block `PB` of zeros that fills a number of characters to a multiple of eight, where it is none
+-- a block `PB` of zeros that fills a number of characters to a multiple of eight, if it is none
 abbrev pub filling : ℕ → List (List ℕ × List ℕ)
 filling size = if size % 8 == 0 then [] else (codes "PB", replicate ((12 - size % 8) % 8) 48) ∷ []
 
@@ -78,7 +78,7 @@ are_written blocks = list_all is_written blocks
 abbrev pub is_filling : List ℕ × List ℕ → Bool
 is_filling block = slice_index block.0 0 == 80 && slice_index block.0 1 == 66
 
--- the last block may fill, where with it they have a multiple of eight characters; no other fills
+-- the last block may fill, if with it they have a multiple of eight characters; no other fills
 abbrev pub are_placed : List (List ℕ × List ℕ) → Bool
 are_placed blocks =
     let others = if size_of_all blocks % 8 == 0 then length blocks - 1 else length blocks in

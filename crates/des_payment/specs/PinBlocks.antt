@@ -14,7 +14,7 @@ use Rattle.des_payment.specs.declared.pin_error.PinError.TheVariants.{PinLength,
 abbrev pub pin_field : ℕ → List ℕ → List ℕ → List ℕ
 pin_field format pin fill = format ∷ length pin ∷ take 14 (values pin ++ fill)
 
--- the last digits of a list, with zeros at the left where it has fewer
+-- the last digits of a list, with zeros at the left if it has fewer
 abbrev pub last_digits : ℕ → List ℕ → List ℕ
 last_digits count digits = drop (length digits) (replicate count 0 ++ digits)
 

@@ -59,7 +59,7 @@ abbrev pub pin_offset : List ℕ → List ℕ → List ℕ → List ℕ → List
 pin_offset key table validation pin =
     offset_between (natural_pin key table validation (length pin)) pin
 
--- a PIN is right where it is the sum of the natural PIN and the offset
+-- a PIN is right if it is the sum of the natural PIN and the offset
 abbrev pub IsRight : List ℕ → List ℕ → List ℕ → List ℕ → List ℕ → Type 0
 IsRight key table validation offset pin =
     pin ≡ sum_of (natural_pin key table validation (length offset)) offset
@@ -82,7 +82,7 @@ variety table =
     (filter (λ digit. list_any (λ other. other == digit) table)
     (0 ∷ 1 ∷ 2 ∷ 3 ∷ 4 ∷ 5 ∷ 6 ∷ 7 ∷ 8 ∷ 9 ∷ []))
 
--- the first fault of a text that is to be a table with at least so many of them
+-- the first fault of a text that is to be a table with at least this many different digits
 abbrev pub table_fault : ℕ → List ℕ → Option VerificationError
 table_fault least text =
     option_or (number_fault 16 16 TableLength TableDigit text)

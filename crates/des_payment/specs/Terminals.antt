@@ -27,7 +27,7 @@ abbrev pub place_of : ℕ → ℕ
 place_of last = trailing_zeros w64 (last % 2 ^ 21)
 
 -- a register after the transaction of a serial number, from the registers before it (A.2): that of the transaction's
--- key is cleared; those of the places below get the keys that this key makes, where the counter has fewer than ten one
+-- key is cleared; those of the places below get the keys that this key makes, if the counter has fewer than ten one
 -- bits; all others stay
 abbrev pub register_after : ℕ → List (List ℕ) → ℕ → List ℕ
 register_after last keys place =

@@ -32,7 +32,7 @@ is_target Format3 = true
 
 -- ---- blocks in a format
 
--- the block of a PIN in a format; an account number and fill digits count where the format has them
+-- the block of a PIN in a format; an account number and fill digits count if the format has them
 abbrev pub IsIn : Format → List ℕ → List ℕ → List ℕ → List ℕ → Type 0
 IsIn Format0 pin account fill block = IsFormat0 pin account block
 IsIn Format1 pin account fill block = IsFormat1 pin fill block

@@ -54,7 +54,7 @@ impl DecimalTable {
     ghost use Rattle.des_payment.specs.Texts.{values};
     ghost use Rattle.des_payment.specs.PinVerification.{table_fault};
 
-    // The table of a text, with at least so many different digits.
+    // The table of a text, with at least `least` different digits.
     fn of_variety(least: usize, text: &[u8]) -> Result<DecimalTable, VerificationError>
         ensures fault { result_err result ≡ table_fault least text.now }
         ensures table { IfOk result (λ table. table ≡ values text.now) }

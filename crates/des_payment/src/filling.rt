@@ -46,7 +46,7 @@ fn to_digits<const N: usize>(number: u64) -> [u8; N]
     digits
 }
 
-// The digits of a PIN of so many of them, and then fill digits to the fourteenth.
+// The digits of a PIN of `count` digits, and then fill digits to the fourteenth.
 pub(crate) fn filled(count: usize, values: &[u8; 12], fill: &[u8; 10]) -> [u8; 14]
     requires at_least { 4 ≤ count }
     requires at_most { count ≤ 12 }

@@ -12,7 +12,7 @@ use std::fmt;
 pub enum KeyBlockError {
     /// The protection key does not have 16 or 24 bytes.
     ProtectionKeyLength,
-    /// The block is not as long as its header says, or too short for a header; or there is no room
+    /// The block is not as long as its header says, or too short for a header; or there is no space
     /// for the block that is to be made.
     Length,
     /// The version is none of those of triple DES: `A`, `B` and `C`; or a block of version A is to

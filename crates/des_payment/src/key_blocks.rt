@@ -101,7 +101,7 @@ fn front_of(block: &[u8]) -> Result<(Header, usize, KeyContext), KeyBlockError>
     Ok((header, HEADER + size, context))
 }
 
-// Whether so many characters are those of encrypted key data and a MAC.
+// Whether encrypted key data and a MAC can have this many characters.
 fn is_sealed_length(version: Version, size: usize) -> bool
     ensures { result ≡ is_sealed_length_of version size }
 {

@@ -93,7 +93,7 @@ pub(crate) fn first_block(text: &[u8]) -> Option<(OptionalBlock<'_>, usize)>
     Some((block, size))
 }
 
-// How many characters of a text that begins with so many optional blocks they have.
+// How many characters the optional blocks at the beginning of a text have, if there are `count`.
 pub(crate) fn size_of_blocks(text: &[u8], count: usize) -> Option<usize>
     ensures within { IfSome result (λ size. size ≤ length text.now) }
     ensures all { IfSome result (λ size. (blocks : List (List ℕ × List ℕ))
@@ -262,7 +262,7 @@ fn size_of_all(blocks: &[OptionalBlock<'_>]) -> Option<usize>
     Some(size)
 }
 
-// How many zeros a block `PB` has that fills so many characters to a multiple of eight.
+// How many zeros a block `PB` has that fills `size` characters to a multiple of eight.
 fn zeros_after(size: usize) -> usize
     ensures { result ≡ (12 - size % 8) % 8 }
 {

@@ -28,7 +28,7 @@ opened c bytes =
     (search rules) c.mac_size.ensures c.in-Some.ensures.text c.protection_keys-keys.ensures.encryption
     c.unseal-answer.ensures.chained
 
--- the MAC is that of what was opened just where `unseal` says so
+-- the MAC is that of what was opened exactly if `unseal` says so
 abbrev IsMac : After-are_blocks → Type 0
 IsMac c =
     take c.mac_size.result c.in-Some.sealed.mac
@@ -59,7 +59,7 @@ found c bytes clear sealed =
     (take c.in-Some.sealed.count c.in-Some.sealed.blocks) (opened c bytes) clear sealed in
     (same.0, mac-ok c same.1)
 
--- where the MAC was found, what was opened is sealed
+-- if the MAC was found, what was opened is sealed
 are-sealed : (c : After-are_blocks) → AreBytes c.args.front.now → is_ok c.unseal-answer.result ≡ true
     → IsSealed c.args.version c.args.protection.now c.args.front.now (joined c.unseal-answer.new.blocks) c.args.text.now
 are-sealed c bytes ok =
