@@ -21,7 +21,7 @@ IsTextOf text header =
     × (take 2 text.key_version ≡ header.key_version)
     × (text.exportability ≡ exportability_text header.exportability)
 
--- a zero byte stands after it where the text is written
+-- a zero byte stands after it if the text is written
 abbrev pub IsWrittenTextOf : HeaderText → Header → Type 0
 IsWrittenTextOf text header =
     IsTextOf text header × (drop 2 text.usage ≡ 0 ∷ []) × (drop 2 text.key_version ≡ 0 ∷ [])
@@ -55,8 +55,8 @@ pub record IsUnwrapped (protection block : List ℕ) (text : HeaderText) (key : 
   pub is_key : key ≡ with_zeros 24 bytes
   pub is_size : size ≡ length bytes
 
--- a text of so many characters is the block of a header, of optional blocks, a key and padding: what is written before
--- key data, and then these, encrypted and authenticated
+-- a text is the block of a header, of optional blocks, a key and padding, and says its length: what is written before key
+-- data, and then these, encrypted and authenticated
 pub record IsMade (protection : List ℕ) (header : Header) (blocks : List (List ℕ × List ℕ)) (key padding text : List ℕ)
     (size : ℕ) : Type 0 where
   pub sealed : List ℕ

@@ -20,7 +20,7 @@ status_of TheVariants.TableDigit = TheConstants.ERR_TABLE_DIGIT
 status_of TheVariants.TableVariety = TheConstants.ERR_TABLE_VARIETY
 status_of TheVariants.WrongPin = TheConstants.ERR_WRONG_PIN
 
--- ---- the status of the first fault, `OK` where there is none
+-- ---- the status of the first fault, `OK` if there is none
 
 -- of a PIN, an account number and the index of a key pair
 abbrev pub value_status : List ℕ → ℕ → List ℕ → ℤ

@@ -27,7 +27,7 @@ fn wrap_cms_as<C: Relating + Drop>(
     wrapped: &mut [[u8; 8]],
 )
     requires protection { length protection.now ≡ C.KEY_SIZE }
-    requires room { length wrapped.old ≡ length key.now + 2 }
+    requires count { length wrapped.old ≡ length key.now + 2 }
     ensures { WrapsUnder (C.relation protection.now) iv.now key.now wrapped.new }
 {
     by_key::wrap_cms(&C::new_from_slice(protection).unwrap(), iv, key, wrapped);
@@ -39,7 +39,7 @@ fn unwrap_cms_as<C: Relating + Drop>(
     key: &mut [[u8; 8]],
 ) -> Result<(), UnwrapError>
     requires protection { length protection.now ≡ C.KEY_SIZE }
-    requires room { length wrapped.now ≡ length key.old + 2 }
+    requires count { length wrapped.now ≡ length key.old + 2 }
     ensures unwrapped { OnOk result ((iv : List ℕ) × IsBlock iv
         × WrapsUnder (C.relation protection.now) iv key.new wrapped.now) }
     ensures accepted { (iv : List ℕ) (other : List (List ℕ)) → IsBlock iv
@@ -54,7 +54,7 @@ fn wrap_tkw_as<C: Relating + Drop>(protection: &[u8], key: &[[u8; 4]], wrapped: 
     requires protection { length protection.now ≡ C.KEY_SIZE }
     requires some { 2 ≤ length key.now }
     requires few { length key.now < 2 ^ 28 }
-    requires room { length wrapped.old ≡ length key.now + 1 }
+    requires count { length wrapped.old ≡ length key.now + 1 }
     ensures { TkwUnder (C.relation protection.now) key.now wrapped.new }
 {
     by_key::wrap_tkw(&C::new_from_slice(protection).unwrap(), key, wrapped);
@@ -68,7 +68,7 @@ fn unwrap_tkw_as<C: Relating + Drop>(
     requires protection { length protection.now ≡ C.KEY_SIZE }
     requires some { 2 ≤ length key.old }
     requires few { length key.old < 2 ^ 28 }
-    requires room { length wrapped.now ≡ length key.old + 1 }
+    requires count { length wrapped.now ≡ length key.old + 1 }
     ensures unwrapped { OnOk result (TkwUnder (C.relation protection.now) key.new wrapped.now) }
     ensures accepted { (other : List (List ℕ)) → All IsSemiblock other
         → TkwUnder (C.relation protection.now) other wrapped.now
@@ -81,7 +81,7 @@ fn unwrap_tkw_as<C: Relating + Drop>(
 // Each call by the cipher of a protection key of two parts or three.
 fn wrap_cms(protection: &[u8], iv: &[u8; 8], key: &[[u8; 8]], wrapped: &mut [[u8; 8]])
     requires protection { IsProtectionLength (length protection.now) }
-    requires room { length wrapped.old ≡ length key.now + 2 }
+    requires count { length wrapped.old ≡ length key.now + 2 }
     ensures { WrapsUnder (relation_of protection.now) iv.now key.now wrapped.new }
 {
     match protection.len() {
@@ -96,7 +96,7 @@ fn unwrap_cms(
     key: &mut [[u8; 8]],
 ) -> Result<(), UnwrapError>
     requires protection { IsProtectionLength (length protection.now) }
-    requires room { length wrapped.now ≡ length key.old + 2 }
+    requires count { length wrapped.now ≡ length key.old + 2 }
     ensures unwrapped { OnOk result ((iv : List ℕ) × IsBlock iv
         × WrapsUnder (relation_of protection.now) iv key.new wrapped.now) }
     ensures accepted { (iv : List ℕ) (other : List (List ℕ)) → IsBlock iv
@@ -114,7 +114,7 @@ fn wrap_tkw(protection: &[u8], key: &[[u8; 4]], wrapped: &mut [[u8; 4]])
     requires protection { IsProtectionLength (length protection.now) }
     requires some { 2 ≤ length key.now }
     requires few { length key.now < 2 ^ 28 }
-    requires room { length wrapped.old ≡ length key.now + 1 }
+    requires count { length wrapped.old ≡ length key.now + 1 }
     ensures { TkwUnder (relation_of protection.now) key.now wrapped.new }
 {
     match protection.len() {
@@ -131,7 +131,7 @@ fn unwrap_tkw(
     requires protection { IsProtectionLength (length protection.now) }
     requires some { 2 ≤ length key.old }
     requires few { length key.old < 2 ^ 28 }
-    requires room { length wrapped.now ≡ length key.old + 1 }
+    requires count { length wrapped.now ≡ length key.old + 1 }
     ensures unwrapped { OnOk result (TkwUnder (relation_of protection.now) key.new wrapped.now) }
     ensures accepted { (other : List (List ℕ)) → All IsSemiblock other
         → TkwUnder (relation_of protection.now) other wrapped.now

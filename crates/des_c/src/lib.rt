@@ -18,6 +18,7 @@
 #![tactic(auto)]
 
 mod contexts;
+mod jasypt;
 mod key_wrap;
 mod keys;
 mod lists;

@@ -3,6 +3,7 @@
 //! built for another width by the one line that names it.
 
 mod ciphers;
+mod columns;
 mod each_key;
 mod macs;
 mod payment;

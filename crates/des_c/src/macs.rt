@@ -14,7 +14,7 @@ use des_mac::many;
 
 /// Makes the words of a MAC of the bytes of a key, without tables, so that its calls read none, or
 /// with them, and of the message of no bytes, with padding method 1 or 2, which plays no part in
-/// CMAC. The status of a key of another length than the words have room for is `ERR_KEY_LENGTH`, of
+/// CMAC. The status of a key of another length than the words can hold is `ERR_KEY_LENGTH`, of
 /// another padding `ERR_PADDING_METHOD`; the words and the message are then unchanged.
 #[unsafe(no_mangle)]
 pub extern "C" fn cukvashe_internal_mac_init(

@@ -1,11 +1,15 @@
 //! The exports of keys from passwords, and of what `openssl enc` encrypted under them.
 
 ghost use Rattle.std.specs.Prelude.{◌≡◌, ◌≢◌, Some, length};
+ghost use Rattle.des_columns.specs.Pbe.{algorithm_of, derived_by};
+ghost use Rattle.des_columns.specs.declared.pbe.Algorithm.{Algorithm};
+ghost use Rattle.des_context.specs.ColumnStatuses.{IsPbeStatus};
 ghost use Rattle.des_context.specs.Keys.{IsKeyLength};
 ghost use Rattle.des_context.specs.Passwords.{with_no_pbkdf2, with_pbkdf2, derivation_by, IsDeriveStatus, IsSaltLength};
 ghost use Rattle.des_context.specs.Salted.{HoldsPlain, IsSaltedFault, Opens};
 ghost use Rattle.des_passwords.specs.Derivations.{derived};
 
+use des_context::columns::pbe_key;
 use des_context::passwords::{by_bytes_to_key, by_pbkdf2, derivation_of, write_key};
 use des_context::salted::open_salted;
 use des_context::status::{ERR_SALT_LENGTH, OK};
@@ -78,4 +82,25 @@ pub extern "C" fn cukvashe_internal_open_salted(
 {
     let derivation = derivation_of(hash, iterations);
     open_salted(key_size, derivation, password, bytes, plain, plain_length)
+}
+
+/// Writes the key of a password and a salt, and the vector behind it, by the algorithm of this name.
+/// The status is that of the first fault, and then the key is unchanged: `ERR_ALGORITHM`;
+/// `ERR_KEY_LENGTH` if there are not as many bytes; `ERR_ITERATIONS` if there is no iteration, or more
+/// than 2^32 - 1; `ERR_SALT_LENGTH` if Java's rule has a salt of other than 8 bytes.
+#[unsafe(no_mangle)]
+pub extern "C" fn cukvashe_pbe_key(
+    algorithm: &[u8],
+    iterations: usize,
+    password: &[u8],
+    salt: &[u8],
+    key: &mut [u8],
+) -> i32
+    ensures status { IsPbeStatus (algorithm_of algorithm.now) iterations (length salt.now)
+        (length key.old) result }
+    ensures key { result ≡ OK → (by : Algorithm) → algorithm_of algorithm.now ≡ Some by
+        → key.new ≡ derived_by by password.now salt.now iterations }
+    ensures kept { result ≢ OK → key.new ≡ key.old }
+{
+    pbe_key(algorithm, iterations, password, salt, key)
 }

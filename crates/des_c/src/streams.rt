@@ -14,6 +14,7 @@ ghost use Rattle.des_context.specs.Contexts.{HasMark, IsContextOf, IsSoundIfMark
 use des_context::contexts::NO_MAC;
 use des_context::status::{ERR_CONTEXT, ERR_MODE, ERR_STREAM, OK};
 use des_context::stream_modes;
+use des_modes::Direction;
 use des_modes::stream::Stream;
 
 /// Begins a stream in the mode of a number from an initialization vector, or for the counter mode the
@@ -31,7 +32,7 @@ pub extern "C" fn cukvashe_stream_begin(stream: &mut Stream, mode: u32, iv: &[u8
     stream_modes::begin(stream, mode, iv)
 }
 
-/// Begins a stream of the counter mode behind so many blocks, whose first counter block is `counter`.
+/// Begins a stream of the counter mode after `blocks` blocks, whose first counter block is `counter`.
 #[unsafe(no_mangle)]
 pub extern "C" fn cukvashe_stream_begin_ctr_at(stream: &mut Stream, counter: &[u8; 8], blocks: u64)
     ensures { (encryption : List ℕ → List ℕ) (p c : List ℕ) → length p ≡ 8 * blocks → AreBytes c
@@ -51,7 +52,7 @@ pub extern "C" fn cukvashe_stream_position(stream: &Stream, iv: &mut [u8; 8], us
     *used = stream.used();
 }
 
-/// Encrypts in place the first so many bits, which come next in a stream of CFB1. The others stay. The
+/// Encrypts in place the first `bits` bits, which come next in a stream of CFB1. The others stay. The
 /// status of a stream of another mode is `ERR_MODE`, of words that are no stream `ERR_STREAM`; they and
 /// the bytes are then unchanged.
 #[unsafe(no_mangle)]
@@ -77,10 +78,10 @@ pub extern "C" fn cukvashe_internal_encrypt_stream_bits(
     ensures rest { drop bits (bits_of_bytes bytes.new) ≡ drop bits (bits_of_bytes bytes.old) }
     ensures kept { result ≢ OK → (bytes.new ≡ bytes.old) × (stream.new ≡ stream.old) }
 {
-    stream_modes::encrypt_stream_bits(context, stream, bytes, bits)
+    stream_modes::apply_stream_bits(Direction::Encrypt, context, stream, bytes, bits)
 }
 
-/// Decrypts in place the first so many bits, which come next in a stream of CFB1. The status is as of
+/// Decrypts in place the first `bits` bits, which come next in a stream of CFB1. The status is as of
 /// `cukvashe_internal_encrypt_stream_bits`.
 #[unsafe(no_mangle)]
 pub extern "C" fn cukvashe_internal_decrypt_stream_bits(
@@ -105,5 +106,5 @@ pub extern "C" fn cukvashe_internal_decrypt_stream_bits(
     ensures rest { drop bits (bits_of_bytes bytes.new) ≡ drop bits (bits_of_bytes bytes.old) }
     ensures kept { result ≢ OK → (bytes.new ≡ bytes.old) × (stream.new ≡ stream.old) }
 {
-    stream_modes::decrypt_stream_bits(context, stream, bytes, bits)
+    stream_modes::apply_stream_bits(Direction::Decrypt, context, stream, bytes, bits)
 }

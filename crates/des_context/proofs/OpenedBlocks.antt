@@ -139,7 +139,7 @@ module _ {forth back : List ℕ → List ℕ} {Relates : List ℕ → List ℕ �
         );
   }
 
-  -- there is none where the last block does not end with padding
+  -- there is none if the last block does not end with padding
   pub opened-never : ((rest : List ℕ) → padded Pkcs7 rest ≢ end) → (plain : List ℕ)
       → ¬ (IsOpened Relates vector encrypted plain)
   opened-never never plain opened =

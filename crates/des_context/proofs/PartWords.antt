@@ -3,7 +3,7 @@ use Rattle.std.proofs.Common.{◌≡◌, ℕ, ◌*◌, ◌-◌, List, take, drop
 use Rattle.std.proofs.lemmas.Slice.{between_is}
 use Rattle.des_context.specs.Contexts.{words_of_part}
 
--- they stay where the first words stay
+-- they stay if the first words stay
 pub words-kept : (n : ℕ) (words other : List ℕ) → take (16 * n) words ≡ take (16 * n) other
     → words_of_part n words ≡ words_of_part n other
 words-kept n words other same =

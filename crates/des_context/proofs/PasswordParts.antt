@@ -1,4 +1,4 @@
--- What is encrypted under a password: key, vector and ciphertext are determined, and where they are, there is no fault.
+-- What is encrypted under a password: key, vector and ciphertext are determined, and if they are, there is no fault.
 use Rattle.std.proofs.Common.{◌≡◌, inl, inr, ℕ, ◌+◌, List, ◌++◌, length, take, drop, Option, sym, ap, ap₂, ◌∙◌, subst, arith, take_at, drop_at, length-append}
 use Rattle.std.specs.Prelude.{ℤ}
 use Rattle.std.proofs.lemmas.Option.{same_Some}
@@ -25,7 +25,7 @@ parts-once n first second third fourth long as_long same = (
 
 module _ {size : ℕ} {derivation : Option Derivation} {password bytes key vector encrypted : List ℕ}
     (under : IsUnder size derivation password bytes key vector encrypted) where
-  -- where there is a key, there is no fault
+  -- if there is a key, there is no fault
   pub under-no-fault : (status : ℤ) → IsPartsFault derivation bytes status → ⊥
   under-no-fault status fault =
       let is = under.is_salted in

@@ -10,10 +10,10 @@ AreWhole bytes = length bytes % 8 ≡ 0
 abbrev pub blocks_of : List ℕ → List (List ℕ)
 blocks_of bytes = first_chunks 8 (length bytes / 8) bytes
 
--- the bytes of these blocks are so many
+-- these blocks have `size` bytes
 abbrev pub AreBytesOf : List (List ℕ) → ℕ → Type 0
 AreBytesOf blocks size = size ≡ 8 * length blocks
 
--- the blocks have so many bytes, and the room has as many places
+-- the blocks have `size` bytes, and the buffer has as many blocks
 abbrev pub FitInto : List (List ℕ) → List (List ℕ) → ℕ → Type 0
-FitInto room blocks size = (length room ≡ length blocks) × AreBytesOf blocks size
+FitInto buffer blocks size = (length buffer ≡ length blocks) × AreBytesOf blocks size

@@ -6,7 +6,7 @@ use Rattle.des_context.specs.declared.ciphers.CipherType.{CipherType}
 use Rattle.des_context.specs.declared.ciphers.CipherType.TheVariants.{Des, Ede2, Ede3}
 use Rattle.des_context.specs.CipherTypes.{parts_of, cipher_type_of_length, relation_by, relation_of, encryption_by, encryption_of, decryption_by, decryption_of}
 
--- a key has so many bytes, and makes of blocks by its length what these functions make of it
+-- a key has `size` bytes, and makes of blocks by its length what these functions make of it
 pub record AnswersByLength (size : ℕ) (encryption : List ℕ → List ℕ → List ℕ)
     (relation : List ℕ → List ℕ → List ℕ → Type 0) (key : List ℕ) : Type 0 where
   pub is_key : IsKey size key

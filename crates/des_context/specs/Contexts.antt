@@ -25,8 +25,8 @@ AreWordsOf cipher_type words key =
 abbrev pub IsContextOf : List ℕ → List ℕ → Type 0
 IsContextOf context key = AreWordsOf (cipher_type_of_length (length key)) context key
 
--- the mark of so many words: it says the algorithm of a MAC, or that there is none, whether the calls are to read no
--- table, and the parts of the key; it is no secret
+-- the mark of a context, by the number of its words: it says the algorithm of a MAC, or that there is none, whether the calls are
+-- to read no table, and the parts of the key; it is no secret
 abbrev pub mark_of : ℕ → Bool → ℕ → ℕ
 mark_of algorithm no_tables words = MARK + 0x10000 * algorithm + (if no_tables then 0x100 else 0) + words / 16
 

@@ -10,3 +10,4 @@ pub mod MacContexts
 pub mod Passwords
 pub mod Salted
 pub mod Paddings
+pub mod ColumnStatuses

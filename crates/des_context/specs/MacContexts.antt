@@ -6,7 +6,7 @@ use Rattle.des_context.specs.Contexts.{HasSomeCipherType, HasMark, IsContextOf}
 use Rattle.des_context.specs.CipherTypes.{encryption_of}
 use Rattle.des_context.specs.MacAlgorithms.{IsAlgorithm}
 
--- the words of the chain, and its key: those of the first key, where algorithm 3 has two
+-- the words of the chain, and its key: those of the first key, if algorithm 3 has two
 abbrev pub words_of_chain : ℕ → List ℕ → List ℕ
 words_of_chain algorithm words = if nat_eq algorithm 3 then take 17 words else words
 
@@ -17,7 +17,7 @@ key_of_chain algorithm key = if nat_eq algorithm 3 then take 8 key else key
 abbrev pub HasMacCipherType : ℕ → List ℕ → Type 0
 HasMacCipherType algorithm words = (algorithm ≢ 3 → HasSomeCipherType words) × (algorithm ≡ 3 → length words ≡ 34)
 
--- how many bytes a key of so many words has
+-- how many bytes the key of these words has
 abbrev pub key_size_of : List ℕ → ℕ
 key_size_of words = length words / 16 * 8
 

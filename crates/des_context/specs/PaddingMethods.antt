@@ -7,7 +7,7 @@ use Rattle.des_mac.specs.Padding.{zeros_after, one_bit_after}
 abbrev pub padding_by : ℕ → ℕ → List ℕ
 padding_by method n = if nat_eq method 2 then one_bit_after n else zeros_after n
 
--- the status of a key of n bytes, where a key has `size`, and of a number of a method
+-- the status of a key of n bytes, if a key has `size`, and of a number of a method
 abbrev pub status_of : ℕ → ℕ → ℕ → ℤ
 status_of size bytes method =
     if nat_eq bytes size then (if nat_eq method 1 || nat_eq method 2 then OK else ERR_PADDING_METHOD)

@@ -23,12 +23,12 @@ with_pbkdf2 hash iterations =
     else if hash == SHA256 then Some (Pbkdf2Sha256 (count_of iterations))
     else None
 
--- as `openssl enc` derives: with no PBKDF2 where no iterations are said
+-- as `openssl enc` derives: with no PBKDF2 if no iterations are said
 abbrev pub derivation_by : ℕ → ℕ → Option Derivation
 derivation_by hash iterations =
     if iterations == 0 then with_no_pbkdf2 hash else with_pbkdf2 hash iterations
 
--- the status of the derivation of a key of so many bytes
+-- the status of the derivation of a key of this length
 abbrev pub IsDeriveStatus : Option Derivation → ℕ → ℤ → Type 0
 IsDeriveStatus None length status = status ≡ ERR_HASH
 IsDeriveStatus (Some by) length status =

@@ -1,7 +1,10 @@
 -- Records of blocks, one after another in a list, chained by CBC.
-use Rattle.std.specs.Prelude.{◌≡◌, ℕ, ◌<◌, List, [], length, sum, slice_index_or}
+use Rattle.std.specs.Prelude.{◌≡◌, ◌≢◌, ◌↔◌, ℕ, ℤ, ◌<◌, List, [], length, sum, slice_index_or}
 use Rattle.des.specs.Cbc.{Chains}
-use Rattle.des_fast.specs.Records.{record_of}
+use Rattle.des_fast.specs.Records.{record_of, GoOn}
+use Rattle.des_context.specs.CipherTypes.{relation_of}
+use Rattle.des_context.specs.Contexts.{IsContextOf}
+use Rattle.des_context.specs.declared.status.TheConstants.{OK, ERR_COUNTS}
 
 -- there are as many vectors as sizes, and the sizes sum up to the blocks
 abbrev pub AreSizesOf : List ℕ → List (List ℕ) → List (List ℕ) → Type 0
@@ -12,3 +15,14 @@ unfoldable pub ChainsEach : (List ℕ → List ℕ → Type 0) → List ℕ → 
 ChainsEach Relates sizes vectors p q =
     (k : ℕ) → k < length vectors
     → Chains Relates (slice_index_or vectors k []) (record_of sizes p k) (record_of sizes q k)
+
+-- the sizes are refused, and all stays; or the plain records are chained into the encrypted ones by the key of a
+-- context, and each vector becomes the last block of its record
+pub record ChainRecords (context sizes : List ℕ) (vectors_old vectors_new old new plain encrypted : List (List ℕ)) (status : ℤ)
+    : Type 0 where
+  pub accepted : (status ≡ OK) ↔ AreSizesOf sizes vectors_old old
+  pub refused : (status ≡ ERR_COUNTS) ↔ ¬ (AreSizesOf sizes vectors_old old)
+  pub chained : status ≡ OK → (key : List ℕ) → IsContextOf context key
+      → ChainsEach (relation_of key) sizes vectors_old plain encrypted
+  pub goes_on : status ≡ OK → GoOn sizes vectors_old encrypted vectors_new
+  pub kept : status ≢ OK → (vectors_new ≡ vectors_old) × (new ≡ old)

@@ -30,7 +30,7 @@ pub record EndsWith (relation : List ℕ → List ℕ → Type 0) (vector encryp
   pub opens : (start : List ℕ) → IsPlainOf relation vector front start
       → IsTheOne (IsOpened relation vector encrypted) (start ++ end)
 
--- the key of so many bytes and the vector are those of a password and of the salt before what is encrypted
+-- the key of `size` bytes and the vector are those of a password and of the salt before what is encrypted
 pub record IsUnder (size : ℕ) (derivation : Option Derivation) (password bytes key vector encrypted : List ℕ) : Type 0 where
   pub by : Derivation
   pub salt : List ℕ
@@ -57,30 +57,30 @@ IsPartsFault (Some derivation) bytes status =
     ⊎ ((status ≡ ERR_SALT_LENGTH) × (take 8 bytes ≡ codes "Salted__") × (length bytes < 16))
     ⊎ ((status ≡ ERR_ITERATIONS) × (take 8 bytes ≡ codes "Salted__") × (16 ≤ length bytes) × HasNoIteration derivation)
 
--- the first fault of what is encrypted: it is not whole blocks, it is of no bytes with their padding, or there is no
--- room for so many bytes
+-- the first fault of what is encrypted: it is not whole blocks, it is of no bytes with their padding, or the buffer is
+-- shorter than the text
 abbrev pub IsOpeningFault : (List ℕ → List ℕ → Type 0) → List ℕ → List ℕ → ℕ → ℤ → Type 0
-IsOpeningFault relation vector encrypted room status =
+IsOpeningFault relation vector encrypted capacity status =
     ((status ≡ ERR_BLOCKS) × ¬ (AreWhole encrypted))
     ⊎ ((status ≡ ERR_PADDING) × AreWhole encrypted × ((plain : List ℕ) → ¬ (IsOpened relation vector encrypted plain)))
     ⊎ ((status ≡ ERR_CAPACITY)
-    × ((plain : List ℕ) × (IsOpened relation vector encrypted plain × (room < length plain))))
+    × ((plain : List ℕ) × (IsOpened relation vector encrypted plain × (capacity < length plain))))
 
 -- the first fault of a derivation, of bytes that begin with a salt, and then of what is encrypted
 abbrev pub IsSaltedFault : ℕ → Option Derivation → List ℕ → List ℕ → ℕ → ℤ → Type 0
-IsSaltedFault size derivation password bytes room status =
+IsSaltedFault size derivation password bytes capacity status =
     IsPartsFault derivation bytes status
     ⊎ (key : List ℕ) × ((vector : List ℕ) × ((encrypted : List ℕ)
     × (IsUnder size derivation password bytes key vector encrypted
-    × IsOpeningFault (relation_of key) vector encrypted room status)))
+    × IsOpeningFault (relation_of key) vector encrypted capacity status)))
 
 -- ---- what a call does
 
 -- it writes the one plaintext that there is, as `Holds` says, to the front of a buffer, and its size; or nothing, at a
--- fault, where there is none that has room
+-- fault, if there is none that fits
 pub record Opens (Holds : List ℕ → Type 0) (IsFault : ℤ → Type 0) (old new : List ℕ) (old_size size : ℕ) (status : ℤ)
     : Type 0 where
   pub opened : status ≡ OK → (plain : List ℕ) × IsTheOne Holds plain
       × (length plain ≡ size) × (new ≡ plain ++ drop size old)
-  pub refused : status ≢ OK → IsFault status × ((held : List ℕ) → Holds held → length old < length held)
+  pub refused : status ≢ OK → IsFault status × ((plain : List ℕ) → Holds plain → length old < length plain)
       × (new ≡ old) × (size ≡ old_size)

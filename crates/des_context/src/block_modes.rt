@@ -83,6 +83,54 @@ fn decrypt_cbc_by<C: ContextCipher + ManyBlocks, S: Slice>(
     C::of(context).decrypt_cbc_list_by::<S>(no_tables, iv, blocks);
 }
 
+// Encrypts each block by itself, by the cipher of a type.
+fn encrypt_blocks<S: Slice>(
+    cipher: CipherType,
+    no_tables: bool,
+    context: &[u64],
+    blocks: &mut [[u8; 8]],
+)
+    requires cipher_type { HasCipherType cipher context.now }
+    requires made { (key : List ℕ) × IsContextOf context.now key }
+    ensures { (key : List ℕ) → IsContextOf context.now key
+        → IsTheOne (λ answers. AnswersEach (relation_of key) blocks.old answers) blocks.new }
+{
+    dispatch_cipher!(cipher, encrypt_by::<S>(context, no_tables, blocks))
+}
+
+// Decrypts each block by itself, by the cipher of a type.
+fn decrypt_blocks<S: Slice>(
+    cipher: CipherType,
+    no_tables: bool,
+    context: &[u64],
+    blocks: &mut [[u8; 8]],
+)
+    requires cipher_type { HasCipherType cipher context.now }
+    requires made { (key : List ℕ) × IsContextOf context.now key }
+    ensures { (key : List ℕ) → IsContextOf context.now key
+        → IsTheOne (λ answers. AnswersEach (relation_of key) answers blocks.old) blocks.new }
+{
+    dispatch_cipher!(cipher, decrypt_by::<S>(context, no_tables, blocks))
+}
+
+// Encrypts blocks by CBC from the vector, which becomes the last ciphertext block, by the cipher of a
+// type.
+fn encrypt_cbc_blocks(
+    cipher: CipherType,
+    no_tables: bool,
+    context: &[u64],
+    iv: &mut [u8; 8],
+    blocks: &mut [[u8; 8]],
+)
+    requires cipher_type { HasCipherType cipher context.now }
+    requires made { (key : List ℕ) × IsContextOf context.now key }
+    ensures chained { (key : List ℕ) → IsContextOf context.now key
+        → Chains (relation_of key) iv.old blocks.old blocks.new }
+    ensures goes_on { iv.new ≡ next_vector iv.old blocks.new }
+{
+    dispatch_cipher!(cipher, encrypt_cbc_by(context, no_tables, iv, blocks))
+}
+
 /// Decrypts blocks that CBC chained from the vector.
 pub(crate) fn decrypt_cbc_blocks<S: Slice>(
     cipher: CipherType,
@@ -97,13 +145,6 @@ pub(crate) fn decrypt_cbc_blocks<S: Slice>(
         → Chains (relation_of key) iv.now blocks.new blocks.old }
 {
     dispatch_cipher!(cipher, decrypt_cbc_by::<S>(context, no_tables, iv, blocks))
-}
-
-/// Whether so many bytes are these blocks, and nothing beside.
-pub(crate) fn are_bytes_of(blocks: &[[u8; 8]], size: usize) -> bool
-    ensures { IsTrue result ↔ AreBytesOf blocks.now size }
-{
-    size % 8 == 0 && size / 8 == blocks.len()
 }
 
 /// Encrypts blocks in place, each by itself. The status is `ERR_BLOCKS` if the caller's bytes are
@@ -121,10 +162,10 @@ pub fn encrypt_ecb<S: Slice>(context: &[u64], blocks: &mut [[u8; 8]], size: usiz
     let Some((cipher, no_tables)) = opened(NO_MAC, context) else {
         return ERR_CONTEXT;
     };
-    if !are_bytes_of(blocks, size) {
+    if size != blocks.as_flattened().len() {
         return ERR_BLOCKS;
     }
-    dispatch_cipher!(cipher, encrypt_by::<S>(context, no_tables, blocks));
+    encrypt_blocks::<S>(cipher, no_tables, context, blocks);
     OK
 }
 
@@ -142,10 +183,10 @@ pub fn decrypt_ecb<S: Slice>(context: &[u64], blocks: &mut [[u8; 8]], size: usiz
     let Some((cipher, no_tables)) = opened(NO_MAC, context) else {
         return ERR_CONTEXT;
     };
-    if !are_bytes_of(blocks, size) {
+    if size != blocks.as_flattened().len() {
         return ERR_BLOCKS;
     }
-    dispatch_cipher!(cipher, decrypt_by::<S>(context, no_tables, blocks));
+    decrypt_blocks::<S>(cipher, no_tables, context, blocks);
     OK
 }
 
@@ -166,10 +207,10 @@ pub fn encrypt_cbc(context: &[u64], iv: &mut [u8; 8], blocks: &mut [[u8; 8]], si
     let Some((cipher, no_tables)) = opened(NO_MAC, context) else {
         return ERR_CONTEXT;
     };
-    if !are_bytes_of(blocks, size) {
+    if size != blocks.as_flattened().len() {
         return ERR_BLOCKS;
     }
-    dispatch_cipher!(cipher, encrypt_cbc_by(context, no_tables, iv, blocks));
+    encrypt_cbc_blocks(cipher, no_tables, context, iv, blocks);
     OK
 }
 
@@ -194,7 +235,7 @@ pub fn decrypt_cbc<S: Slice>(
     let Some((cipher, no_tables)) = opened(NO_MAC, context) else {
         return ERR_CONTEXT;
     };
-    if !are_bytes_of(blocks, size) {
+    if size != blocks.as_flattened().len() {
         return ERR_BLOCKS;
     }
     let next = next_vector(iv, blocks);
@@ -203,8 +244,8 @@ pub fn decrypt_cbc<S: Slice>(
     OK
 }
 
-/// Copies blocks to a room of as many, if `size` is 8 for each: for a call from one buffer to
-/// another, which then goes on in place. Else the status is `ERR_BLOCKS`, and the room stays as it
+/// Copies blocks to a buffer of as many, if `size` is 8 for each: for a call from one buffer to
+/// another, which then goes on in place. Else the status is `ERR_BLOCKS`, and the buffer stays as it
 /// was.
 pub fn copy_whole(context: &[u64], input: &[[u8; 8]], output: &mut [[u8; 8]], size: usize) -> i32
     ensures unmarked { (result ≡ ERR_CONTEXT) ↔ ¬ (HasMark NO_MAC context.now) }
@@ -218,7 +259,7 @@ pub fn copy_whole(context: &[u64], input: &[[u8; 8]], output: &mut [[u8; 8]], si
     if opened(NO_MAC, context).is_none() {
         return ERR_CONTEXT;
     }
-    if input.len() != output.len() || !are_bytes_of(input, size) {
+    if input.len() != output.len() || size != input.as_flattened().len() {
         return ERR_BLOCKS;
     }
     output.copy_from_slice(input);

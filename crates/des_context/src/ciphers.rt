@@ -11,7 +11,7 @@ ghost use Rattle.des_context.specs.Keys.{IsKeyLength, keys_of};
 ghost use Rattle.des_context.specs.CipherTypeLaws.{AnswersByLength, AnswersByLength-cipher_type, by_length-cipher_type};
 
 use des::cipher::Relating;
-use des::tdes::{Ede2, Ede3, joined};
+use des::tdes::{self, Ede2, Ede3};
 use des_fast::box_lookup::BoxLookup;
 use des_fast::single::Des;
 use des_fast::words::from_round_key_words;
@@ -28,7 +28,7 @@ pub enum CipherType {
 }
 
 impl CipherType {
-    /// The type of cipher of a key of so many bytes, 8, 16 or 24.
+    /// The type of cipher whose keys have this many bytes: 8, 16 or 24.
     #[inline(always)]
     pub(crate) fn of_key_size(bytes: usize) -> CipherType
         ensures by_length { result ≡ cipher_type_of_length bytes }
@@ -99,7 +99,7 @@ impl<W: BoxLookup> ContextCipher for Ede2<Des<W>> {
 
     #[inline(always)]
     fn of(context: &[u64]) -> Ede2<Des<W>> {
-        joined::of_two(single(context, 1), single(context, 2))
+        tdes::of_two(single(context, 1), single(context, 2))
     }
 
     ghost answers_by_length = { λ _ key made. AnswersByLength-cipher_type cipher_types.Ede2 key made.0.0 };
@@ -116,7 +116,7 @@ impl<W: BoxLookup> ContextCipher for Ede3<Des<W>> {
 
     #[inline(always)]
     fn of(context: &[u64]) -> Ede3<Des<W>> {
-        joined::of_three(single(context, 1), single(context, 2), single(context, 3))
+        tdes::of_three(single(context, 1), single(context, 2), single(context, 3))
     }
 
     ghost answers_by_length = { λ _ key made. AnswersByLength-cipher_type cipher_types.Ede3 key made.0.0 };

@@ -73,7 +73,7 @@ pub(crate) fn init_for(algorithm: u32, context: &mut [u64], key: &[u8], no_table
 
 /// Makes a context from the bytes of a key, without tables, so that its calls read none, or with
 /// them. The status is `ERR_KEY_LENGTH` if there are not as many bytes as the context's number of
-/// words has room for; the context is then unchanged.
+/// words can hold; the context is then unchanged.
 pub fn init(context: &mut [u64], key: &[u8], no_tables: bool) -> i32
     requires { HasSomeCipherType context.old }
     ensures accepted { (result ≡ OK) ↔ (2 * length key.now + 1 ≡ length context.old) }
@@ -83,14 +83,6 @@ pub fn init(context: &mut [u64], key: &[u8], no_tables: bool) -> i32
     ensures kept { result ≢ OK → context.new ≡ context.old }
 {
     init_for(NO_MAC, context, key, no_tables)
-}
-
-// The type of the cipher of a context, by the number of its words.
-#[inline(always)]
-pub(crate) fn cipher_type(context: &[u64]) -> CipherType
-    ensures { (key : List ℕ) → IsContextOf context.now key → HasCipherType result context.now }
-{
-    CipherType::of_key_size(context.len() / 2)
 }
 
 /// How the calls of words that end with a mark of the algorithm go: by the cipher of this type, and
@@ -104,7 +96,7 @@ pub(crate) fn opened(algorithm: u32, context: &[u64]) -> Option<(CipherType, boo
     let last = *context.last()?;
     let no_tables = last == mark(algorithm, true, context.len());
     if no_tables || last == mark(algorithm, false, context.len()) {
-        Some((cipher_type(context), no_tables))
+        Some((CipherType::of_key_size(context.len() / 2), no_tables))
     } else {
         None
     }

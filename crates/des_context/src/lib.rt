@@ -5,9 +5,11 @@
 
 pub mod block_modes;
 pub mod ciphers;
+pub mod columns;
 pub mod components;
 pub mod contexts;
 pub mod each_key;
+pub mod jasypt;
 pub mod mac_lists;
 pub mod macs;
 pub mod padding;

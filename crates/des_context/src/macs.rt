@@ -15,7 +15,7 @@ ghost use Rattle.des_context.specs.MacContexts.{AreMacWordsOf, HasMacCipherType,
 ghost use Rattle.des_context.specs.PaddingMethods.{padding_by, status_of};
 
 use crate::ciphers::{CipherType, ContextCipher, dispatch_cipher};
-use crate::contexts::{cipher_type, init_for, opened};
+use crate::contexts::{init_for, opened};
 use crate::status::{ERR_CONTEXT, ERR_KEY_LENGTH, ERR_PADDING_METHOD, ERR_TAG, OK};
 use des::cipher::KeyedCipher;
 use des_fast::box_lookup::{BoxLookup, NoTables, Tables};
@@ -62,6 +62,24 @@ fn extend<C: ContextCipher>(context: &[u64], message: &mut MessageState, bytes: 
     message.progress = mac.progress();
 }
 
+// Adds bytes by the cipher of a type, which reads tables or not, as the way has it.
+fn extend_with<W: BoxLookup>(
+    cipher: CipherType,
+    context: &[u64],
+    message: &mut MessageState,
+    bytes: &[u8],
+)
+    requires cipher_type { HasCipherType cipher context.now }
+    requires made { (key : List ℕ) × IsContextOf context.now key }
+    requires progress { HoldsOneBlock message.old.progress }
+    ensures progress { (key m : List ℕ) → IsContextOf context.now key
+        → IsProgressOf (encryption_of key) message.old.progress m
+        → IsProgressOf (encryption_of key) message.new.progress (m ++ bytes.now) }
+    ensures padding { message.new.padding ≡ message.old.padding }
+{
+    dispatch_cipher!(cipher, W, extend(context, message, bytes))
+}
+
 // Adds bytes by the cipher of a context, which reads tables or none.
 fn extend_by(
     cipher: CipherType,
@@ -79,9 +97,9 @@ fn extend_by(
     ensures padding { message.new.padding ≡ message.old.padding }
 {
     if no_tables {
-        dispatch_cipher!(cipher, NoTables, extend(context, message, bytes));
+        extend_with::<NoTables>(cipher, context, message, bytes);
     } else {
-        dispatch_cipher!(cipher, extend(context, message, bytes));
+        extend_with::<Tables>(cipher, context, message, bytes);
     }
 }
 
@@ -106,7 +124,7 @@ fn write_words(algorithm: u32, context: &mut [u64], key: &[u8], no_tables: bool)
 
 /// Makes the words of a MAC of the bytes of a key, without tables, so that its calls read none, or
 /// with them, and of the message of no bytes, with padding method 1 or 2. The status of a key of
-/// another length than the words have room for is `ERR_KEY_LENGTH`, of another padding
+/// another length than the words can hold is `ERR_KEY_LENGTH`, of another padding
 /// `ERR_PADDING_METHOD`; the words and the message are then unchanged.
 pub fn init(
     algorithm: u32,
@@ -206,7 +224,7 @@ fn one_cipher_tag_by<W: BoxLookup>(
         → IsProgressOf (encryption_of key) message.now.progress m
         → result ≡ mac_by algorithm message.now.padding key m }
 {
-    let cipher = cipher_type(context);
+    let cipher = CipherType::of_key_size(context.len() / 2);
     dispatch_cipher!(cipher, W, one_cipher_tag(context, algorithm, message))
 }
 
@@ -258,20 +276,25 @@ fn tag(algorithm: u32, no_tables: bool, context: &[u64], message: &MessageState)
 
 /// Writes the tag of the message, which may go on. The status is as of `update`, and the tag of
 /// words that it refuses is unchanged.
-pub fn write_tag(algorithm: u32, context: &[u64], message: &MessageState, room: &mut [u8; 8]) -> i32
+pub fn write_tag(
+    algorithm: u32,
+    context: &[u64],
+    message: &MessageState,
+    place: &mut [u8; 8],
+) -> i32
     requires cipher_type { HasMacCipherType algorithm context.now }
     requires sound { IsSoundMacIfMarked algorithm context.now message.now }
     ensures accepted { (result ≡ OK) ↔ HasMacMark algorithm context.now }
     ensures unmarked { (result ≡ ERR_CONTEXT) ↔ ¬ (HasMacMark algorithm context.now) }
     ensures tag { result ≡ OK → (padding : ℕ) (key m : List ℕ)
         → IsMacOf algorithm context.now message.now padding key m
-        → room.new ≡ mac_by algorithm padding key m }
-    ensures kept { result ≢ OK → room.new ≡ room.old }
+        → place.new ≡ mac_by algorithm padding key m }
+    ensures kept { result ≢ OK → place.new ≡ place.old }
 {
     let Some((_, no_tables)) = opened(algorithm, chain_words(algorithm, context)) else {
         return ERR_CONTEXT;
     };
-    *room = tag(algorithm, no_tables, context, message);
+    *place = tag(algorithm, no_tables, context, message);
     OK
 }
 

@@ -6,10 +6,9 @@ ghost use Rattle.des_fast.specs.Records.{GoOn};
 ghost use Rattle.des_context.specs.Bytes.{AreBytesOf};
 ghost use Rattle.des_context.specs.CipherTypes.{relation_of};
 ghost use Rattle.des_context.specs.Contexts.{HasCipherType, HasMark, IsContextOf, IsSoundIfMarked};
-ghost use Rattle.des_context.specs.Records.{AreSizesOf, ChainsEach};
+ghost use Rattle.des_context.specs.Records.{AreSizesOf, ChainRecords, ChainsEach};
 
-use crate::block_modes::are_bytes_of;
-use crate::ciphers::{ContextCipher, dispatch_cipher};
+use crate::ciphers::{CipherType, ContextCipher, dispatch_cipher};
 use crate::contexts::{NO_MAC, opened};
 use crate::status::{ERR_BLOCKS, ERR_CONTEXT, ERR_COUNTS, OK};
 use des_fast::many::{Slice, SpreadOnce};
@@ -24,18 +23,33 @@ fn encrypt_records<C: ContextCipher + SpreadOnce, S: Slice>(
 ) -> i32
     requires cipher_type { HasCipherType C.CIPHER_TYPE context.now }
     requires made { (key : List ℕ) × IsContextOf context.now key }
-    ensures accepted { (result ≡ OK) ↔ AreSizesOf sizes.now vectors.old blocks.old }
-    ensures refused { (result ≡ ERR_COUNTS) ↔ ¬ (AreSizesOf sizes.now vectors.old blocks.old) }
-    ensures chained { result ≡ OK → (key : List ℕ) → IsContextOf context.now key
-        → ChainsEach (relation_of key) sizes.now vectors.old blocks.old blocks.new }
-    ensures goes_on { result ≡ OK → GoOn sizes.now vectors.old blocks.new vectors.new }
-    ensures kept { result ≢ OK → (vectors.new ≡ vectors.old) × (blocks.new ≡ blocks.old) }
+    ensures { ChainRecords context.now sizes.now vectors.old vectors.new blocks.old blocks.new
+        blocks.old blocks.new result }
 {
     let keys = C::of(context).spread_keys::<S>();
     match keys.encrypt_cbc_records(vectors, sizes, blocks) {
         Ok(()) => OK,
         Err(_) => ERR_COUNTS,
     }
+}
+
+// Encrypts records in place by CBC, by the cipher of a type.
+fn encrypt_records_of<S: Slice>(
+    cipher: CipherType,
+    context: &[u64],
+    vectors: &mut [[u8; 8]],
+    sizes: &[usize],
+    blocks: &mut [[u8; 8]],
+) -> i32
+    requires cipher_type { HasCipherType cipher context.now }
+    requires made { (key : List ℕ) × IsContextOf context.now key }
+    ensures { ChainRecords context.now sizes.now vectors.old vectors.new blocks.old blocks.new
+        blocks.old blocks.new result }
+{
+    dispatch_cipher!(
+        cipher,
+        encrypt_records::<S>(context, vectors, sizes, blocks)
+    )
 }
 
 // Decrypts records in place that CBC chained.
@@ -48,18 +62,33 @@ fn decrypt_records<C: ContextCipher + SpreadOnce, S: Slice>(
 ) -> i32
     requires cipher_type { HasCipherType C.CIPHER_TYPE context.now }
     requires made { (key : List ℕ) × IsContextOf context.now key }
-    ensures accepted { (result ≡ OK) ↔ AreSizesOf sizes.now vectors.old blocks.old }
-    ensures refused { (result ≡ ERR_COUNTS) ↔ ¬ (AreSizesOf sizes.now vectors.old blocks.old) }
-    ensures chained { result ≡ OK → (key : List ℕ) → IsContextOf context.now key
-        → ChainsEach (relation_of key) sizes.now vectors.old blocks.new blocks.old }
-    ensures goes_on { result ≡ OK → GoOn sizes.now vectors.old blocks.old vectors.new }
-    ensures kept { result ≢ OK → (vectors.new ≡ vectors.old) × (blocks.new ≡ blocks.old) }
+    ensures { ChainRecords context.now sizes.now vectors.old vectors.new blocks.old blocks.new
+        blocks.new blocks.old result }
 {
     let keys = C::of(context).spread_keys::<S>();
     match keys.decrypt_cbc_records(vectors, sizes, blocks) {
         Ok(()) => OK,
         Err(_) => ERR_COUNTS,
     }
+}
+
+// Decrypts records in place that CBC chained, by the cipher of a type.
+fn decrypt_records_of<S: Slice>(
+    cipher: CipherType,
+    context: &[u64],
+    vectors: &mut [[u8; 8]],
+    sizes: &[usize],
+    blocks: &mut [[u8; 8]],
+) -> i32
+    requires cipher_type { HasCipherType cipher context.now }
+    requires made { (key : List ℕ) × IsContextOf context.now key }
+    ensures { ChainRecords context.now sizes.now vectors.old vectors.new blocks.old blocks.new
+        blocks.new blocks.old result }
+{
+    dispatch_cipher!(
+        cipher,
+        decrypt_records::<S>(context, vectors, sizes, blocks)
+    )
 }
 
 /// Encrypts records in place by CBC, in step: `sizes[k]` blocks are record k, one record after
@@ -92,13 +121,10 @@ pub fn encrypt_cbc_records<S: Slice>(
     let Some((cipher, _)) = opened(NO_MAC, context) else {
         return ERR_CONTEXT;
     };
-    if !are_bytes_of(blocks, size) {
+    if size != blocks.as_flattened().len() {
         return ERR_BLOCKS;
     }
-    dispatch_cipher!(
-        cipher,
-        encrypt_records::<S>(context, vectors, sizes, blocks)
-    )
+    encrypt_records_of::<S>(cipher, context, vectors, sizes, blocks)
 }
 
 /// Decrypts records in place that CBC chained, as `encrypt_cbc_records` does. The status is as of
@@ -128,11 +154,8 @@ pub fn decrypt_cbc_records<S: Slice>(
     let Some((cipher, _)) = opened(NO_MAC, context) else {
         return ERR_CONTEXT;
     };
-    if !are_bytes_of(blocks, size) {
+    if size != blocks.as_flattened().len() {
         return ERR_BLOCKS;
     }
-    dispatch_cipher!(
-        cipher,
-        decrypt_records::<S>(context, vectors, sizes, blocks)
-    )
+    decrypt_records_of::<S>(cipher, context, vectors, sizes, blocks)
 }

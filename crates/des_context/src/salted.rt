@@ -8,7 +8,8 @@ ghost use Rattle.des_context.specs.Keys.{IsKeyLength};
 ghost use Rattle.des_context.specs.Salted.{EndsWith, HoldsPlain, IsOpened, IsOpeningFault, IsPartsFault, IsPlainOf, IsSaltedFault, IsUnder, Opens};
 
 use crate::block_modes::decrypt_cbc_blocks;
-use crate::contexts::{cipher_type, init};
+use crate::ciphers::CipherType;
+use crate::contexts::init;
 use crate::status::{
     ERR_BLOCKS, ERR_CAPACITY, ERR_HASH, ERR_ITERATIONS, ERR_NOT_SALTED, ERR_PADDING,
     ERR_SALT_LENGTH, OK,
@@ -22,25 +23,26 @@ use std::simd::prelude::*;
 // How many blocks are decrypted together: two batches.
 const PIECE: usize = 256;
 
-// Writes the plaintext of a few blocks to a room of as many bytes.
-fn write_piece(context: &[u64], vector: &[u8; 8], blocks: &[[u8; 8]], room: &mut [u8])
+// Writes the plaintext of a few blocks to a buffer of as many bytes.
+fn write_piece(context: &[u64], vector: &[u8; 8], blocks: &[[u8; 8]], plain: &mut [u8])
     requires key { (key : List ℕ) × IsContextOf context.now key }
     requires few { length blocks.now ≤ 256 }
-    requires room { length room.old ≡ 8 * length blocks.now }
+    requires count { length plain.old ≡ 8 * length blocks.now }
     ensures { (key : List ℕ) → IsContextOf context.now key
-        → IsPlainOf (relation_of key) vector.now blocks.now room.new }
+        → IsPlainOf (relation_of key) vector.now blocks.now plain.new }
 {
     let mut piece = [[0; 8]; PIECE];
     let piece = &mut piece[..blocks.len()];
     piece.copy_from_slice(blocks);
-    decrypt_cbc_blocks::<u64x2>(cipher_type(context), true, context, vector, piece);
-    room.copy_from_slice(piece.as_flattened());
+    let cipher = CipherType::of_key_size(context.len() / 2);
+    decrypt_cbc_blocks::<u64x2>(cipher, true, context, vector, piece);
+    plain.copy_from_slice(piece.as_flattened());
 }
 
 // Writes the plaintext of blocks to the front of a buffer.
 fn write_front(context: &[u64], vector: &[u8; 8], blocks: &[[u8; 8]], plain: &mut [u8])
     requires key { (key : List ℕ) × IsContextOf context.now key }
-    requires room { 8 * length blocks.now ≤ length plain.old }
+    requires capacity { 8 * length blocks.now ≤ length plain.old }
     ensures { (key : List ℕ) → IsContextOf context.now key → (start : List ℕ)
         × IsPlainOf (relation_of key) vector.now blocks.now start
         × (plain.new ≡ start ++ drop (8 * length blocks.now) plain.old) }
@@ -49,8 +51,8 @@ fn write_front(context: &[u64], vector: &[u8; 8], blocks: &[[u8; 8]], plain: &mu
     'pieces: while from < blocks.len() {
         let to = blocks.len().min(from + PIECE);
         let previous = next_vector(vector, &blocks[..from]);
-        let room = &mut plain[8 * from..8 * to];
-        write_piece(context, &previous, &blocks[from..to], room);
+        let piece = &mut plain[8 * from..8 * to];
+        write_piece(context, &previous, &blocks[from..to], piece);
         from = to;
     }
 }

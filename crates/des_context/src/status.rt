@@ -55,7 +55,7 @@ pub const ERR_SERVICE_DIGIT: i32 = 16;
 /// The data do not end with the padding.
 pub const ERR_PADDING: i32 = 17;
 
-/// The buffer has no room for the padding, or for what is opened.
+/// The buffer is too small for all that the call would write.
 pub const ERR_CAPACITY: i32 = 18;
 
 /// The numbers of elements do not agree: a count, or a sum of counts, and a length.
@@ -150,3 +150,18 @@ pub const ERR_WRAPPED_LENGTH: i32 = 47;
 
 /// The bytes are no key that was wrapped under the protection key.
 pub const ERR_WRAPPED_KEY: i32 = 48;
+
+/// The value is none that MySQL encrypted.
+pub const ERR_NOT_ENCRYPTED: i32 = 49;
+
+/// Some values can't be read: their statuses say why.
+pub const ERR_VALUES: i32 = 50;
+
+/// The algorithm is not one that the call takes.
+pub const ERR_ALGORITHM: i32 = 51;
+
+/// The value is not Base64.
+pub const ERR_BASE64: i32 = 52;
+
+/// The number is not one of a key.
+pub const ERR_KEY_NUMBER: i32 = 53;

@@ -4,13 +4,12 @@
 
 ghost use Rattle.std.specs.Prelude.{◌≡◌, ◌≢◌, ◌↔◌, ◌≤◌, ◌*◌, ◌++◌, ℕ, Bool, List, [], length, drop};
 ghost use Rattle.des.specs.Bits.{bits_of_bytes};
-ghost use Rattle.des.specs.Blocks.{AreBytes};
 ghost use Rattle.des_modes.specs.CfbBits.{first_bits};
-ghost use Rattle.des_modes.specs.Ctr.{Ctr};
+ghost use Rattle.des_modes.specs.Directions.{plaintext, ciphertext};
 ghost use Rattle.des_modes.specs.Modes.{InModeUnder, IsMode, mode_by};
 ghost use Rattle.des_modes.specs.StreamStates.{HasBegun, IsBitStreamAt, IsInMode, IsStreamAt};
 ghost use Rattle.des_modes.specs.declared.modes.Mode.TheVariants.{BitFeedback};
-ghost use Rattle.des_modes.specs.declared.modes.TheConstants.{CFB1, CTR};
+ghost use Rattle.des_modes.specs.declared.modes.TheConstants.{CFB1};
 ghost use Rattle.des_context.specs.CipherTypes.{encryption_of, relation_of};
 ghost use Rattle.des_context.specs.Contexts.{HasCipherType, HasMark, IsContextOf, IsSoundIfMarked};
 ghost use Rattle.des_context.specs.declared.contexts.TheConstants.{NO_MAC};
@@ -19,14 +18,16 @@ use crate::ciphers::{ContextCipher, dispatch_cipher};
 use crate::contexts::{NO_MAC, opened};
 use crate::status::{ERR_CONTEXT, ERR_MODE, ERR_STREAM, OK};
 use des_fast::many::{ManyBlocks, Slice};
+use des_modes::Direction;
 use des_modes::lists::ByLists;
 use des_modes::modes::{CFB1, Mode};
 use des_modes::stream::Stream;
 use std::simd::prelude::*;
 
-// Encrypts the bytes that come next, by a cipher.
+// Encrypts or decrypts the bytes that come next, by a cipher.
 #[inline(never)]
-fn encrypt_by<C: ContextCipher + ManyBlocks, S: Slice>(
+fn apply_by<C: ContextCipher + ManyBlocks, S: Slice>(
+    direction: Direction,
     context: &[u64],
     no_tables: bool,
     mode: Mode,
@@ -38,52 +39,29 @@ fn encrypt_by<C: ContextCipher + ManyBlocks, S: Slice>(
     requires mode { IsInMode mode stream.old }
     ensures bytes { (number : ℕ) (key iv p c : List ℕ) → IsContextOf context.now key
         → IsStreamAt number (encryption_of key) iv p c stream.old
-        → IsStreamAt number (encryption_of key) iv (p ++ bytes.old) (c ++ bytes.new) stream.new }
+        → IsStreamAt number (encryption_of key) iv (p ++ plaintext direction bytes.old bytes.new)
+        (c ++ ciphertext direction bytes.old bytes.new) stream.new }
     ensures under { (number : ℕ) (key iv p c : List ℕ) → IsContextOf context.now key
         → IsStreamAt number (encryption_of key) iv p c stream.old
-        → InModeUnder (mode_by number) (relation_of key) iv (p ++ bytes.old) (c ++ bytes.new) }
+        → InModeUnder (mode_by number) (relation_of key) iv
+        (p ++ plaintext direction bytes.old bytes.new)
+        (c ++ ciphertext direction bytes.old bytes.new) }
     ensures bits { (key iv : List ℕ) (p c : List Bool) → IsContextOf context.now key
         → IsBitStreamAt (encryption_of key) iv p c stream.old
         → IsBitStreamAt (encryption_of key) iv
-        (p ++ bits_of_bytes bytes.old) (c ++ bits_of_bytes bytes.new) stream.new }
+        (p ++ bits_of_bytes (plaintext direction bytes.old bytes.new))
+        (c ++ bits_of_bytes (ciphertext direction bytes.old bytes.new)) stream.new }
 {
     let cipher = C::of(context);
     let cipher = ByLists::<C, S>::new(&cipher, no_tables);
-    stream.encrypt(mode, &cipher, bytes);
+    stream.apply(direction, mode, &cipher, bytes);
 }
 
-// Decrypts the bytes that come next, by a cipher.
+// Encrypts or decrypts the first `bits` bits, which come next, by a cipher: bit after bit, so that no
+// width is quicker.
 #[inline(never)]
-fn decrypt_by<C: ContextCipher + ManyBlocks, S: Slice>(
-    context: &[u64],
-    no_tables: bool,
-    mode: Mode,
-    stream: &mut Stream,
-    bytes: &mut [u8],
-)
-    requires cipher_type { HasCipherType C.CIPHER_TYPE context.now }
-    requires made { (key : List ℕ) × IsContextOf context.now key }
-    requires mode { IsInMode mode stream.old }
-    ensures bytes { (number : ℕ) (key iv p c : List ℕ) → IsContextOf context.now key
-        → IsStreamAt number (encryption_of key) iv p c stream.old
-        → IsStreamAt number (encryption_of key) iv (p ++ bytes.new) (c ++ bytes.old) stream.new }
-    ensures under { (number : ℕ) (key iv p c : List ℕ) → IsContextOf context.now key
-        → IsStreamAt number (encryption_of key) iv p c stream.old
-        → InModeUnder (mode_by number) (relation_of key) iv (p ++ bytes.new) (c ++ bytes.old) }
-    ensures bits { (key iv : List ℕ) (p c : List Bool) → IsContextOf context.now key
-        → IsBitStreamAt (encryption_of key) iv p c stream.old
-        → IsBitStreamAt (encryption_of key) iv
-        (p ++ bits_of_bytes bytes.new) (c ++ bits_of_bytes bytes.old) stream.new }
-{
-    let cipher = C::of(context);
-    let cipher = ByLists::<C, S>::new(&cipher, no_tables);
-    stream.decrypt(mode, &cipher, bytes);
-}
-
-// Encrypts the first so many bits, which come next, by a cipher: bit after bit, so that no width is
-// quicker.
-#[inline(never)]
-fn encrypt_bits_by<C: ContextCipher + ManyBlocks>(
+fn apply_bits_by<C: ContextCipher + ManyBlocks>(
+    direction: Direction,
     context: &[u64],
     no_tables: bool,
     stream: &mut Stream,
@@ -97,36 +75,13 @@ fn encrypt_bits_by<C: ContextCipher + ManyBlocks>(
     ensures bits { (key iv : List ℕ) (p c : List Bool) → IsContextOf context.now key
         → IsBitStreamAt (encryption_of key) iv p c stream.old
         → IsBitStreamAt (encryption_of key) iv
-        (p ++ first_bits bits bytes.old) (c ++ first_bits bits bytes.new) stream.new }
+        (p ++ first_bits bits (plaintext direction bytes.old bytes.new))
+        (c ++ first_bits bits (ciphertext direction bytes.old bytes.new)) stream.new }
     ensures rest { drop bits (bits_of_bytes bytes.new) ≡ drop bits (bits_of_bytes bytes.old) }
 {
     let cipher = C::of(context);
     let cipher = ByLists::<C, u64x2>::new(&cipher, no_tables);
-    stream.encrypt_bits(&cipher, bytes, bits);
-}
-
-// Decrypts the first so many bits, which come next, by a cipher.
-#[inline(never)]
-fn decrypt_bits_by<C: ContextCipher + ManyBlocks>(
-    context: &[u64],
-    no_tables: bool,
-    stream: &mut Stream,
-    bytes: &mut [u8],
-    bits: usize,
-)
-    requires cipher_type { HasCipherType C.CIPHER_TYPE context.now }
-    requires made { (key : List ℕ) × IsContextOf context.now key }
-    requires mode { IsInMode BitFeedback stream.old }
-    requires few { bits ≤ 8 * length bytes.old }
-    ensures bits { (key iv : List ℕ) (p c : List Bool) → IsContextOf context.now key
-        → IsBitStreamAt (encryption_of key) iv p c stream.old
-        → IsBitStreamAt (encryption_of key) iv
-        (p ++ first_bits bits bytes.new) (c ++ first_bits bits bytes.old) stream.new }
-    ensures rest { drop bits (bits_of_bytes bytes.new) ≡ drop bits (bits_of_bytes bytes.old) }
-{
-    let cipher = C::of(context);
-    let cipher = ByLists::<C, u64x2>::new(&cipher, no_tables);
-    stream.decrypt_bits(&cipher, bytes, bits);
+    stream.apply_bits(direction, &cipher, bytes, bits);
 }
 
 /// Begins a stream in the mode of a number from an initialization vector, or for the counter mode the
@@ -149,78 +104,55 @@ pub fn begin(stream: &mut Stream, mode: u32, iv: &[u8; 8]) -> i32
     }
 }
 
-/// Encrypts in place the bytes that come next in a stream: any number of them. In pieces, wherever they
-/// are cut, they become what they become as one. The status of words that are no stream is `ERR_STREAM`;
-/// they and the bytes are then unchanged.
-pub fn encrypt_stream<S: Slice>(context: &[u64], stream: &mut Stream, bytes: &mut [u8]) -> i32
-    requires { IsSoundIfMarked context.now }
-    ensures unmarked { (result ≡ ERR_CONTEXT) ↔ ¬ (HasMark NO_MAC context.now) }
-    ensures accepted { (result ≡ OK) ↔ (HasMark NO_MAC context.now × HasBegun stream.old) }
-    ensures refused { (result ≡ ERR_STREAM)
-        ↔ (HasMark NO_MAC context.now × ¬ (HasBegun stream.old)) }
-    ensures bytes { result ≡ OK → (number : ℕ) (key iv p c : List ℕ) → IsContextOf context.now key
-        → IsStreamAt number (encryption_of key) iv p c stream.old
-        → IsStreamAt number (encryption_of key) iv (p ++ bytes.old) (c ++ bytes.new) stream.new }
-    ensures under { result ≡ OK → (number : ℕ) (key iv p c : List ℕ) → IsContextOf context.now key
-        → IsStreamAt number (encryption_of key) iv p c stream.old
-        → InModeUnder (mode_by number) (relation_of key) iv (p ++ bytes.old) (c ++ bytes.new) }
-    ensures bits { result ≡ OK → (key iv : List ℕ) (p c : List Bool) → IsContextOf context.now key
-        → IsBitStreamAt (encryption_of key) iv p c stream.old
-        → IsBitStreamAt (encryption_of key) iv
-        (p ++ bits_of_bytes bytes.old) (c ++ bits_of_bytes bytes.new) stream.new }
-    ensures kept { result ≢ OK → (bytes.new ≡ bytes.old) × (stream.new ≡ stream.old) }
-{
-    let Some((cipher, no_tables)) = opened(NO_MAC, context) else {
-        return ERR_CONTEXT;
-    };
-    let mode = match stream.mode() {
-        Some(mode) => mode,
-        None => return ERR_STREAM,
-    };
-    dispatch_cipher!(
-        cipher,
-        encrypt_by::<S>(context, no_tables, mode, stream, bytes)
-    );
-    OK
-}
-
-/// Decrypts in place the bytes that come next in a stream. The status is as of `encrypt_stream`.
-pub fn decrypt_stream<S: Slice>(context: &[u64], stream: &mut Stream, bytes: &mut [u8]) -> i32
-    requires { IsSoundIfMarked context.now }
-    ensures unmarked { (result ≡ ERR_CONTEXT) ↔ ¬ (HasMark NO_MAC context.now) }
-    ensures accepted { (result ≡ OK) ↔ (HasMark NO_MAC context.now × HasBegun stream.old) }
-    ensures refused { (result ≡ ERR_STREAM)
-        ↔ (HasMark NO_MAC context.now × ¬ (HasBegun stream.old)) }
-    ensures bytes { result ≡ OK → (number : ℕ) (key iv p c : List ℕ) → IsContextOf context.now key
-        → IsStreamAt number (encryption_of key) iv p c stream.old
-        → IsStreamAt number (encryption_of key) iv (p ++ bytes.new) (c ++ bytes.old) stream.new }
-    ensures under { result ≡ OK → (number : ℕ) (key iv p c : List ℕ) → IsContextOf context.now key
-        → IsStreamAt number (encryption_of key) iv p c stream.old
-        → InModeUnder (mode_by number) (relation_of key) iv (p ++ bytes.new) (c ++ bytes.old) }
-    ensures bits { result ≡ OK → (key iv : List ℕ) (p c : List Bool) → IsContextOf context.now key
-        → IsBitStreamAt (encryption_of key) iv p c stream.old
-        → IsBitStreamAt (encryption_of key) iv
-        (p ++ bits_of_bytes bytes.new) (c ++ bits_of_bytes bytes.old) stream.new }
-    ensures kept { result ≢ OK → (bytes.new ≡ bytes.old) × (stream.new ≡ stream.old) }
-{
-    let Some((cipher, no_tables)) = opened(NO_MAC, context) else {
-        return ERR_CONTEXT;
-    };
-    let mode = match stream.mode() {
-        Some(mode) => mode,
-        None => return ERR_STREAM,
-    };
-    dispatch_cipher!(
-        cipher,
-        decrypt_by::<S>(context, no_tables, mode, stream, bytes)
-    );
-    OK
-}
-
-/// Encrypts in place the first so many bits, which come next in a stream of CFB1: any number of them.
-/// The others stay. The status of a stream of another mode is `ERR_MODE`, of words that are no stream
+/// Encrypts or decrypts in place the bytes that come next in a stream: any number of them. In pieces,
+/// wherever they are cut, they become what they become as one. The status of words that are no stream is
 /// `ERR_STREAM`; they and the bytes are then unchanged.
-pub fn encrypt_stream_bits(
+pub fn apply_stream<S: Slice>(
+    direction: Direction,
+    context: &[u64],
+    stream: &mut Stream,
+    bytes: &mut [u8],
+) -> i32
+    requires { IsSoundIfMarked context.now }
+    ensures unmarked { (result ≡ ERR_CONTEXT) ↔ ¬ (HasMark NO_MAC context.now) }
+    ensures accepted { (result ≡ OK) ↔ (HasMark NO_MAC context.now × HasBegun stream.old) }
+    ensures refused { (result ≡ ERR_STREAM)
+        ↔ (HasMark NO_MAC context.now × ¬ (HasBegun stream.old)) }
+    ensures bytes { result ≡ OK → (number : ℕ) (key iv p c : List ℕ) → IsContextOf context.now key
+        → IsStreamAt number (encryption_of key) iv p c stream.old
+        → IsStreamAt number (encryption_of key) iv (p ++ plaintext direction bytes.old bytes.new)
+        (c ++ ciphertext direction bytes.old bytes.new) stream.new }
+    ensures under { result ≡ OK → (number : ℕ) (key iv p c : List ℕ) → IsContextOf context.now key
+        → IsStreamAt number (encryption_of key) iv p c stream.old
+        → InModeUnder (mode_by number) (relation_of key) iv
+        (p ++ plaintext direction bytes.old bytes.new)
+        (c ++ ciphertext direction bytes.old bytes.new) }
+    ensures bits { result ≡ OK → (key iv : List ℕ) (p c : List Bool) → IsContextOf context.now key
+        → IsBitStreamAt (encryption_of key) iv p c stream.old
+        → IsBitStreamAt (encryption_of key) iv
+        (p ++ bits_of_bytes (plaintext direction bytes.old bytes.new))
+        (c ++ bits_of_bytes (ciphertext direction bytes.old bytes.new)) stream.new }
+    ensures kept { result ≢ OK → (bytes.new ≡ bytes.old) × (stream.new ≡ stream.old) }
+{
+    let Some((cipher, no_tables)) = opened(NO_MAC, context) else {
+        return ERR_CONTEXT;
+    };
+    let mode = match stream.mode() {
+        Some(mode) => mode,
+        None => return ERR_STREAM,
+    };
+    dispatch_cipher!(
+        cipher,
+        apply_by::<S>(direction, context, no_tables, mode, stream, bytes)
+    );
+    OK
+}
+
+/// Encrypts or decrypts in place the first `bits` bits, which come next in a stream of CFB1: any number
+/// of them. The others stay. The status of a stream of another mode is `ERR_MODE`, of words that are no
+/// stream `ERR_STREAM`; they and the bytes are then unchanged.
+pub fn apply_stream_bits(
+    direction: Direction,
     context: &[u64],
     stream: &mut Stream,
     bytes: &mut [u8],
@@ -238,7 +170,8 @@ pub fn encrypt_stream_bits(
     ensures bits { result ≡ OK → (key iv : List ℕ) (p c : List Bool) → IsContextOf context.now key
         → IsBitStreamAt (encryption_of key) iv p c stream.old
         → IsBitStreamAt (encryption_of key) iv
-        (p ++ first_bits bits bytes.old) (c ++ first_bits bits bytes.new) stream.new }
+        (p ++ first_bits bits (plaintext direction bytes.old bytes.new))
+        (c ++ first_bits bits (ciphertext direction bytes.old bytes.new)) stream.new }
     ensures rest { drop bits (bits_of_bytes bytes.new) ≡ drop bits (bits_of_bytes bytes.old) }
     ensures kept { result ≢ OK → (bytes.new ≡ bytes.old) × (stream.new ≡ stream.old) }
 {
@@ -253,61 +186,28 @@ pub fn encrypt_stream_bits(
     }
     dispatch_cipher!(
         cipher,
-        encrypt_bits_by(context, no_tables, stream, bytes, bits)
+        apply_bits_by(direction, context, no_tables, stream, bytes, bits)
     );
     OK
 }
 
-/// Decrypts in place the first so many bits, which come next in a stream of CFB1. The status is as of
-/// `encrypt_stream_bits`.
-pub fn decrypt_stream_bits(
+/// Encrypts or decrypts a text in place by the mode of a number, from an initialization vector, or for
+/// the counter mode the first counter block. The status of another number is `ERR_MODE`; the text is
+/// then unchanged.
+pub fn apply_mode<S: Slice>(
+    direction: Direction,
     context: &[u64],
-    stream: &mut Stream,
+    mode: u32,
+    iv: &[u8; 8],
     bytes: &mut [u8],
-    bits: usize,
 ) -> i32
-    requires sound { IsSoundIfMarked context.now }
-    requires few { bits ≤ 8 * length bytes.old }
-    ensures unmarked { (result ≡ ERR_CONTEXT) ↔ ¬ (HasMark NO_MAC context.now) }
-    ensures accepted { (result ≡ OK) ↔ (HasMark NO_MAC context.now × HasBegun stream.old
-        × (stream.old.mode ≡ CFB1)) }
-    ensures refused { (result ≡ ERR_STREAM)
-        ↔ (HasMark NO_MAC context.now × ¬ (HasBegun stream.old)) }
-    ensures other { (result ≡ ERR_MODE) ↔ (HasMark NO_MAC context.now × HasBegun stream.old
-        × (stream.old.mode ≢ CFB1)) }
-    ensures bits { result ≡ OK → (key iv : List ℕ) (p c : List Bool) → IsContextOf context.now key
-        → IsBitStreamAt (encryption_of key) iv p c stream.old
-        → IsBitStreamAt (encryption_of key) iv
-        (p ++ first_bits bits bytes.new) (c ++ first_bits bits bytes.old) stream.new }
-    ensures rest { drop bits (bits_of_bytes bytes.new) ≡ drop bits (bits_of_bytes bytes.old) }
-    ensures kept { result ≢ OK → (bytes.new ≡ bytes.old) × (stream.new ≡ stream.old) }
-{
-    let Some((cipher, no_tables)) = opened(NO_MAC, context) else {
-        return ERR_CONTEXT;
-    };
-    if stream.mode().is_none() {
-        return ERR_STREAM;
-    }
-    if stream.number() != CFB1 {
-        return ERR_MODE;
-    }
-    dispatch_cipher!(
-        cipher,
-        decrypt_bits_by(context, no_tables, stream, bytes, bits)
-    );
-    OK
-}
-
-/// Encrypts a text in place by the mode of a number, from an initialization vector, or for the counter
-/// mode the first counter block. The status of another number is `ERR_MODE`; the text is then
-/// unchanged.
-pub fn encrypt_mode<S: Slice>(context: &[u64], mode: u32, iv: &[u8; 8], bytes: &mut [u8]) -> i32
     requires { IsSoundIfMarked context.now }
     ensures unmarked { (result ≡ ERR_CONTEXT) ↔ ¬ (HasMark NO_MAC context.now) }
     ensures accepted { (result ≡ OK) ↔ (HasMark NO_MAC context.now × IsMode mode) }
     ensures refused { (result ≡ ERR_MODE) ↔ (HasMark NO_MAC context.now × ¬ (IsMode mode)) }
-    ensures encrypted { result ≡ OK → (key : List ℕ) → IsContextOf context.now key
-        → InModeUnder (mode_by mode) (relation_of key) iv.now bytes.old bytes.new }
+    ensures text { result ≡ OK → (key : List ℕ) → IsContextOf context.now key
+        → InModeUnder (mode_by mode) (relation_of key) iv.now
+        (plaintext direction bytes.old bytes.new) (ciphertext direction bytes.old bytes.new) }
     ensures kept { result ≢ OK → bytes.new ≡ bytes.old }
 {
     if opened(NO_MAC, context).is_none() {
@@ -315,29 +215,7 @@ pub fn encrypt_mode<S: Slice>(context: &[u64], mode: u32, iv: &[u8; 8], bytes: &
     }
     match Stream::new(mode, iv) {
         Some(mut stream) => {
-            encrypt_stream::<S>(context, &mut stream, bytes);
-            OK
-        }
-        None => ERR_MODE,
-    }
-}
-
-/// Decrypts a text in place by the mode of a number. The status is as of `encrypt_mode`.
-pub fn decrypt_mode<S: Slice>(context: &[u64], mode: u32, iv: &[u8; 8], bytes: &mut [u8]) -> i32
-    requires { IsSoundIfMarked context.now }
-    ensures unmarked { (result ≡ ERR_CONTEXT) ↔ ¬ (HasMark NO_MAC context.now) }
-    ensures accepted { (result ≡ OK) ↔ (HasMark NO_MAC context.now × IsMode mode) }
-    ensures refused { (result ≡ ERR_MODE) ↔ (HasMark NO_MAC context.now × ¬ (IsMode mode)) }
-    ensures decrypted { result ≡ OK → (key : List ℕ) → IsContextOf context.now key
-        → InModeUnder (mode_by mode) (relation_of key) iv.now bytes.new bytes.old }
-    ensures kept { result ≢ OK → bytes.new ≡ bytes.old }
-{
-    if opened(NO_MAC, context).is_none() {
-        return ERR_CONTEXT;
-    }
-    match Stream::new(mode, iv) {
-        Some(mut stream) => {
-            decrypt_stream::<S>(context, &mut stream, bytes);
+            apply_stream::<S>(direction, context, &mut stream, bytes);
             OK
         }
         None => ERR_MODE,

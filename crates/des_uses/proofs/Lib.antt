@@ -1,4 +1,5 @@
 pub mod BlockLists
+pub mod ColumnsAgain
 pub mod JoinedParts
 pub mod KeyedChains
 pub mod RelatedAnswers

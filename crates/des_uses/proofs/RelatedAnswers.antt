@@ -1,4 +1,4 @@
--- What tests of answers tell, where a relation of blocks gives the answers.
+-- What tests of answers tell, if a relation of blocks gives the answers.
 use Rattle.std.proofs.Common.{◌≡◌, ◌↔◌, ℕ, List, IsTrue, Bool, sym, subst, ◌∙◌}
 use Rattle.des.specs.Blocks.{IsBlock}
 use Rattle.des.specs.Relations.{IsTheOne, HasOneAnswerEachWay, IsGraphOf}
@@ -13,7 +13,7 @@ related function Answers block made answer graph is_block by told = (
   λ taken. told.1 (by ∙ ((graph block answer).0 taken).1),
 )
 
--- where a relation takes one block to each answer, whether two blocks have one answer tells whether they are one
+-- if a relation takes one block to each answer, whether two blocks have one answer tells whether they are one
 pub one_block : {same : Bool} (Answers : List ℕ → List ℕ → Type 0)
     (block other answer other_answer : List ℕ)
     → HasOneAnswerEachWay Answers → IsBlock answer

@@ -1,4 +1,4 @@
--- Words that hold the round keys of a key, from the last to the first, where these are those of another key.
+-- Words that hold the round keys of a key, from the last to the first, if these are those of another key.
 use Rattle.std.proofs.Common.{◌≡◌, ℕ, ◌-◌, ◌≤◌, List, ◌∷◌, [], ◌++◌, Bool, map, reverse, sym, ap, ◌∙◌, lit≤}
 use Rattle.des.specs.Bits.{bits_of_word, zeros}
 use Rattle.des.specs.KeySchedule.{round_key, key_schedule}

@@ -1,5 +1,5 @@
-//! What stands above the ciphers of `des` and `des_fast`, the MACs, the streams and the payment
-//! formats: callers that rest on their contracts and laws alone, and a single DES of one's own.
+//! What stands above the ciphers of `des` and `des_fast`, the MACs, the streams, columns and the
+//! payment formats: callers that rest on their contracts and laws alone, and a single DES of one's own.
 //! Nothing here is part of the product.
 #![tactic(auto)]
 
@@ -7,6 +7,7 @@ pub mod both_libraries;
 pub mod buffers;
 pub mod by_relation;
 pub mod clones;
+pub mod columns;
 pub mod complements;
 pub mod each_key;
 pub mod fast_lists;

@@ -11,6 +11,7 @@ use super::Width;
 use des_context::contexts::NO_MAC;
 use des_context::status::{ERR_CONTEXT, ERR_MODE, ERR_STREAM, OK};
 use des_context::stream_modes;
+use des_modes::Direction;
 use des_modes::stream::Stream;
 
 /// Encrypts in place the bytes that come next in a stream: any number of them. The status of words that
@@ -38,7 +39,7 @@ pub extern "C" fn cukvashe_internal_encrypt_stream(
         (p ++ bits_of_bytes bytes.old) (c ++ bits_of_bytes bytes.new) stream.new }
     ensures kept { result ≢ OK → (bytes.new ≡ bytes.old) × (stream.new ≡ stream.old) }
 {
-    stream_modes::encrypt_stream::<Width>(context, stream, bytes)
+    stream_modes::apply_stream::<Width>(Direction::Encrypt, context, stream, bytes)
 }
 
 /// Decrypts in place the bytes that come next in a stream. The status is as of
@@ -66,7 +67,7 @@ pub extern "C" fn cukvashe_internal_decrypt_stream(
         (p ++ bits_of_bytes bytes.new) (c ++ bits_of_bytes bytes.old) stream.new }
     ensures kept { result ≢ OK → (bytes.new ≡ bytes.old) × (stream.new ≡ stream.old) }
 {
-    stream_modes::decrypt_stream::<Width>(context, stream, bytes)
+    stream_modes::apply_stream::<Width>(Direction::Decrypt, context, stream, bytes)
 }
 
 /// Encrypts a text in place by the mode of a number, from an initialization vector, or for the counter
@@ -87,7 +88,7 @@ pub extern "C" fn cukvashe_internal_encrypt_mode(
         → InModeUnder (mode_by mode) (relation_of key) iv.now bytes.old bytes.new }
     ensures kept { result ≢ OK → bytes.new ≡ bytes.old }
 {
-    stream_modes::encrypt_mode::<Width>(context, mode, iv, bytes)
+    stream_modes::apply_mode::<Width>(Direction::Encrypt, context, mode, iv, bytes)
 }
 
 /// Decrypts a text in place by the mode of a number. The status is as of
@@ -107,5 +108,5 @@ pub extern "C" fn cukvashe_internal_decrypt_mode(
         → InModeUnder (mode_by mode) (relation_of key) iv.now bytes.new bytes.old }
     ensures kept { result ≢ OK → bytes.new ≡ bytes.old }
 {
-    stream_modes::decrypt_mode::<Width>(context, mode, iv, bytes)
+    stream_modes::apply_mode::<Width>(Direction::Decrypt, context, mode, iv, bytes)
 }

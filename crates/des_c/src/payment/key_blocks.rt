@@ -240,14 +240,14 @@ fn write_wrapped(
         → drop (length.new + 1) block.new ≡ drop (length.new + 1) block.old }
     ensures kept { result ≢ OK → (block.new ≡ block.old) × (length.new ≡ length.old) }
 {
-    let room = block.len().saturating_sub(1);
+    let capacity = block.len().saturating_sub(1);
     match wrap(
         protection,
         header,
         optional,
         key,
         padding,
-        &mut block[..room],
+        &mut block[..capacity],
     ) {
         Ok(size) => {
             block[size] = 0;
@@ -260,7 +260,7 @@ fn write_wrapped(
 
 /// Writes the key block of a header, of optional blocks, one after the other, and of a key of 8, 16
 /// or 24 bytes with random padding, under a protection key of 16 or 24 bytes; then a zero byte, for
-/// which there has to be room; and how many characters the block has without it.
+/// which there has to be space; and how many characters the block has without it.
 ///
 /// The status is that of the first fault, and then `block` and `length` stay: `ERR_VERSION` if
 /// the version is neither `B` nor `C`; `ERR_OPTIONAL_BLOCK` if the optional blocks can't be read,

@@ -6,5 +6,5 @@ use mir.Val.{SFits}
 
 pub returns-clause-bits : goal.returns-clause-bits
 returns-clause-bits c =
-    let fits : SFits w32 c.encrypt_stream_bits.result = search rules in
-    simp to_z-of_z c.encrypt_stream_bits.ensures.bits
+    let fits : SFits w32 c.apply_stream_bits.result = search rules in
+    simp to_z-of_z c.apply_stream_bits.ensures.bits

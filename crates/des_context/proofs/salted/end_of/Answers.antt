@@ -11,7 +11,7 @@ returns-in_err-last-clause-none c none key made plain opened =
 pub returns-in_err-count-clause-none : goal.returns-in_err-count-clause-none
 returns-in_err-count-clause-none c none key made =
     opened-never (AnswerBy-cipher_type (cipher_type_of_length (length key)) key made.0) c.args.vector.now c.args.encrypted.now
-    c.in_ok-last.front.now c.in_ok-last.last.now c.write_piece.new.room
+    c.in_ok-last.front.now c.in_ok-last.last.now c.write_piece.new.plain
     (IsBlock-array c.args.vector.now (search rules) c.fits-vector) c.requires.whole
     (rw (← c.as_chunks.ensures.front) c.are_blocks.ensures) (sym c.as_chunks.ensures.front ∙ c.in_ok-last.ensures.cases.0)
     (rw (← c.next_vector.ensures) (c.write_piece.ensures key made))
@@ -20,7 +20,7 @@ returns-in_err-count-clause-none c none key made =
 pub returns-clause-some : goal.returns-clause-some
 returns-clause-some c key made =
     EndsWith-padded (AnswerBy-cipher_type (cipher_type_of_length (length key)) key made.0) c.args.vector.now c.args.encrypted.now
-    c.in_ok-last.front.now c.in_ok-last.last.now c.write_piece.new.room
+    c.in_ok-last.front.now c.in_ok-last.last.now c.write_piece.new.plain
     (IsBlock-array c.args.vector.now (search rules) c.fits-vector) c.requires.whole
     (rw (← c.as_chunks.ensures.front) c.are_blocks.ensures) (sym c.as_chunks.ensures.front ∙ c.in_ok-last.ensures.cases.0)
     (rw (← c.next_vector.ensures) (c.write_piece.ensures key made)) _ c.in_ok-count.ensures.found.1

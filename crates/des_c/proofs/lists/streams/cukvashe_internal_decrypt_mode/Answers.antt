@@ -6,5 +6,5 @@ use mir.Val.{SFits}
 
 pub returns-clause-decrypted : goal.returns-clause-decrypted
 returns-clause-decrypted c =
-    let fits : SFits w32 c.decrypt_mode.result = search rules in
-    simp to_z-of_z c.decrypt_mode.ensures.decrypted
+    let fits : SFits w32 c.apply_mode.result = search rules in
+    simp to_z-of_z c.apply_mode.ensures.text

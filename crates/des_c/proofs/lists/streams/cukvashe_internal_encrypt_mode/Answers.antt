@@ -6,5 +6,5 @@ use mir.Val.{SFits}
 
 pub returns-clause-encrypted : goal.returns-clause-encrypted
 returns-clause-encrypted c =
-    let fits : SFits w32 c.encrypt_mode.result = search rules in
-    simp to_z-of_z c.encrypt_mode.ensures.encrypted
+    let fits : SFits w32 c.apply_mode.result = search rules in
+    simp to_z-of_z c.apply_mode.ensures.text

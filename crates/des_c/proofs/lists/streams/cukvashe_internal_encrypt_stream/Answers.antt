@@ -6,15 +6,15 @@ use mir.Val.{SFits}
 
 pub returns-clause-bytes : goal.returns-clause-bytes
 returns-clause-bytes c =
-    let fits : SFits w32 c.encrypt_stream.result = search rules in
-    simp to_z-of_z c.encrypt_stream.ensures.bytes
+    let fits : SFits w32 c.apply_stream.result = search rules in
+    simp to_z-of_z c.apply_stream.ensures.bytes
 
 pub returns-clause-under : goal.returns-clause-under
 returns-clause-under c =
-    let fits : SFits w32 c.encrypt_stream.result = search rules in
-    simp to_z-of_z c.encrypt_stream.ensures.under
+    let fits : SFits w32 c.apply_stream.result = search rules in
+    simp to_z-of_z c.apply_stream.ensures.under
 
 pub returns-clause-bits : goal.returns-clause-bits
 returns-clause-bits c =
-    let fits : SFits w32 c.encrypt_stream.result = search rules in
-    simp to_z-of_z c.encrypt_stream.ensures.bits
+    let fits : SFits w32 c.apply_stream.result = search rules in
+    simp to_z-of_z c.apply_stream.ensures.bits

@@ -1,0 +1,52 @@
+//! The exports of strings of Jasypt.
+
+ghost use Rattle.std.specs.Prelude.{◌≡◌, ◌≢◌, ◌≤◌, ◌↔◌, ◌⊎◌, Some, None};
+ghost use Rattle.des_columns.specs.Columns.{pieces};
+ghost use Rattle.des_columns.specs.Jasypt.{Reads};
+ghost use Rattle.des_columns.specs.Pbe.{algorithm_of};
+ghost use Rattle.des_columns.specs.Readings.{IsColumnRead};
+ghost use Rattle.des_columns.specs.declared.pbe.Algorithm.{Algorithm};
+ghost use Rattle.des_context.specs.ColumnStatuses.{IsReadStatus};
+
+use des_context::jasypt::jasypt_decrypt_values;
+use des_context::status::{ERR_ALGORITHM, ERR_COUNTS, ERR_ITERATIONS};
+
+/// Reads strings of Jasypt by the algorithm of this name, as `des_columns::jasypt::decrypt_values`
+/// does. The status is that of the first fault, and then nothing is written: `ERR_ALGORITHM` if the
+/// name is none, `ERR_ITERATIONS` if there is no iteration, or more than 2^32 - 1, `ERR_COUNTS` if the
+/// lengths do not fit; and `ERR_VALUES` if the status of some value is not `OK`.
+#[unsafe(no_mangle)]
+pub extern "C" fn cukvashe_internal_jasypt_decrypt_values(
+    algorithm: &[u8],
+    iterations: usize,
+    password: &[u8],
+    values: &[u8],
+    lengths: &[usize],
+    texts: &mut [u8],
+    text_lengths: &mut [usize],
+    statuses: &mut [i32],
+) -> i32
+    ensures algorithm { (result ≡ ERR_ALGORITHM) ↔ (algorithm_of algorithm.now ≡ None) }
+    ensures iterations { result ≢ ERR_ALGORITHM
+        → (result ≡ ERR_ITERATIONS) ↔ ((iterations ≡ 0) ⊎ (0x100000000 ≤ iterations)) }
+    ensures status { result ≢ ERR_ALGORITHM → result ≢ ERR_ITERATIONS → IsReadStatus lengths.now
+        values.now texts.old text_lengths.old statuses.old statuses.new result }
+    ensures read { result ≢ ERR_ALGORITHM → result ≢ ERR_ITERATIONS → result ≢ ERR_COUNTS
+        → (by : Algorithm) → algorithm_of algorithm.now ≡ Some by
+        → IsColumnRead (Reads by iterations password.now) (pieces lengths.now values.now)
+        texts.new text_lengths.new statuses.new }
+    ensures kept { (result ≡ ERR_ALGORITHM) ⊎ (result ≡ ERR_ITERATIONS) ⊎ (result ≡ ERR_COUNTS)
+        → (texts.new ≡ texts.old) × (text_lengths.new ≡ text_lengths.old)
+        × (statuses.new ≡ statuses.old) }
+{
+    jasypt_decrypt_values(
+        algorithm,
+        iterations,
+        password,
+        values,
+        lengths,
+        texts,
+        text_lengths,
+        statuses,
+    )
+}
