@@ -5,7 +5,7 @@ _cukvashe() {
     pin | pvv | offset | emv | key-block) command+=" ${COMP_WORDS[2]}" place=$((place - 1)) ;;
   esac
   case "$COMP_CWORD:$command" in
-    1:*) words='encrypt decrypt decrypt-pem mac check-value parity weak combine dukpt cvv pin pvv offset emv key-block' ;;
+    1:*) words='encrypt decrypt decrypt-pem decrypt-lines mac check-value parity weak combine dukpt cvv pin pvv offset emv key-block' ;;
     2:'pin '*) words='encode decode translate' ;;
     2:'pvv '*) words='make verify' ;;
     2:'offset '*) words='make verify natural' ;;
@@ -16,6 +16,11 @@ _cukvashe() {
         'encrypt:1:'* | 'decrypt:1:'*)
           words='des-ecb des-cbc des-cfb des-cfb8 des-ofb des-ctr des-ede-ecb des-ede-cbc des-ede-cfb des-ede-cfb8 des-ede-ofb des-ede-ctr
           des-ede3-ecb des-ede3-cbc des-ede3-cfb des-ede3-cfb8 des-ede3-ofb des-ede3-ctr'
+          ;;
+        'decrypt-lines:1:'*)
+          words='mysql jasypt des des/pad:pkcs des/pad:none des-cbc des-cbc/pad:pkcs des-cbc/pad:none des-ecb des-ecb/pad:pkcs
+          des-ecb/pad:none 3des 3des/pad:pkcs 3des/pad:none 3des-cbc 3des-cbc/pad:pkcs 3des-cbc/pad:none 3des-ecb 3des-ecb/pad:pkcs
+          3des-ecb/pad:none'
           ;;
         'mac:1:'*) words='cbc-mac retail cmac' ;;
         'dukpt:2:'*) words='pin mac data data-variant' ;;
@@ -35,7 +40,7 @@ _cukvashe() {
         *':--option') words='a b' ;;
         *':--show') words='fields key' ;;
         *':--version') words='B C' ;;
-        *':--any-count' | *':--any-table' | *':--base64' | *':--hex' | *':--initial-key' | *':--no-salt' | *':--progress' | *':--response' | *:*:[!-]*)
+        *':--any-count' | *':--any-table' | *':--base64' | *':--hex' | *':--initial-key' | *':--keep-going' | *':--no-salt' | *':--progress' | *':--response' | *:*:[!-]*)
           case $command in
             encrypt)
               words='--iv --padding --weak-keys --in --out --hex --progress --key-file --key-fd --key-env --password-file --password-fd
@@ -46,6 +51,10 @@ _cukvashe() {
               --password-fd --password-env --derive --any-count --no-salt --base64'
               ;;
             decrypt-pem) words='--form --any-count --in --out --password-file --password-fd --password-env' ;;
+            decrypt-lines)
+              words='--iv --algorithm --iterations --base64 --hex --keep-going --in --out --progress --key-file --key-fd --key-env
+              --password-file --password-fd --password-env'
+              ;;
             mac) words='--padding --in --length --verify --hex --key-file --key-fd --key-env' ;;
             check-value) words='--bytes --key-file --key-fd --key-env' ;;
             parity) words='--key-file --key-fd --key-env' ;;

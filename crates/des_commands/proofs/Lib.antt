@@ -2,3 +2,8 @@ pub mod DerivationTexts
 pub mod ObjectIdentifiers
 pub mod TagsOfDigits
 pub mod StreamStates
+pub mod LineReadings
+pub mod LineRuns
+pub mod LineTexts
+pub mod LinePieces
+pub mod LineEnds

@@ -31,7 +31,7 @@ HasOtherPadding key vector encrypted =
     × ((read_to : Option (List ℕ)) × (written_to : Option (List ℕ))
     × IsWronglyPadded decrypted (Cbc vector) Pkcs7 (passage_of (Some encrypted) read_to (Some []) written_to))
 
--- the fault of a private key, of one of its bytes: a list of bytes fails to grow only where memory is refused
+-- the fault of a private key, of one of its bytes: a list of bytes fails to grow only if memory is refused
 abbrev pub private_key_fault : StreamError → FaultKind
 private_key_fault (Read error) = Memory
 private_key_fault (Write error) = Memory

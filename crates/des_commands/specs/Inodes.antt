@@ -19,7 +19,7 @@ MayGroupWrite mode = bit_and mode 0o020 ≢ 0
 abbrev pub MayOthersWrite : ℕ → Type 0
 MayOthersWrite mode = bit_and mode 0o002 ≢ 0
 
--- the files that `may_create_in_sticky` (fs/namei.c) refuses, where fs.protected_regular and fs.protected_fifos are 2: they
+-- the files that `may_create_in_sticky` (fs/namei.c) refuses, if fs.protected_regular and fs.protected_fifos are 2: they
 -- are of no user who is trusted there, the folder's owner or oneself
 abbrev pub IsRefusedInSticky : (folder file : Inode) (user : ℕ) → Type 0
 IsRefusedInSticky folder file user =

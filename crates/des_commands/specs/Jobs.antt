@@ -6,9 +6,7 @@ use Rattle.des.specs.Des.{encryption, decryption}
 use Rattle.des.specs.Relations.{AnswerAlike}
 use Rattle.des.specs.TripleCiphers.{ede3_encryption, ede3_decryption, ede2_encryption, ede2_decryption}
 use Rattle.des_io.specs.Streams.{Passage, passage_of, Encrypts, Decrypts, Skips, DecryptsPart}
-use Rattle.des_modes.specs.CtrStates.{IsCtrAt}
-use Rattle.des_modes.specs.OfbStates.{IsOfbAt}
-use Rattle.des_modes.specs.CfbStates.{IsCfbAt}
+use Rattle.des_modes.specs.States.{IsCtrAt, IsOfbAt, IsCfbAt}
 use Rattle.des_modes.specs.declared.cfb.Register.{Register}
 use Rattle.des_io.specs.StreamCiphers.{Applies}
 use Rattle.des_io.specs.declared.stream_cipher.StreamCipher.{StreamCipher}
@@ -112,7 +110,7 @@ Begins Cfb8 true vector before from (EncryptCfb state) = IsRegister 1 before sta
 Begins Cfb8 false vector before from (DecryptCfb state) = IsRegister 1 before state
 Begins mode encrypts vector before from state = ⊥
 
--- the bytes of so many blocks, or of a whole stream, which has no more than 2^64 - 1
+-- the bytes of this many blocks, or of a whole stream, which has no more than 2^64 - 1
 abbrev pub bytes_of_blocks : Option ℕ → ℕ
 bytes_of_blocks None = 2 ^ 64 - 1
 bytes_of_blocks (Some count) = min (count * 8) (2 ^ 64 - 1)
@@ -122,7 +120,7 @@ abbrev pub bytes_at_most : Option BlockRange → ℕ
 bytes_at_most None = bytes_of_blocks None
 bytes_at_most (Some part) = bytes_of_blocks part.count
 
--- the vector that is the first block, where it is, and the other blocks before a part are passed over, and the state is
+-- the vector that is the first block, if it is, and the other blocks before a part are passed over, and the state is
 -- that of the part
 pub record Reaches (mode : StreamMode) (job : Job) (skipped : ℕ) (part : Option BlockRange)
     (read_from begun : Option (List ℕ)) (state : StreamCipher) : Type 0 where

@@ -12,3 +12,10 @@ pub mod PasswordArguments
 pub mod PasswordStreams
 pub mod PrivateKeys
 pub mod DecryptedKeys
+pub mod LineAnswers
+pub mod LineColumns
+pub mod LineFaults
+pub mod LineReadings
+pub mod LineRuns
+pub mod LineFormats
+pub mod LineArguments

@@ -35,7 +35,7 @@ abbrev pub IsTagOfAll : (tag_of : List ℕ → List ℕ) → (read_from read_to 
 IsTagOfAll tag_of read_from read_to tag =
     (bytes : List ℕ) × Consumes read_from read_to bytes × IsAtEnd read_to × (tag ≡ tag_of bytes)
 
--- this is the tag of the bytes that a text's digits write, where the text is known and is one of digits
+-- this is the tag of the bytes that a text's digits write, if the text is known and is one of digits
 abbrev pub IsTagOfDigits : (tag_of : List ℕ → List ℕ) → (text : Option (List ℕ)) → List ℕ → Type 0
 IsTagOfDigits tag_of text tag = IfSome (option_and_then bytes_of text) (λ bytes. tag ≡ tag_of bytes)
 

@@ -45,7 +45,7 @@ ruling_of Refuse true TwoParts = Ok (Some DoubleLength)
 ruling_of Warn true TwoParts = Ok (Some DoubleLength)
 ruling_of weak_keys encrypts verdict = Ok None
 
--- what a ruling gives, and what was written: a line, or a prefix of it, where there is a notice
+-- what a ruling gives, and what was written: a line, or a prefix of it, if there is a notice
 abbrev pub IsRuledBy : Result (Option Notice) FaultKind → List ℕ → Result (Unit {0}) FaultKind
     → Option (List ℕ) → Option (List ℕ) → Type 0
 IsRuledBy (Err kind) about result old new = (result ≡ Err kind) × (new ≡ old)

@@ -25,7 +25,7 @@ password_fault encrypts password = if encrypts && (length password == 0) then So
 
 -- ---- the salt
 
--- what is read before what is decrypted, where the file has it, and the salt
+-- what is read before what is decrypted, if the file has it, and the salt
 abbrev pub IsSalt : (encrypts is_salted : Bool) → (random : List ℕ) → Option (List ℕ) → Option (List ℕ) → Option (List ℕ)
     → Type 0
 IsSalt true is_salted random salt read_from read_to = (salt ≡ Some random) × (read_to ≡ read_from)
@@ -78,7 +78,7 @@ abbrev pub TellsOfKey : PasswordJob → Option (List ℕ) → Option (List ℕ) 
 TellsOfKey job old new =
     (new ≡ old) ⊎ ((notice : Notice) × AppendsPrefix old new (notice_line notice job.name.now))
 
--- the salt was read, where the input has one, the key was taken, and what is asked for was done by it
+-- the salt was read, if the input has one, the key was taken, and what is asked for was done by it
 pub record IsDoneByPassword (job : PasswordJob) (passage : Passage) : Type 0 where
   pub salt : Option (List ℕ)
   pub begun : Option (List ℕ)
@@ -104,7 +104,7 @@ StopsAfterSalt kind job salt passage =
     ⊎ ((stream : Job) × IsStreamOf job salt stream
     × ((IsRuled job stream.key.now (Err kind) × IsUntouched passage) ⊎ HasStopped kind stream passage))
 
--- no salt was read where there is to be one, and nothing was written; or the stream has stopped after it
+-- no salt was read if there is to be one, and nothing was written; or the stream has stopped after it
 abbrev pub StopsByPassword : FaultKind → PasswordJob → Passage → Type 0
 StopsByPassword kind job passage =
     (IsToHaveSalt job × FailsToReadSalt passage.read_from passage.read_to kind

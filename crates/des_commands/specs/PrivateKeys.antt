@@ -12,7 +12,7 @@ use Rattle.des_passwords.specs.declared.pem.Label.TheVariants.{Encrypted, Rsa, D
 
 -- ---- what is decrypted
 
--- the number of bytes before the contents of an element in DER and that of the contents, where one, two or three bytes
+-- the number of bytes before the contents of an element in DER and that of the contents, if one, two or three bytes
 -- follow the one that says so
 abbrev pub by_one : List ℕ → Option (ℕ × ℕ)
 by_one [] = None
@@ -29,7 +29,7 @@ by_three (high ∷ []) = None
 by_three (high ∷ middle ∷ []) = None
 by_three (high ∷ middle ∷ low ∷ rest) = Some (5, 65536 * high + 256 * middle + low)
 
--- the same of any element (ITU-T X.690, 8.1.3), where its length has four bytes at most
+-- the same of any element (ITU-T X.690, 8.1.3), if its length has four bytes at most
 abbrev pub extent_of : List ℕ → Option (ℕ × ℕ)
 extent_of [] = None
 extent_of (tag ∷ []) = None
@@ -88,7 +88,7 @@ with_number text number =
     if length text == 0 then first_arcs number else text ++ (codes "." ++ decimal number)
 
 -- the text of the octets that are left, after those of a text and of a number that goes on: seven bits in each, and the
--- first bit is 0 in a number's last; none where a number has more than 56 bits, or does not end
+-- first bit is 0 in a number's last; none if a number has more than 56 bits, or does not end
 unfoldable pub arcs_after : (text : List ℕ) (number : ℕ) (is_whole : Bool) → List ℕ → Option (List ℕ)
 arcs_after text number is_whole [] = if is_whole then Some text else None
 arcs_after text number is_whole (octet ∷ rest) =

@@ -29,7 +29,7 @@ use Rattle.des_lines.specs.Texts.{bytes_of, digits_fault}
 
 -- ---- words
 
--- the name of a cipher in a mode, OpenSSL's where that has one
+-- the name of a cipher in a mode, OpenSSL's if that has one
 abbrev pub cipher_word : Cipher → List ℕ
 cipher_word Des = codes "des"
 cipher_word TdesEde2 = codes "des-ede"
@@ -57,12 +57,12 @@ weak_keys_word Refuse = codes "refuse"
 weak_keys_word Warn = codes "warn"
 weak_keys_word Accept = codes "accept"
 
--- what is done with a weak key where no word says so: old data stay readable
+-- what is done with a weak key if no word says so: old data stay readable
 abbrev pub default_weak_keys : (encrypts : Bool) → WeakKeys
 default_weak_keys true = Refuse
 default_weak_keys false = Warn
 
--- the text of an option, or another where it is not given
+-- the text of an option, or another if it is not given
 abbrev pub text_or : Option (Bor (List ℕ)) → List ℕ → List ℕ
 text_or None other = other
 text_or (Some text) other = text.now
@@ -84,7 +84,7 @@ FailsAsVector text encrypts kind =
     ⊎ ((text ≢ codes "random") × (text ≢ codes "first-block")
     × (digits_fault 8 WrongVector WrongVector text ≡ Some WrongVector) × (kind ≡ WrongVector))
 
--- the vector, where the mode takes one: that of the option, by a key, or of the password
+-- the vector, if the mode takes one: that of the option, by a key, or of the password
 abbrev pub IsVectorFor : Option (Bor (List ℕ)) → Secret → (takes_vector encrypts : Bool) → Option Vector → Type 0
 IsVectorFor None secret false encrypts vector = vector ≡ None
 IsVectorFor None (Password source by) true encrypts vector = vector ≡ Some OfPassword

@@ -36,7 +36,7 @@ abbrev pub takes_part : CipherMode → Bool
 takes_part (Stream Ofb) = false
 takes_part _ = true
 
--- how the first block that is read goes on, by a vector that is random or of a password, where one is asked for. A vector
+-- how the first block that is read goes on, by a vector that is random or of a password, if one is asked for. A vector
 -- that is the first block is passed over, chained from a block of zeros
 abbrev pub begin_of : Option Vector → List ℕ → Mode
 begin_of None vector = Ecb
@@ -59,7 +59,7 @@ abbrev pub from_of : Option BlockRange → ℕ
 from_of None = 0
 from_of (Some part) = part.from
 
--- the blocks that are passed over: those before the part, and one more where the first is the vector. They are counted
+-- the blocks that are passed over: those before the part, and one more if the first is the vector. They are counted
 -- up to 2^64 - 1; no input has more
 abbrev pub blocks_before : Option Vector → Option BlockRange → ℕ
 blocks_before vector part = min (from_of part + vectors_of vector) (2 ^ 64 - 1)

@@ -3,6 +3,7 @@
 mod argument_values;
 mod grammar;
 mod key_blocks;
+pub mod lines;
 mod misuse;
 mod passwords;
 mod payment;
@@ -24,6 +25,7 @@ use des_lines::requests::{Calculation, Purpose};
 use des_payment::dukpt::MessageDirection;
 pub use grammar::{known_name, names_of, parse};
 use key_blocks::key_block_request;
+use lines::lines_request;
 use misuse::{misuse, refuse};
 use passwords::private_key_request;
 use payment::{emv_request, offset_request, pin_request, pvv_request};
@@ -159,6 +161,7 @@ pub fn command_of<'m, 'a>(matches: &'m ArgMatches<'a>) -> Result<Command<'m, 'a>
         Some(("encrypt", matches)) => Ok(Command::Stream(stream_request(true, matches)?)),
         Some(("decrypt", matches)) => Ok(Command::Stream(stream_request(false, matches)?)),
         Some(("decrypt-pem", matches)) => Ok(Command::PrivateKey(private_key_request(matches)?)),
+        Some(("decrypt-lines", matches)) => Ok(Command::Lines(lines_request(matches)?)),
         Some(("mac", matches)) => Ok(Command::Mac(mac_request(matches)?)),
         Some(("combine", matches)) => combine_request(matches),
         Some((name, matches)) => Ok(Command::Calculate(calculation_of(name, matches)?)),

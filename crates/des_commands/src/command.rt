@@ -1,10 +1,12 @@
 //! What is asked of the program.
 
+pub mod lines;
 pub mod streams;
 
 use crate::mac::Method;
 use des_lines::requests::CalculationRequest;
 use des_lines::source::Source;
+use lines::LinesRequest;
 use streams::{Output, StreamRequest};
 
 /// What a command line asks for.
@@ -20,6 +22,8 @@ pub enum Command<'m, 'a> {
     Stream(StreamRequest<'a>),
     /// A private key under a password is decrypted.
     PrivateKey(PrivateKeyRequest<'a>),
+    /// Values in lines are decrypted.
+    Lines(LinesRequest<'a>),
 }
 
 /// The form of a private key that is written.

@@ -6,6 +6,7 @@ mod arguments;
 mod command;
 mod descriptors;
 mod inputs;
+mod lines;
 mod mac;
 mod outputs;
 mod private_keys;

@@ -1,6 +1,7 @@
 //! The program: what a command line asks for is done.
 
 mod calculations;
+mod lines;
 mod mac;
 mod private_keys;
 mod streams;
@@ -14,6 +15,7 @@ use calculations::{calculation_status, parts_status};
 use des_lines::fault::{Fault, FaultKind, Misuse};
 use des_lines::report::tell;
 use des_lines::sentences::English;
+use lines::lines_status;
 use mac::mac_status;
 use private_keys::private_key_status;
 use std::process::ExitCode;
@@ -33,6 +35,7 @@ fn status_to<'m, 'a>(rt: &HostRuntime, command: &Command<'m, 'a>) -> Result<u8, 
         Command::Mac(request) => mac_status(rt, &request),
         Command::Stream(request) => stream_status(rt, &request),
         Command::PrivateKey(request) => private_key_status(rt, &request),
+        Command::Lines(request) => lines_status(rt, &request),
     }
 }
 

@@ -35,7 +35,7 @@ twice-bytes digits is =
 pub enough : (count : ℕ) → 2 ≤ count → few_fault count ≡ None
 enough count two = grind (arith, nat_tests)
 
--- so many digits write two components
+-- digits of two components, or more, are at least two components
 two-at-least : (digits bytes size : ℕ) → (size ≡ 8) ⊎ ((size ≡ 16) ⊎ (size ≡ 24)) → 4 * size ≤ digits
     → digits ≡ 2 * bytes → 2 ≤ bytes / size
 two-at-least digits bytes size (inl one) long twice = let long = rw one at long in rw one (omega arith)

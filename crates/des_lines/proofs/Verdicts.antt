@@ -58,7 +58,7 @@ is_fault Holds fault (Err error) result verifies told =
     tells_fault error result other told
     ∙ ap (λ (found : Option VerificationError). Err (VerificationFault (fault_in found))) same
 
--- the line fails by the fault, where there is one
+-- the line fails by the fault, if there is one
 pub verdict-fails : (Holds : Type 0) (fault : Option VerificationError) (outcome : Result (Unit {0}) VerificationError)
     (result : Result (Vec ℕ Global) FaultKind) → Verifies Holds fault outcome → TellsOutcome outcome result
     → FailsBy (option_map VerificationFault fault) result

@@ -51,7 +51,7 @@ header_lines header =
     ++ (field_line (codes "key-version") header.key_version
     ++ field_line (codes "exportability") (exportability_text header.exportability ∷ [])))))
 
--- the line of a key's context, where it is not storage and exchange
+-- the line of a key's context, if it is not storage and exchange
 abbrev pub context_lines : KeyContext → List ℕ
 context_lines StorageOrExchange = []
 context_lines context = field_line (codes "context") (context_text context ∷ [])

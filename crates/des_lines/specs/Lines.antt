@@ -78,7 +78,7 @@ components_fault count digits =
 
 -- ---- PIN blocks
 
--- the block of a PIN in a format, by the transaction or fill digits and the account number, where it takes them
+-- the block of a PIN in a format, by the transaction or fill digits and the account number, if it takes them
 abbrev pub IsEncoded : Format → List ℕ → List ℕ → List ℕ → List ℕ → Type 0
 IsEncoded Format0 fill account pin block = IsTheOne (IsFormat0 pin account) block
 IsEncoded Format1 fill account pin block = IsTheOne (IsFormat1 pin (fill_of fill)) block
@@ -118,7 +118,7 @@ key_for (Mac message) transaction = mac_key message transaction
 key_for (Data message) transaction = data_key message transaction
 key_for (DataVariant message) transaction = data_variant message transaction
 
--- the initial key of a serial number, where a key is that or the base derivation key
+-- the initial key of a serial number, if a key is that or the base derivation key
 abbrev pub initial_key_of : (is_initial : Bool) → List ℕ → List ℕ → List ℕ
 initial_key_of is_initial key serial = if is_initial then key else initial_key key serial
 
@@ -166,7 +166,7 @@ IsLine (PinByKey calculation) inputs line = IsPinLine calculation inputs line
 IsLine (EmvByKey calculation) inputs line = IsEmvLine calculation inputs line
 IsLine (KeyBlock calculation) inputs line = AnswersKeyBlock calculation inputs line
 
--- how a calculation fails: by its first fault, where it has one
+-- how a calculation fails: by its first fault, if it has one
 abbrev pub FailsAs : Calculation → Inputs → Result (Vec ℕ Global) FaultKind → Type 0
 FailsAs (CheckValue count) inputs result = FailsBy (key_fault None inputs.text.now) result
 FailsAs Parity inputs result = FailsBy (key_fault None inputs.text.now) result

@@ -20,7 +20,7 @@ use Rattle.des_lines.specs.Written.{Saying, AppendsLinePrefix, IsShown}
 abbrev pub IsFaultOf : CalculationRequest → FaultKind → Fault → Type 0
 IsFaultOf request kind fault = (fault.kind ≡ kind) × IsSubject request fault.about.now
 
--- the account number is refused, or else the calculation fails by its first fault, where it has one
+-- the account number is refused, or else the calculation fails by its first fault, if it has one
 abbrev pub FailsAsAsked : CalculationRequest → Inputs → Result (Vec ℕ Global) FaultKind → Type 0
 FailsAsAsked request inputs result =
     (IsTrue (request.refuses_wrong_check_digit && lacks_check_digit inputs.account.now) → result ≡ Err CheckDigit)
@@ -52,13 +52,13 @@ IsNoticed Says err_contents request account err_old err_new =
     × (IsSubject request about × AppendsLinePrefix Says CheckDigit about (err_contents err_old) (err_contents err_new)))
     × (needs_notice request account ≡ false → err_new ≡ err_old)
 
--- the answer is no: the line says that the PIN is wrong, where that is asked, or that the key is weak
+-- the answer is no: the line says that the PIN is wrong, if that is asked, or that the key is weak
 abbrev pub IsNo : Calculation → Result (Vec ℕ Global) Fault → Type 0
 IsNo Weak (Ok line) = line.items ≡ codes "weak\n"
 IsNo (Pin calculation) (Ok line) = IsTrue (is_question calculation) × (line.items ≡ codes "wrong\n")
 IsNo calculation outcome = ⊥
 
--- a run of a calculation by what was read for it: the check digit was told of where that is due, and then the line or
+-- a run of a calculation by what was read for it: the check digit was told of if that is due, and then the line or
 -- the fault was shown; the status says which, and whether the answer is no
 pub record IsRun {W E : Type 0} (Says : Saying) (out_contents : W → Option (List ℕ))
     (err_contents : E → Option (List ℕ)) (request : CalculationRequest) (inputs : Inputs) (status : ℕ)

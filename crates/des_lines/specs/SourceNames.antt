@@ -30,7 +30,7 @@ are_mostly is_hexadecimal least path =
 
 -- a path may be a secret that was typed in the place of a file's name: four decimal digits or more, as
 -- a PIN or an account number, or 15 hexadecimal digits or more, as a key, also with a word before them
--- or where a character is wrong
+-- or if a character is wrong
 abbrev pub may_be_secret : List ℕ → Bool
 may_be_secret path = are_mostly false 4 path || are_mostly true 15 path
 

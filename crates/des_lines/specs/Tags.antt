@@ -4,7 +4,7 @@ use Rattle.des_lines.specs.declared.fault.FaultKind.{FaultKind}
 use Rattle.des_lines.specs.declared.fault.FaultKind.TheVariants.{Tag}
 use Rattle.des_lines.specs.Texts.{text_fault}
 
--- the status of a program that was to write a result: 1 where the whole of it is written and the
+-- the status of a program that was to write a result: 1 if the whole of it is written and the
 -- answer is no
 abbrev pub status_after : ℕ → Bool → ℕ
 status_after written is_no = if (written == 0) && is_no then 1 else written

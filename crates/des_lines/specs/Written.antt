@@ -1,4 +1,4 @@
--- What the program writes of a result or a fault, and the status that it ends with: 0 only where
+-- What the program writes of a result or a fault, and the status that it ends with: 0 only if
 -- the whole result was written, else that of the fault.
 use Rattle.std.specs.Prelude.{◌≡◌, ◌⊎◌, ℕ, List, codes, take, Option, Result, Ok, Err}
 use Rattle.std.specs.Io.KnownBytes.{Appends}

@@ -31,7 +31,7 @@ impl Line {
     }
 }
 
-/// The line is known, and a write that it has no room for takes nothing.
+/// The line is known, and a write that does not fit takes nothing.
 impl Write for Line {
     ghost contents = { λ line. Some (take line.length line.bytes) };
 
@@ -88,8 +88,8 @@ fn write_shown<E: Write>(err: &mut E, text: &str) -> Result<(), StreamError>
         (shown_text text.now)) }
 {
     for character in text.chars() {
-        let mut room = [0; 4];
-        write_whole(err, shown(character).encode_utf8(&mut room).as_bytes())?;
+        let mut buffer = [0; 4];
+        write_whole(err, shown(character).encode_utf8(&mut buffer).as_bytes())?;
     }
     Ok(())
 }

@@ -190,7 +190,9 @@ fn file_words(fault: FileFault) -> &'static str {
         FileFault::DekVector => "the vector of DEK-Info does not have 16 hexadecimal digits",
         FileFault::EmptyLine => "no empty line follows DEK-Info",
         FileFault::Structure => "it is not the DER of an encrypted private key",
-        FileFault::Algorithm => "the algorithm is neither PBES2 nor pbeWithMD5AndDES-CBC",
+        FileFault::Algorithm => {
+            "the algorithm is neither PBES2 nor one of DES or triple DES by PKCS #5 or PKCS #12"
+        }
         FileFault::KeyDerivation => "the key is not derived by PBKDF2",
         FileFault::Iterations => "there are no iterations, or more than 10000000 (see --any-count)",
         FileFault::KeySize => "the key of the cipher does not have 24 bytes",

@@ -19,8 +19,8 @@ use des_passwords::encrypted_keys::MOST_ITERATIONS;
 // What encryption takes: `--derive` names another count.
 const ITERATIONS: u32 = 600000;
 
-// The options that name where a password is.
-const PASSWORD: [&str; 3] = ["password-file", "password-fd", "password-env"];
+/// The options that name where a password is.
+pub(super) const PASSWORD: [&str; 3] = ["password-file", "password-fd", "password-env"];
 
 // Where the password is: one place.
 fn password_of<'a>(matches: &ArgMatches<'a>) -> Result<Source<'a>, Fault<'a>> {

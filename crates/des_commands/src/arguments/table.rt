@@ -48,7 +48,7 @@ macro_rules! group {
 /// What the program's own help ends with.
 pub const STATUSES: &str = "\
 Statuses: 0 done, 1 the answer is weak or wrong, 2 arguments, keys and inputs,
-3 memory, 4 reading and writing, 5 the data. Keys, PINs, blocks and components
+3 memory, 4 reading and writing, 5 the data, 6 some lines (--keep-going). Keys, PINs, blocks and components
 are never arguments: they are in files, descriptors or variables. Options are
 not abbreviated.";
 
@@ -56,9 +56,32 @@ const WEAK_KEYS: &[&str] = &["refuse", "warn", "accept"];
 
 const PADDINGS: &[&str] = &["pkcs7", "iso7816", "zeros", "none"];
 
+const VALUE_FORMATS: &[&str] = &[
+    "mysql",
+    "jasypt",
+    "des",
+    "des/pad:pkcs",
+    "des/pad:none",
+    "des-cbc",
+    "des-cbc/pad:pkcs",
+    "des-cbc/pad:none",
+    "des-ecb",
+    "des-ecb/pad:pkcs",
+    "des-ecb/pad:none",
+    "3des",
+    "3des/pad:pkcs",
+    "3des/pad:none",
+    "3des-cbc",
+    "3des-cbc/pad:pkcs",
+    "3des-cbc/pad:none",
+    "3des-ecb",
+    "3des-ecb/pad:pkcs",
+    "3des-ecb/pad:none",
+];
+
 // `encrypt` takes `from` and `blocks` too, and does not show them: who types them is told that only
 // decryption takes a part.
-static STREAMS: Group<'static> = group! {
+static ENCRYPTION: Group<'static> = group! {
     "": "";
 
     "encrypt": "Encrypt a file or a pipe";
@@ -79,12 +102,16 @@ Limits: encrypt no more than 2^20 blocks (8 MiB) under one key, by
 NIST SP 800-67 Rev. 2, and only what an old system needs: NIST disallows
 encryption with triple DES after 2023 (SP 800-131A Rev. 2). Nothing is
 authenticated. In CFB, OFB and CTR use no vector and no counter block twice
-under one key: who has both files then has the xor of their texts.
+under one key: whoever has both files then has the xor of their texts.
 
 Example:
   echo 0123456789abcdeffedcba9876543210 >KEY
   printf 'a message' | cukvashe encrypt des-ede-cbc \\
     --iv random --key-file KEY | xxd -p";
+};
+
+static DECRYPTION: Group<'static> = group! {
+    "": "";
 
     "decrypt": "Decrypt a file or a pipe, or a part of one";
     [Cipher, {
@@ -112,6 +139,10 @@ Example:
   echo 0123456789abcdeffedcba9876543210 >KEY
   printf 1234567890abcdeff99822c1263dfada7f0373c3f4b6ba03 | xxd -r -p |
     cukvashe decrypt des-ede-cbc --iv first-block --key-file KEY --out -";
+};
+
+static PRIVATE_KEYS: Group<'static> = group! {
+    "": "";
 
     "decrypt-pem": "Decrypt a private key under a password, in PEM or DER";
     [{
@@ -126,7 +157,46 @@ Example:
     cukvashe decrypt-pem --password-file password --out - | head -n 1";
 };
 
-static KEYS: Group<'static> = group! {
+static LINES: Group<'static> = group! {
+    "": "";
+
+    "decrypt-lines": "Decrypt values of MySQL, MariaDB, pgcrypto or Jasypt, one in each line";
+    [{
+        "format": Place("FORMAT", VALUE_FORMATS) =>
+            "What wrote them: DES_ENCRYPT of MySQL and MariaDB, Jasypt, or encrypt of PostgreSQL's pgcrypto, by its type";
+        "iv": Text("DIGITS") => "Hexadecimal digits of the vector of encrypt_iv [default: zeros]";
+        "algorithm": Text("NAME") =>
+            "The algorithm of Jasypt, PBEWithMD5AndTripleDES or PBEWithSHA1AndDESede [default: PBEWithMD5AndDES]";
+        "iterations": Number("COUNT") => "The iterations of Jasypt, at most 10000000 [default: 1000]";
+        "base64": Nothing => "The values are Base64, and not hexadecimal digits; of jasypt they are without it";
+        "hex": Nothing => "Write each text as hexadecimal digits";
+        "keep-going": Nothing => "Write an empty line for a line at fault, go on, and end with 6";
+    }, Files, Progress, {
+        "key-file": Text("FILE") =>
+            "Read a key of pgcrypto as hexadecimal digits, or the server's file of keys (des-key-file) of mysql, from a \
+             file, or - for standard input; one of these is needed, or a password";
+        "key-fd": Number("N") => "Read them from an open descriptor, from its current position";
+        "key-env": Text("NAME") => "Take them from an environment variable";
+        "password-file": Text("FILE") =>
+            "Read the key string of mysql, the password of jasypt, or the characters of a key of pgcrypto, the first \
+             line of a file, or -";
+        "password-fd": Number("N") => "Read it from an open descriptor, from its current position";
+        "password-env": Text("NAME") => "Take it from an environment variable";
+    }] "\
+Blanks around a value don't count, nor does \\x or 0x before its digits. NULL,
+null, \\N and an empty line are answered by themselves. Text that is not
+printable UTF-8 is a fault without --hex, so that no digits are taken for text.
+
+Limits: a changed value decrypts to something, mostly with no fault, since
+nothing is authenticated.
+
+Example:
+  echo 'secret key' >password
+  echo FFA3B355AF8C509A975B3C4BB286B70D4C |
+    cukvashe decrypt-lines mysql --password-file password";
+};
+
+static MACS: Group<'static> = group! {
     "": "";
 
     "mac": "Print or verify the message authentication code of a file or a pipe";
@@ -144,6 +214,10 @@ static KEYS: Group<'static> = group! {
     }, Key] "Example:
   echo 0123456789abcdeffedcba9876543210 >KEY
   printf 'a message' | cukvashe mac cmac --key-file KEY";
+};
+
+static KEYS: Group<'static> = group! {
+    "": "";
 
     "check-value": "Print the check value (KCV) of a key, six digits or four";
     [{
@@ -171,6 +245,10 @@ static KEYS: Group<'static> = group! {
   echo 0123456789abcdef >one.part
   echo 1111111111111111 >two.part
   cukvashe combine --part-file one.part --part-file two.part";
+};
+
+static CARDS: Group<'static> = group! {
+    "": "";
 
     "dukpt": "Print a key of a transaction, from the base derivation key (BDK) or the initial key (ANSI X9.24-1)";
     [{
@@ -359,6 +437,19 @@ static KEY_BLOCK: Group<'static> = group! {
 
 /// The groups, in the help's order. Each is a static of its own, since the time of a proof grows by the
 /// square of what a static holds.
-pub fn groups() -> [&'static Group<'static>; 7] {
-    [&STREAMS, &KEYS, &PIN, &PVV, &OFFSET, &EMV, &KEY_BLOCK]
+pub fn groups() -> [&'static Group<'static>; 12] {
+    [
+        &ENCRYPTION,
+        &DECRYPTION,
+        &PRIVATE_KEYS,
+        &LINES,
+        &MACS,
+        &KEYS,
+        &CARDS,
+        &PIN,
+        &PVV,
+        &OFFSET,
+        &EMV,
+        &KEY_BLOCK,
+    ]
 }

@@ -203,7 +203,7 @@ pub enum Work<'a> {
     Encrypt {
         heading: &'a [u8],
     },
-    /// Decrypts, after so many blocks that are read and passed over, the whole or a part.
+    /// Decrypts the whole or a part, after a number of blocks that are read and passed over.
     Decrypt {
         skipped: u64,
         part: Option<BlockRange>,

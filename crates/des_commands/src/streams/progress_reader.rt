@@ -16,7 +16,7 @@ pub struct ProgressReader<'a, R> {
     bytes: u64,
     // The padding of what is encrypted, while the limit on blocks under one key is to be told of.
     limit: Option<Padding>,
-    // For the limit, each byte counts as so many: CFB-8 encrypts a block for each.
+    // For the limit, each byte counts as this many: CFB-8 encrypts a block for each.
     weight: u64,
     progress: Option<Progress>,
 }
@@ -43,6 +43,15 @@ fn counting_of(request: &StreamRequest) -> (Padding, u64) {
     }
 }
 
+// What tells of progress, if anything does.
+fn progress_of(rt: &HostRuntime, shows_progress: bool, total: Option<u64>) -> Option<Progress> {
+    if shows_progress {
+        Progress::begin(rt, total)
+    } else {
+        None
+    }
+}
+
 impl<'a, R: Read + Drop> ProgressReader<'a, R> {
     /// A reader of the bytes of `inner`, none of which was counted, for what is asked for. `total` is
     /// how many there are to read, if that is known.
@@ -59,11 +68,25 @@ impl<'a, R: Read + Drop> ProgressReader<'a, R> {
             bytes: 0,
             limit: request.encrypts.then_some(padding),
             weight,
-            progress: if request.shows_progress {
-                Progress::begin(rt, total)
-            } else {
-                None
-            },
+            progress: progress_of(rt, request.shows_progress, total),
+        }
+    }
+
+    /// A reader of the bytes of `inner` that tells of no limit. If `shows_progress` is set, it tells of
+    /// progress; `total` is how many bytes there are to read, if that is known.
+    pub fn of_progress(
+        rt: &'a HostRuntime,
+        inner: R,
+        shows_progress: bool,
+        total: Option<u64>,
+    ) -> ProgressReader<'a, R> {
+        ProgressReader {
+            rt,
+            inner,
+            bytes: 0,
+            limit: None,
+            weight: 1,
+            progress: progress_of(rt, shows_progress, total),
         }
     }
 
