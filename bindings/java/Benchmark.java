@@ -19,8 +19,8 @@ import javax.crypto.spec.SecretKeySpec;
 import org.bouncycastle.jce.provider.BouncyCastleProvider;
 
 /**
- * Benchmark ROUNDS: processor time of calls beside SunJCE and Bouncy Castle. Each is warmed first; then they take turns, and of its rounds the
- * least is shown.
+ * Benchmark ROUNDS: processor time of calls beside SunJCE and Bouncy Castle. Each is warmed first; then they take turns, and of its rounds
+ * the least is shown.
  */
 public final class Benchmark {
   static final byte[] KEY = HexFormat.of().parseHex("0123456789abcdef23456789abcdef01456789abcdef0123");
@@ -31,7 +31,7 @@ public final class Benchmark {
   static final Provider BC = new BouncyCastleProvider();
   static final Provider OURS = new CukvasheProvider();
   static final Provider NO_TABLES = OURS.configure("no_tables");
-  static final int[] SIZES = {8, 64, 1024, 8192, 1 << 20};
+  static final int[] SIZES = {8, 16, 64, 1024, 8192, 1 << 20};
   static final ThreadMXBean THREADS = ManagementFactory.getThreadMXBean();
   static int rounds;
 
@@ -162,7 +162,7 @@ public final class Benchmark {
     System.out.println("Java: " + System.getProperty("java.vm.name") + " " + System.getProperty("java.version"));
     System.out.println();
     System.out.println("[java]");
-    System.out.println("ns per call, DESede | | 8 bytes | 64 | 1024 | 8192 | 1 MiB");
+    System.out.println("ns per call, DESede | | 8 bytes | 16 | 64 | 1024 | 8192 | 1 MiB");
     rows("CBC decryption", (provider, size) -> cipher(provider, Cipher.DECRYPT_MODE, size), OURS, NO_TABLES, SUN, BC);
     rows("CBC encryption", (provider, size) -> cipher(provider, Cipher.ENCRYPT_MODE, size), OURS, NO_TABLES, SUN, BC);
     rows("retail MAC", Benchmark::mac, OURS, NO_TABLES, BC);

@@ -1,6 +1,10 @@
 import cukvashe.des.CukvasheProvider;
+import cukvashe.des.Passwords;
+import cukvashe.des.Records;
 import java.io.ByteArrayOutputStream;
 import java.nio.ByteBuffer;
+import java.nio.charset.StandardCharsets;
+import java.security.InvalidKeyException;
 import java.security.Key;
 import java.security.Provider;
 import java.security.Security;
@@ -12,8 +16,11 @@ import java.util.Random;
 import java.util.TreeMap;
 import javax.crypto.Cipher;
 import javax.crypto.Mac;
+import javax.crypto.SecretKeyFactory;
 import javax.crypto.ShortBufferException;
 import javax.crypto.spec.IvParameterSpec;
+import javax.crypto.spec.PBEKeySpec;
+import javax.crypto.spec.PBEParameterSpec;
 import javax.crypto.spec.SecretKeySpec;
 import org.bouncycastle.jce.provider.BouncyCastleProvider;
 
@@ -79,15 +86,15 @@ public final class Differential {
       trace.add("returned", output);
       return;
     }
-    int room = size + 3;
+    int capacity = size + 3;
     int gap = 16;
-    // A first try with too little room, after which nothing must have changed.
+    // A first try with too small an output, after which nothing must have changed.
     for (int lacks : step.lacks() > 0 ? new int[] {step.lacks(), 0} : new int[] {0}) {
-      int given = lacks == 0 ? room : Math.max(0, size - lacks);
+      int given = lacks == 0 ? capacity : Math.max(0, size - lacks);
       try {
         boolean isShared = step.way().name().startsWith("SAME");
         int at = gap + step.shift();
-        byte[] memory = new byte[2 * gap + room + step.length() + 32];
+        byte[] memory = new byte[2 * gap + capacity + step.length() + 32];
         Arrays.fill(memory, (byte) 0x55);
         System.arraycopy(input, 0, memory, gap, input.length);
         if (!isShared) {
@@ -148,7 +155,7 @@ public final class Differential {
         if (counts) {
           count("short buffer");
         }
-        // SunJCE asks of a ByteBuffer as much room as getOutputSize says, also where less is written.
+        // SunJCE asks of a ByteBuffer as much space as getOutputSize says, also where less is written.
         if (step.way() == Way.ARRAY) {
           trace.calls.add("short");
         }
@@ -353,6 +360,162 @@ public final class Differential {
     }
   }
 
+  /** Keys of any length wrapped from one vector, and unwrapped by another provider. */
+  static void wraps(int cases, Random random) throws Exception {
+    for (int number = 0; number < cases; number++) {
+      byte[] bytes = new byte[24];
+      byte[] iv = new byte[8];
+      byte[] key = new byte[8 + 8 * random.nextInt(random.nextInt(20) == 0 ? 300 : 6)];
+      random.nextBytes(bytes);
+      random.nextBytes(iv);
+      random.nextBytes(key);
+      if (random.nextInt(3) == 0) {
+        System.arraycopy(bytes, 0, bytes, 16, 8);
+      }
+      boolean isPair = random.nextBoolean() && Arrays.equals(bytes, 0, 8, bytes, 16, 24);
+      SecretKeySpec theirs = new SecretKeySpec(bytes, "DESede");
+      SecretKeySpec ours = new SecretKeySpec(bytes, 0, isPair ? 16 : 24, "DESede");
+      Key wanted = new SecretKeySpec(key, "Hmac");
+      byte[] wrapped = wrap(SUN, theirs, iv).wrap(wanted);
+      if (!Arrays.equals(wrapped, wrap(TABLES, ours, iv).wrap(wanted))) {
+        count("DIFFERS in a wrapped key");
+      }
+      Cipher atRandom = Cipher.getInstance("DESedeWrap", TABLES);
+      atRandom.init(Cipher.WRAP_MODE, ours);
+      for (Provider other : List.of(SUN, BC)) {
+        if (!unwrap(other, theirs).unwrap(atRandom.wrap(wanted), "Hmac", Cipher.SECRET_KEY).equals(wanted)) {
+          count("DIFFERS from " + other.getName() + " in an unwrapped key");
+        }
+      }
+      if (!unwrap(TABLES, ours).unwrap(wrapped, "Hmac", Cipher.SECRET_KEY).equals(wanted)) {
+        count("DIFFERS in an unwrapped key");
+      }
+      wrapped[random.nextInt(wrapped.length)] ^= (byte) (1 << random.nextInt(8));
+      try {
+        unwrap(TABLES, ours).unwrap(wrapped, "Hmac", Cipher.SECRET_KEY);
+        count("DIFFERS: a changed key is unwrapped");
+      } catch (InvalidKeyException expected) {
+        count("a changed key");
+      }
+      count("DESedeWrap");
+    }
+  }
+
+  /** Records of any number of blocks in one call, by one cipher for each; and what was given stays. */
+  static void records(int cases, Random random) throws Exception {
+    for (int number = 0; number < cases; number++) {
+      byte[] bytes = new byte[8 * (1 + random.nextInt(3))];
+      random.nextBytes(bytes);
+      byte[] three = bytes.length == 16 ? Arrays.copyOf(bytes, 24) : bytes;
+      System.arraycopy(bytes, 0, three, three.length - 8, bytes.length == 16 ? 8 : 0);
+      String name = bytes.length == 8 ? "DES" : "DESede";
+      long[] counts = random.longs(random.nextInt(30), 0, random.nextInt(5) == 0 ? 40 : 5).toArray();
+      byte[] vectors = new byte[8 * counts.length];
+      byte[] plain = new byte[8 * (int) Arrays.stream(counts).sum()];
+      random.nextBytes(vectors);
+      random.nextBytes(plain);
+      byte[] sealed = new byte[plain.length];
+      int from = 0;
+      for (int at = 0; at < counts.length; at++) {
+        Cipher cipher = Cipher.getInstance(name + "/CBC/NoPadding", SUN);
+        cipher.init(Cipher.ENCRYPT_MODE, new SecretKeySpec(three, name), new IvParameterSpec(vectors, 8 * at, 8));
+        from += cipher.doFinal(plain, from, 8 * (int) counts[at], sealed, from);
+      }
+      SecretKeySpec key = new SecretKeySpec(bytes, name);
+      byte[] given = plain.clone();
+      byte[] starts = vectors.clone();
+      if (!Arrays.equals(sealed, Records.encryptCbc(key, given, starts, counts)) || !Arrays.equals(given, plain)) {
+        count("DIFFERS in encrypted records");
+      }
+      given = sealed.clone();
+      if (!Arrays.equals(plain, Records.decryptCbc(key, given, starts, counts)) || !Arrays.equals(given, sealed)) {
+        count("DIFFERS in decrypted records");
+      }
+      if (!Arrays.equals(starts, vectors)) {
+        count("DIFFERS in the vectors of records");
+      }
+      count("records");
+    }
+  }
+
+  /** Texts under passwords, decrypted by another provider. */
+  static void passwords(int cases, Random random) throws Exception {
+    for (int number = 0; number < cases; number++) {
+      String name = List.of("PBEWithMD5AndDES", "PBEWithMD5AndTripleDES", "PBEWithSHA1AndDESede").get(random.nextInt(3));
+      byte[] salt = new byte[name.contains("SHA1") ? 8 + random.nextInt(60) : 8];
+      random.nextBytes(salt);
+      if (random.nextInt(4) == 0) {
+        System.arraycopy(salt, 0, salt, 4, 4);
+      }
+      // SunJCE of Java 17 takes ASCII alone. Bouncy Castle lacks SunJCE's own, and has no zeros at the end of an empty password.
+      boolean isAscii = !name.contains("SHA1") || random.nextBoolean();
+      char[] password = new char[random.nextInt(random.nextInt(9) == 0 ? 200 : 12)];
+      for (int at = 0; at < password.length; at++) {
+        password[at] = (char) (' ' + random.nextInt(isAscii ? 95 : 0x500));
+      }
+      List<Provider> others = new ArrayList<>(List.of(TABLES, NO_TABLES));
+      if (isAscii) {
+        others.add(SUN);
+      }
+      if (!name.equals("PBEWithMD5AndTripleDES") && password.length != 0) {
+        others.add(BC);
+      }
+      byte[] text = new byte[random.nextInt(40)];
+      random.nextBytes(text);
+      PBEParameterSpec spec = new PBEParameterSpec(salt, 1 + random.nextInt(40));
+      Cipher ours = password(random.nextBoolean() ? TABLES : NO_TABLES, name, Cipher.ENCRYPT_MODE, password, spec);
+      byte[] sealed = ours.doFinal(text);
+      spec = ours.getParameters().getParameterSpec(PBEParameterSpec.class);
+      for (Provider other : others) {
+        if (!Arrays.equals(text, password(other, name, Cipher.DECRYPT_MODE, password, spec).doFinal(sealed))) {
+          count("DIFFERS under a password: " + name + " of " + other.getName());
+        }
+      }
+      count(name);
+    }
+  }
+
+  /** Keys and vectors of passwords, which decrypt what another provider encrypted by itself. */
+  static void passwordKeys(int cases, Random random) throws Exception {
+    for (int number = 0; number < cases; number++) {
+      String name = random.nextBoolean() ? "PBEWithSHA1AndDES" : "PBEWithSHAAnd2-KeyTripleDES-CBC";
+      byte[] salt = new byte[8];
+      byte[] text = new byte[random.nextInt(40)];
+      random.nextBytes(salt);
+      random.nextBytes(text);
+      String password = "password " + number;
+      PBEParameterSpec spec = new PBEParameterSpec(salt, 1 + random.nextInt(40));
+      byte[] sealed = password(BC, name, Cipher.ENCRYPT_MODE, password.toCharArray(), spec).doFinal(text);
+      int size = name.endsWith("DES") ? 8 : 16;
+      byte[] both = Passwords.pbeKey(name, password.getBytes(StandardCharsets.US_ASCII), salt, spec.getIterationCount(), size + 8);
+      String cipher = size == 8 ? "DES" : "DESede";
+      Cipher ours = Cipher.getInstance(cipher + "/CBC/PKCS5Padding", TABLES);
+      ours.init(Cipher.DECRYPT_MODE, new SecretKeySpec(both, 0, size, cipher), new IvParameterSpec(both, size, 8));
+      if (!Arrays.equals(text, ours.doFinal(sealed))) {
+        count("DIFFERS under a key of a password: " + name);
+      }
+      count(name);
+    }
+  }
+
+  static Cipher password(Provider provider, String name, int mode, char[] password, PBEParameterSpec spec) throws Exception {
+    Cipher cipher = Cipher.getInstance(name, provider);
+    cipher.init(mode, SecretKeyFactory.getInstance(name, provider).generateSecret(new PBEKeySpec(password)), spec);
+    return cipher;
+  }
+
+  static Cipher wrap(Provider provider, Key key, byte[] iv) throws Exception {
+    Cipher cipher = Cipher.getInstance("DESedeWrap", provider);
+    cipher.init(Cipher.WRAP_MODE, key, new IvParameterSpec(iv));
+    return cipher;
+  }
+
+  static Cipher unwrap(Provider provider, Key key) throws Exception {
+    Cipher cipher = Cipher.getInstance("DESedeWrap", provider);
+    cipher.init(Cipher.UNWRAP_MODE, key);
+    return cipher;
+  }
+
   static byte[] mac(Mac mac, byte[] message, Random random) throws Exception {
     int from = 0;
     while (from < message.length) {
@@ -426,6 +589,10 @@ public final class Differential {
     ciphers(cases, random);
     macs(cases / 8, random);
     modes(cases / 8, random);
+    wraps(cases / 8, random);
+    records(cases / 8, random);
+    passwords(cases / 8, random);
+    passwordKeys(cases / 40, random);
     COUNTS.forEach((what, times) -> System.out.println(times + "\t" + what));
     for (String what : List.of("whole", "short buffer", "BadPaddingException", "IllegalBlockSizeException")) {
       if (!COUNTS.containsKey(what)) {

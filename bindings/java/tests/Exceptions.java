@@ -33,9 +33,15 @@ public final class Exceptions {
   static final byte[] KEY = HexFormat.of().parseHex("0123456789abcdef23456789abcdef01456789abcdef0123");
   static final IvParameterSpec IV = new IvParameterSpec(new byte[8]);
 
+  static String hex(byte[] bytes) {
+    return HexFormat.of().formatHex(bytes);
+  }
+
   static SecretKeySpec key(int length, String name) {
     return new SecretKeySpec(Arrays.copyOf(KEY, length), name);
   }
+
+  static final SecretKeySpec TRIPLE = key(24, "DESede");
 
   static Cipher cipher(Provider provider, String name, int mode, Key key, AlgorithmParameterSpec spec) throws Exception {
     Cipher cipher = Cipher.getInstance(name, provider);
@@ -44,7 +50,16 @@ public final class Exceptions {
   }
 
   static Cipher cbc(Provider provider, int mode, String padding) throws Exception {
-    return cipher(provider, "DESede/CBC/" + padding, mode, key(24, "DESede"), IV);
+    return cipher(provider, "DESede/CBC/" + padding, mode, TRIPLE, IV);
+  }
+
+  /** The key of zeros that are unwrapped. */
+  static Key unwrapped(Provider provider, String padding, int size, String name, int type) throws Exception {
+    return cbc(provider, Cipher.UNWRAP_MODE, padding).unwrap(new byte[size], name, type);
+  }
+
+  static SecretKeyFactory factory(Provider provider) throws Exception {
+    return SecretKeyFactory.getInstance("DESede", provider);
   }
 
   static final int ENCRYPT = Cipher.ENCRYPT_MODE;
@@ -72,53 +87,53 @@ public final class Exceptions {
       generator.initialize(new RSAKeyGenParameterSpec(1024, BigInteger.valueOf(65537)));
       return cipher(p, "DESede", ENCRYPT, generator.generateKeyPair().getPublic(), null);
     });
-    CALLS.put("ECB with IV", p -> cipher(p, "DESede/ECB/NoPadding", ENCRYPT, key(24, "DESede"), IV));
-    CALLS.put("CBC, IV of 7", p -> cipher(p, "DESede/CBC/NoPadding", ENCRYPT, key(24, "DESede"), new IvParameterSpec(new byte[7])));
-    CALLS.put("CBC, IV of 16", p -> cipher(p, "DESede/CBC/NoPadding", ENCRYPT, key(24, "DESede"), new IvParameterSpec(new byte[16])));
-    CALLS.put("CBC, other spec", p -> cipher(p, "DESede/CBC/NoPadding", ENCRYPT, key(24, "DESede"), new GCMParameterSpec(128, new byte[8])));
-    CALLS.put("CBC decrypt, spec null", p -> cipher(p, "DESede/CBC/NoPadding", DECRYPT, key(24, "DESede"), null));
+    CALLS.put("ECB with IV", p -> cipher(p, "DESede/ECB/NoPadding", ENCRYPT, TRIPLE, IV));
+    CALLS.put("CBC, IV of 7", p -> cipher(p, "DESede/CBC/NoPadding", ENCRYPT, TRIPLE, new IvParameterSpec(new byte[7])));
+    CALLS.put("CBC, IV of 16", p -> cipher(p, "DESede/CBC/NoPadding", ENCRYPT, TRIPLE, new IvParameterSpec(new byte[16])));
+    CALLS.put("CBC, other spec", p -> cipher(p, "DESede/CBC/NoPadding", ENCRYPT, TRIPLE, new GCMParameterSpec(128, new byte[8])));
+    CALLS.put("CBC decrypt, spec null", p -> cipher(p, "DESede/CBC/NoPadding", DECRYPT, TRIPLE, null));
     CALLS.put("CBC decrypt, no spec", p -> {
       Cipher cipher = Cipher.getInstance("DESede/CBC/NoPadding", p);
-      cipher.init(DECRYPT, key(24, "DESede"));
+      cipher.init(DECRYPT, TRIPLE);
       return cipher;
     });
     CALLS.put("CBC unwrap, no spec", p -> {
       Cipher cipher = Cipher.getInstance("DESede/CBC/NoPadding", p);
-      cipher.init(Cipher.UNWRAP_MODE, key(24, "DESede"));
+      cipher.init(Cipher.UNWRAP_MODE, TRIPLE);
       return cipher;
     });
     CALLS.put("CBC encrypt, no spec: length of getIV", p -> {
       Cipher cipher = Cipher.getInstance("DESede/CBC/NoPadding", p);
-      cipher.init(ENCRYPT, key(24, "DESede"));
+      cipher.init(ENCRYPT, TRIPLE);
       return cipher.getIV().length;
     });
     CALLS.put("CBC encrypt, params null", p -> {
       Cipher cipher = Cipher.getInstance("DESede/CBC/NoPadding", p);
-      cipher.init(ENCRYPT, key(24, "DESede"), (AlgorithmParameters) null);
+      cipher.init(ENCRYPT, TRIPLE, (AlgorithmParameters) null);
       return cipher.getIV().length;
     });
     CALLS.put("CBC decrypt, params of AES", p -> {
       AlgorithmParameters other = AlgorithmParameters.getInstance("AES");
       other.init(new IvParameterSpec(new byte[16]));
       Cipher cipher = Cipher.getInstance("DESede/CBC/NoPadding", p);
-      cipher.init(DECRYPT, key(24, "DESede"), other);
+      cipher.init(DECRYPT, TRIPLE, other);
       return cipher;
     });
     CALLS.put("CBC decrypt, params of GCM", p -> {
       AlgorithmParameters other = AlgorithmParameters.getInstance("GCM");
       other.init(new GCMParameterSpec(128, new byte[12]));
       Cipher cipher = Cipher.getInstance("DESede/CBC/NoPadding", p);
-      cipher.init(DECRYPT, key(24, "DESede"), other);
+      cipher.init(DECRYPT, TRIPLE, other);
       return cipher;
     });
     CALLS.put("CBC decrypt, params of SunJCE's DESede", p -> {
       AlgorithmParameters other = AlgorithmParameters.getInstance("DESede", "SunJCE");
       other.init(IV);
       Cipher cipher = Cipher.getInstance("DESede/CBC/NoPadding", p);
-      cipher.init(DECRYPT, key(24, "DESede"), other);
-      return HexFormat.of().formatHex(cipher.getParameters().getEncoded());
+      cipher.init(DECRYPT, TRIPLE, other);
+      return hex(cipher.getParameters().getEncoded());
     });
-    CALLS.put("getParameters, ECB", p -> cipher(p, "DESede/ECB/NoPadding", ENCRYPT, key(24, "DESede"), null).getParameters());
+    CALLS.put("getParameters, ECB", p -> cipher(p, "DESede/ECB/NoPadding", ENCRYPT, TRIPLE, null).getParameters());
     CALLS.put("getParameters before init", p -> Cipher.getInstance("DESede/CBC/NoPadding", p).getParameters().getAlgorithm());
     CALLS.put("getIV before init", p -> Cipher.getInstance("DESede/CBC/NoPadding", p).getIV());
     CALLS.put("getBlockSize before init", p -> Cipher.getInstance("DESede/CBC/NoPadding", p).getBlockSize());
@@ -172,17 +187,21 @@ public final class Exceptions {
     CALLS.put("update, output null", p -> cbc(p, ENCRYPT, "NoPadding").update(new byte[8], 0, 8, null, 0));
     CALLS.put("update of nothing", p -> cbc(p, ENCRYPT, "NoPadding").update(new byte[0]));
     CALLS.put("update of 1 byte", p -> cbc(p, ENCRYPT, "NoPadding").update(new byte[1]) == null ? "null" : "not null");
-    CALLS.put("update buffers, read-only output", p -> cbc(p, ENCRYPT, "NoPadding").update(ByteBuffer.allocate(8), ByteBuffer.allocate(8).asReadOnlyBuffer()));
+    CALLS.put("update buffers, read-only output", p -> {
+      return cbc(p, ENCRYPT, "NoPadding").update(ByteBuffer.allocate(8), ByteBuffer.allocate(8).asReadOnlyBuffer());
+    });
     CALLS.put("update buffers, one object", p -> {
       ByteBuffer buffer = ByteBuffer.allocate(8);
       return cbc(p, ENCRYPT, "NoPadding").update(buffer, buffer);
     });
     CALLS.put("update buffers, short", p -> cbc(p, ENCRYPT, "NoPadding").update(ByteBuffer.allocate(16), ByteBuffer.allocate(8)));
     CALLS.put("doFinal buffers, short", p -> cbc(p, ENCRYPT, "NoPadding").doFinal(ByteBuffer.allocate(16), ByteBuffer.allocate(8)));
-    CALLS.put("doFinal buffers, 15 bytes and short", p -> cbc(p, ENCRYPT, "NoPadding").doFinal(ByteBuffer.allocate(15), ByteBuffer.allocate(0)));
+    CALLS.put("doFinal buffers, 15 bytes and short", p -> {
+      return cbc(p, ENCRYPT, "NoPadding").doFinal(ByteBuffer.allocate(15), ByteBuffer.allocate(0));
+    });
     CALLS.put("doFinal, 15 bytes and short", p -> cbc(p, ENCRYPT, "NoPadding").doFinal(new byte[15], 0, 15, new byte[0], 0));
     CALLS.put("OFB, bytes of an update of 3", p -> {
-      return cipher(p, "DESede/OFB/NoPadding", ENCRYPT, key(24, "DESede"), IV).update(new byte[3]).length;
+      return cipher(p, "DESede/OFB/NoPadding", ENCRYPT, TRIPLE, IV).update(new byte[3]).length;
     });
     CALLS.put("CTR, PKCS5Padding", p -> Cipher.getInstance("DESede/CTR/PKCS5Padding", p));
     CALLS.put("updateAAD", p -> {
@@ -193,40 +212,42 @@ public final class Exceptions {
       cbc(p, ENCRYPT, "NoPadding").updateAAD(new byte[0]);
       return "none";
     });
-    CALLS.put("wrap in encryption", p -> cbc(p, ENCRYPT, "NoPadding").wrap(key(24, "DESede")));
+    CALLS.put("wrap in encryption", p -> cbc(p, ENCRYPT, "NoPadding").wrap(TRIPLE));
     CALLS.put("update in wrapping", p -> cbc(p, Cipher.WRAP_MODE, "NoPadding").update(new byte[8]));
-    CALLS.put("wrap 24", p -> cbc(p, Cipher.WRAP_MODE, "NoPadding").wrap(key(24, "DESede")).length);
+    CALLS.put("wrap 24", p -> cbc(p, Cipher.WRAP_MODE, "NoPadding").wrap(TRIPLE).length);
     CALLS.put("wrap 23, NoPadding", p -> cbc(p, Cipher.WRAP_MODE, "NoPadding").wrap(key(23, "HmacSHA1")));
     CALLS.put("wrap, no encoding", p -> cbc(p, Cipher.WRAP_MODE, "NoPadding").wrap(new NoEncoding("X", null, null)));
-    CALLS.put("unwrap SECRET", p -> cbc(p, Cipher.UNWRAP_MODE, "NoPadding").unwrap(new byte[24], "DESede", Cipher.SECRET_KEY).getEncoded().length);
-    CALLS.put("unwrap SECRET, 23 bytes", p -> cbc(p, Cipher.UNWRAP_MODE, "NoPadding").unwrap(new byte[23], "DESede", Cipher.SECRET_KEY));
-    CALLS.put("unwrap SECRET, bad padding", p -> cbc(p, Cipher.UNWRAP_MODE, "PKCS5Padding").unwrap(new byte[24], "DESede", Cipher.SECRET_KEY));
-    CALLS.put("unwrap SECRET, empty", p -> cbc(p, Cipher.UNWRAP_MODE, "NoPadding").unwrap(new byte[0], "DESede", Cipher.SECRET_KEY));
-    CALLS.put("unwrap PRIVATE, not one", p -> cbc(p, Cipher.UNWRAP_MODE, "NoPadding").unwrap(new byte[24], "RSA", Cipher.PRIVATE_KEY));
-    CALLS.put("unwrap PUBLIC, no such algorithm", p -> cbc(p, Cipher.UNWRAP_MODE, "NoPadding").unwrap(new byte[24], "XYZ", Cipher.PUBLIC_KEY));
-    CALLS.put("unwrap, type 9", p -> cbc(p, Cipher.UNWRAP_MODE, "NoPadding").unwrap(new byte[24], "DESede", 9));
-    CALLS.put("init, mode 9", p -> cipher(p, "DESede", 9, key(24, "DESede"), null));
+    CALLS.put("unwrap SECRET", p -> unwrapped(p, "NoPadding", 24, "DESede", Cipher.SECRET_KEY).getEncoded().length);
+    CALLS.put("unwrap SECRET, 23 bytes", p -> unwrapped(p, "NoPadding", 23, "DESede", Cipher.SECRET_KEY));
+    CALLS.put("unwrap SECRET, bad padding", p -> unwrapped(p, "PKCS5Padding", 24, "DESede", Cipher.SECRET_KEY));
+    CALLS.put("unwrap SECRET, empty", p -> unwrapped(p, "NoPadding", 0, "DESede", Cipher.SECRET_KEY));
+    CALLS.put("unwrap PRIVATE, not one", p -> unwrapped(p, "NoPadding", 24, "RSA", Cipher.PRIVATE_KEY));
+    CALLS.put("unwrap PUBLIC, no such algorithm", p -> unwrapped(p, "NoPadding", 24, "XYZ", Cipher.PUBLIC_KEY));
+    CALLS.put("unwrap, type 9", p -> unwrapped(p, "NoPadding", 24, "DESede", 9));
+    CALLS.put("init, mode 9", p -> cipher(p, "DESede", 9, TRIPLE, null));
+    wraps();
+    PasswordCalls.add(CALLS);
     CALLS.put("max key length", p -> Cipher.getMaxAllowedKeyLength("DESede"));
     CALLS.put("factory DES, 8", p -> SecretKeyFactory.getInstance("DES", p).generateSecret(new DESKeySpec(new byte[8])).getEncoded()[0]);
-    CALLS.put("factory DESede, DESKeySpec", p -> SecretKeyFactory.getInstance("DESede", p).generateSecret(new DESKeySpec(new byte[8])));
-    CALLS.put("factory DESede, null", p -> SecretKeyFactory.getInstance("DESede", p).generateSecret(null));
-    CALLS.put("factory DESede, SecretKeySpec 24", p -> SecretKeyFactory.getInstance("DESede", p).generateSecret(key(24, "DESede")).getEncoded().length);
+    CALLS.put("factory DESede, DESKeySpec", p -> factory(p).generateSecret(new DESKeySpec(new byte[8])));
+    CALLS.put("factory DESede, null", p -> factory(p).generateSecret(null));
+    CALLS.put("factory DESede, SecretKeySpec 24", p -> factory(p).generateSecret(TRIPLE).getEncoded().length);
     CALLS.put("factory DESede: spec of a key", p -> {
-      SecretKeyFactory factory = SecretKeyFactory.getInstance("DESede", p);
+      SecretKeyFactory factory = factory(p);
       SecretKey made = factory.generateSecret(new DESedeKeySpec(KEY));
-      return HexFormat.of().formatHex(((DESedeKeySpec) factory.getKeySpec(made, DESedeKeySpec.class)).getKey());
+      return Arrays.equals(KEY, ((DESedeKeySpec) factory.getKeySpec(made, DESedeKeySpec.class)).getKey());
     });
     CALLS.put("factory DESede: other spec class", p -> {
-      SecretKeyFactory factory = SecretKeyFactory.getInstance("DESede", p);
+      SecretKeyFactory factory = factory(p);
       return factory.getKeySpec(factory.generateSecret(new DESedeKeySpec(KEY)), DESKeySpec.class);
     });
-    CALLS.put("factory DESede: translate AES", p -> SecretKeyFactory.getInstance("DESede", p).translateKey(key(24, "AES")));
-    CALLS.put("factory DESede: translate DESede", p -> HexFormat.of().formatHex(SecretKeyFactory.getInstance("DESede", p).translateKey(key(24, "DESede")).getEncoded()));
+    CALLS.put("factory DESede: translate AES", p -> factory(p).translateKey(key(24, "AES")));
+    CALLS.put("factory DESede: translate DESede", p -> Arrays.equals(KEY, factory(p).translateKey(TRIPLE).getEncoded()));
     CALLS.put("factory DESede: translate even parity", p -> {
       SecretKey even = new SecretKeySpec(new byte[24], "DESede");
-      return HexFormat.of().formatHex(SecretKeyFactory.getInstance("DESede", p).translateKey(even).getEncoded()).substring(0, 16);
+      return hex(factory(p).translateKey(even).getEncoded()).substring(0, 16);
     });
-    CALLS.put("factory DESede: translate null", p -> SecretKeyFactory.getInstance("DESede", p).translateKey(null));
+    CALLS.put("factory DESede: translate null", p -> factory(p).translateKey(null));
     CALLS.put("generator DES", p -> KeyGenerator.getInstance("DES", p).generateKey().getEncoded().length);
     CALLS.put("generator DESede", p -> KeyGenerator.getInstance("DESede", p).generateKey().getEncoded().length);
     for (int bits : new int[] {56, 64, 112, 128, 168, 192, 100}) {
@@ -264,17 +285,24 @@ public final class Exceptions {
     CALLS.put("parameters, encoded", p -> {
       AlgorithmParameters parameters = AlgorithmParameters.getInstance("DESede", p);
       parameters.init(IV);
-      return HexFormat.of().formatHex(parameters.getEncoded());
+      return hex(parameters.getEncoded());
     });
     CALLS.put("key class survives serialization", p -> {
-      SecretKey made = SecretKeyFactory.getInstance("DESede", p).generateSecret(new DESedeKeySpec(KEY));
+      SecretKey made = factory(p).generateSecret(new DESedeKeySpec(KEY));
       var bytes = new java.io.ByteArrayOutputStream();
       new java.io.ObjectOutputStream(bytes).writeObject(made);
       Object read = new java.io.ObjectInputStream(new java.io.ByteArrayInputStream(bytes.toByteArray())).readObject();
       return made.equals(read) && read.equals(made);
     });
+    for (String name : new String[] {"DESede", "TripleDES"}) {
+      CALLS.put("key: equal to a SecretKeySpec of " + name, p -> {
+        SecretKey made = factory(p).generateSecret(new DESedeKeySpec(KEY));
+        SecretKey other = new SecretKeySpec(made.getEncoded(), name);
+        return made.equals(other) + " " + other.equals(made) + " " + (made.hashCode() == other.hashCode());
+      });
+    }
     CALLS.put("key: destroy", p -> {
-      SecretKey made = SecretKeyFactory.getInstance("DESede", p).generateSecret(new DESedeKeySpec(KEY));
+      SecretKey made = factory(p).generateSecret(new DESedeKeySpec(KEY));
       made.destroy();
       return made.isDestroyed();
     });
@@ -285,7 +313,7 @@ public final class Exceptions {
     });
     CALLS.put("Mac retail, key of 24", p -> {
       Mac mac = Mac.getInstance("ISO9797ALG3MAC", p);
-      mac.init(key(24, "DESede"));
+      mac.init(TRIPLE);
       return mac;
     });
     CALLS.put("Mac retail, key null", p -> {
@@ -307,10 +335,100 @@ public final class Exceptions {
     });
   }
 
+  static Cipher wrap(Provider provider, int mode, Key key, AlgorithmParameterSpec spec) throws Exception {
+    return cipher(provider, "DESedeWrap", mode, key, spec);
+  }
+
+  static void wraps() {
+    int wrap = Cipher.WRAP_MODE;
+    int unwrap = Cipher.UNWRAP_MODE;
+    CALLS.put("DESedeWrap, ECB", p -> Cipher.getInstance("DESedeWrap/ECB/NoPadding", p));
+    CALLS.put("DESedeWrap, CBC", p -> Cipher.getInstance("DESedeWrap/CBC/NoPadding", p));
+    CALLS.put("DESedeWrap, PKCS5Padding", p -> Cipher.getInstance("DESedeWrap/CBC/PKCS5Padding", p));
+    CALLS.put("DESedeWrap: getIV before init", p -> Cipher.getInstance("DESedeWrap", p).getIV());
+    CALLS.put("DESedeWrap: getParameters before init", p -> Cipher.getInstance("DESedeWrap", p).getParameters());
+    CALLS.put("DESedeWrap: getBlockSize", p -> Cipher.getInstance("DESedeWrap", p).getBlockSize());
+    CALLS.put("DESedeWrap: wrap before init", p -> Cipher.getInstance("DESedeWrap", p).wrap(TRIPLE));
+    CALLS.put("DESedeWrap, encryption", p -> wrap(p, ENCRYPT, TRIPLE, null));
+    CALLS.put("DESedeWrap, decryption", p -> wrap(p, DECRYPT, TRIPLE, IV));
+    CALLS.put("DESedeWrap, key of 16", p -> wrap(p, wrap, key(16, "DESede"), IV));
+    CALLS.put("DESedeWrap, key of 8", p -> wrap(p, wrap, key(8, "DESede"), IV));
+    CALLS.put("DESedeWrap, key named AES", p -> wrap(p, wrap, key(24, "AES"), IV));
+    CALLS.put("DESedeWrap, key named TripleDES", p -> wrap(p, unwrap, key(24, "TripleDES"), null));
+    CALLS.put("DESedeWrap, key without encoding", p -> wrap(p, wrap, new NoEncoding("DESede", null, null), IV));
+    CALLS.put("DESedeWrap, IV of 7", p -> wrap(p, wrap, TRIPLE, new IvParameterSpec(new byte[7])));
+    CALLS.put("DESedeWrap, other spec", p -> wrap(p, wrap, TRIPLE, new GCMParameterSpec(128, new byte[8])));
+    CALLS.put("DESedeWrap, unwrap with IV", p -> wrap(p, unwrap, TRIPLE, IV));
+    CALLS.put("DESedeWrap, wrap, params", p -> {
+      AlgorithmParameters parameters = AlgorithmParameters.getInstance("DESede", p);
+      parameters.init(new IvParameterSpec(new byte[] {1, 2, 3, 4, 5, 6, 7, 8}));
+      Cipher cipher = Cipher.getInstance("DESedeWrap", p);
+      cipher.init(wrap, TRIPLE, parameters);
+      return hex(cipher.getParameters().getEncoded());
+    });
+    CALLS.put("DESedeWrap, unwrap, params", p -> {
+      AlgorithmParameters parameters = AlgorithmParameters.getInstance("DESede", p);
+      parameters.init(IV);
+      Cipher cipher = Cipher.getInstance("DESedeWrap", p);
+      cipher.init(unwrap, TRIPLE, parameters);
+      return cipher;
+    });
+    CALLS.put("DESedeWrap, params of GCM", p -> {
+      AlgorithmParameters other = AlgorithmParameters.getInstance("GCM");
+      other.init(new GCMParameterSpec(128, new byte[12]));
+      Cipher cipher = Cipher.getInstance("DESedeWrap", p);
+      cipher.init(wrap, TRIPLE, other);
+      return cipher;
+    });
+    CALLS.put("DESedeWrap, no spec: length of getIV", p -> wrap(p, wrap, TRIPLE, null).getIV().length);
+    CALLS.put("DESedeWrap, no spec: wrapped twice alike", p -> {
+      Cipher cipher = wrap(p, wrap, TRIPLE, null);
+      return Arrays.equals(cipher.wrap(TRIPLE), cipher.wrap(TRIPLE));
+    });
+    CALLS.put("DESedeWrap, no spec: alike after init", p -> {
+      Cipher cipher = wrap(p, wrap, TRIPLE, null);
+      byte[] first = cipher.wrap(TRIPLE);
+      cipher.init(wrap, TRIPLE);
+      return Arrays.equals(first, cipher.wrap(TRIPLE));
+    });
+    CALLS.put("DESedeWrap: getOutputSize of 24", p -> wrap(p, wrap, TRIPLE, IV).getOutputSize(24));
+    CALLS.put("DESedeWrap: getOutputSize of 40, unwrap", p -> wrap(p, unwrap, TRIPLE, null).getOutputSize(40));
+    CALLS.put("DESedeWrap: getOutputSize of 7, unwrap", p -> wrap(p, unwrap, TRIPLE, null).getOutputSize(7));
+    CALLS.put("DESedeWrap: update", p -> wrap(p, wrap, TRIPLE, IV).update(new byte[8]));
+    CALLS.put("DESedeWrap: doFinal", p -> wrap(p, wrap, TRIPLE, IV).doFinal(new byte[8]));
+    CALLS.put("DESedeWrap: unwrap in wrapping", p -> wrap(p, wrap, TRIPLE, IV).unwrap(new byte[40], "DESede", Cipher.SECRET_KEY));
+    CALLS.put("DESedeWrap: wrap 24", p -> hex(wrap(p, wrap, TRIPLE, IV).wrap(TRIPLE)).substring(0, 32));
+    CALLS.put("DESedeWrap: wrap 23", p -> wrap(p, wrap, TRIPLE, IV).wrap(key(23, "HmacSHA1")));
+    CALLS.put("DESedeWrap: wrap, no encoding", p -> wrap(p, wrap, TRIPLE, IV).wrap(new NoEncoding("X", null, null)));
+    CALLS.put("DESedeWrap: unwrap", p -> unwrapped(p, 0, "DESede", Cipher.SECRET_KEY));
+    CALLS.put("DESedeWrap: unwrap, changed", p -> unwrapped(p, 1, "DESede", Cipher.SECRET_KEY));
+    CALLS.put("DESedeWrap: unwrap PRIVATE, not one", p -> unwrapped(p, 0, "RSA", Cipher.PRIVATE_KEY));
+    CALLS.put("DESedeWrap: unwrap PUBLIC, no such algorithm", p -> unwrapped(p, 0, "XYZ", Cipher.PUBLIC_KEY));
+    for (int size : new int[] {0, 8, 16, 23, 24, 39}) {
+      CALLS.put("DESedeWrap: unwrap " + size + " bytes", p -> {
+        return wrap(p, unwrap, TRIPLE, null).unwrap(new byte[size], "DESede", Cipher.SECRET_KEY);
+      });
+    }
+    CALLS.put("DESedeWrap: getIV after unwrap", p -> {
+      Cipher cipher = wrap(p, unwrap, TRIPLE, null);
+      cipher.unwrap(wrap(p, wrap, TRIPLE, IV).wrap(TRIPLE), "DESede", Cipher.SECRET_KEY);
+      return cipher.getIV() == null ? "null" : cipher.getIV().length;
+    });
+  }
+
+  /** What comes of a wrapped key whose last byte is changed by this. */
+  static Object unwrapped(Provider provider, int change, String name, int type) throws Exception {
+    byte[] wrapped = wrap(provider, Cipher.WRAP_MODE, TRIPLE, IV).wrap(TRIPLE);
+    wrapped[wrapped.length - 1] ^= (byte) change;
+    Key key = wrap(provider, Cipher.UNWRAP_MODE, TRIPLE, null).unwrap(wrapped, name, type);
+    return hex(key.getEncoded()).substring(0, 32);
+  }
+
   static String said(Call call, Provider provider) {
     try {
       Object answer = call.of(provider);
-      return answer == null ? "null" : answer instanceof Number || answer instanceof String || answer instanceof Boolean ? answer.toString() : "ok";
+      boolean isShown = answer == null || answer instanceof Number || answer instanceof String || answer instanceof Boolean;
+      return isShown ? String.valueOf(answer) : "ok";
     } catch (Throwable error) {
       return error.getClass().getSimpleName();
     }

@@ -10,6 +10,7 @@ import cukvashe.des.Emv;
 import cukvashe.des.HashFunction;
 import cukvashe.des.KeyBlock;
 import cukvashe.des.KeyBlockHeader;
+import cukvashe.des.KeyWrap;
 import cukvashe.des.Keys;
 import cukvashe.des.MacAlgorithm;
 import cukvashe.des.Macs;
@@ -260,9 +261,15 @@ public final class KnownCalls {
               ? KeyBlock.wrap(it.key(0), header, it.key(2), length, optional)
               : KeyBlock.wrap(it.key(0), header, it.key(2), length, padding, optional);
         });
+    CALLS.put("cms_wrap_key", it -> KeyWrap.wrapCms(it.key(0), it.bytes(1), (byte[]) it.named().get("iv")));
+    CALLS.put("cms_unwrap_key", it -> KeyWrap.unwrapCms(it.key(0), it.bytes(1)));
+    CALLS.put("tkw_wrap_key", it -> KeyWrap.wrapTkw(it.key(0), it.bytes(1)));
+    CALLS.put("tkw_unwrap_key", it -> KeyWrap.unwrapTkw(it.key(0), it.bytes(1)));
     CALLS.put(
         "pbkdf2", it -> Passwords.pbkdf2(it.hash(it.text(0)), it.bytes(1), it.bytes(2), it.number(3), positive(it.number(4))));
     CALLS.put("bytes_to_key", it -> Passwords.bytesToKey(it.hash(it.text(0)), it.bytes(1), it.bytes(2), positive(it.number(3))));
+    CALLS.put(
+        "pbe_key", it -> Passwords.pbeKey(it.text(0), it.bytes(1), it.bytes(2), it.number(3), positive(it.number(4))));
     CALLS.put(
         "open_salted",
         it -> {
@@ -296,11 +303,12 @@ public final class KnownCalls {
           "KeyBlockVersion", "VERSION",
           "KeyBlockField", "HEADER",
           "HashName", "HASH",
+          "AlgorithmName", "ALGORITHM",
           "IterationCount", "ITERATIONS");
 
   /** Those that are an IllegalArgumentException, or in lists another status. */
   static final List<String> OF_TYPES =
-      List.of("BlockLength", "SerialLength", "FillLength", "StateLength", "DataLength", "KeyBlockField", "KeyBlockVersion");
+      List.of("BlockLength", "VectorLength", "SerialLength", "FillLength", "StateLength", "DataLength", "KeyBlockField", "KeyBlockVersion");
 
   static final String TEXT = "\"(?:[^\"\\\\]|\\\\.)*\"";
   static final Pattern WORDS = Pattern.compile("(?:" + TEXT + "|[^\\s\"])+");

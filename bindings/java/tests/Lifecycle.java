@@ -1,13 +1,24 @@
 import cukvashe.des.CukvasheProvider;
+import cukvashe.des.Dukpt;
+import cukvashe.des.Keys;
+import cukvashe.des.MacAlgorithm;
+import cukvashe.des.Macs;
+import cukvashe.des.Records;
 import java.io.File;
+import java.lang.ref.WeakReference;
 import java.net.URL;
 import java.net.URLClassLoader;
+import java.nio.file.Files;
+import java.nio.file.Path;
 import java.security.InvalidKeyException;
 import java.security.NoSuchAlgorithmException;
 import java.security.Provider;
 import java.security.Security;
+import java.util.ArrayList;
 import java.util.Arrays;
 import java.util.HexFormat;
+import java.util.List;
+import java.util.stream.Stream;
 import javax.crypto.Cipher;
 import javax.crypto.KeyGenerator;
 import javax.crypto.Mac;
@@ -98,32 +109,66 @@ public final class Lifecycle {
       // as for any cipher that a provider does not have
     }
     try {
-      cukvashe.des.Keys.checkValue(new SecretKeySpec(KEY, "DESede"));
+      Keys.checkValue(TRIPLE);
       check(false, "a check value without a library");
     } catch (UnsatisfiedLinkError error) {
       check(error.getMessage().contains(reason), error.getMessage());
     }
   }
 
-  /** Web applications, each with the jar in a class loader of its own: all have their library. */
+  /** Web applications, each with the jar in a class loader of its own: all have their library, and none stays once it is removed. */
   static void loaders(String jar) throws Exception {
     URL[] urls = {new File(jar).toURI().toURL()};
+    List<WeakReference<ClassLoader>> loaders = new ArrayList<>();
     for (int round = 0; round < 3; round++) {
-      try (URLClassLoader loader = new URLClassLoader(urls, ClassLoader.getPlatformClassLoader())) {
-        Provider provider = (Provider) loader.loadClass("cukvashe.des.CukvasheProvider").getConstructor().newInstance();
-        check(!provider.getClass().equals(CukvasheProvider.class), "the class is that of the class path");
-        Security.insertProviderAt(provider, 1);
-        check(owner(CBC).equals("Cukvashe"), "round " + round);
-        Security.removeProvider("Cukvashe");
-      }
+      loaders.add(new WeakReference<>(application(urls)));
+    }
+    // Libraries go after their loaders, by a thread of Java's.
+    for (int round = 0; round < 500 && mapped("cukvashe") != 0; round++) {
+      System.gc();
+      Thread.sleep(20);
+    }
+    check(loaders.stream().allMatch(it -> it.get() == null), "a class loader stays");
+    check(mapped("cukvashe") == 0, "a native library stays");
+  }
+
+  static ClassLoader application(URL[] urls) throws Exception {
+    try (URLClassLoader loader = new URLClassLoader(urls, ClassLoader.getPlatformClassLoader())) {
+      Provider provider = (Provider) loader.loadClass("cukvashe.des.CukvasheProvider").getConstructor().newInstance();
+      check(!provider.getClass().equals(CukvasheProvider.class), "the class is that of the class path");
+      Security.insertProviderAt(provider, 1);
+      check(owner(CBC).equals("Cukvashe"), "another provider was taken");
+      check(mapped("cukvashe") > 0, "no native library is there");
+      Security.removeProvider("Cukvashe");
+      return loader;
     }
   }
 
-  static void descend(Cipher cipher, Mac mac, byte[] bytes, long[] counts) throws Exception {
-    cipher.update(bytes, 0, bytes.length, bytes, 0);
-    mac.update(bytes);
-    cukvashe.des.Records.decryptCbc(new SecretKeySpec(KEY, "DESede"), bytes, bytes, counts);
-    descend(cipher, mac, bytes, counts);
+  /** How many parts of this process's memory are of a file whose name has this text. */
+  static long mapped(String name) throws Exception {
+    try (Stream<String> lines = Files.lines(Path.of("/proc/self/maps"))) {
+      return lines.filter(line -> line.endsWith(".so (deleted)") && line.contains(name)).count();
+    }
+  }
+
+  static final SecretKeySpec TRIPLE = new SecretKeySpec(KEY, "DESede");
+  static final SecretKeySpec PAIR = new SecretKeySpec(KEY, 0, 16, "DESede");
+
+  /** The calls that take most of the stack, in turns, ever deeper. */
+  static void descend(int depth, Cipher cipher, Cipher stream, Mac mac, byte[] bytes, long[] counts) throws Exception {
+    switch (depth % 64) {
+      case 0 -> Macs.tags(MacAlgorithm.CMAC, TRIPLE, bytes, bytes);
+      case 32 -> Dukpt.transactionKeysFromBase(PAIR, bytes);
+      default -> {
+        switch (depth % 4) {
+          case 0 -> mac.update(bytes);
+          case 1 -> cipher.update(bytes, 0, bytes.length, bytes, 0);
+          case 2 -> stream.update(bytes, 0, bytes.length, bytes, 0);
+          default -> Records.decryptCbc(TRIPLE, bytes, bytes, counts);
+        }
+      }
+    }
+    descend(depth + 1, cipher, stream, mac, bytes, counts);
   }
 
   /** The stack ends within a call of C, or near one, at many depths: a StackOverflowError, and no crash. */
@@ -131,9 +176,11 @@ public final class Lifecycle {
     Provider ours = new CukvasheProvider();
     for (int kilobytes = 256; kilobytes < 400; kilobytes += 11) {
       Cipher cipher = Cipher.getInstance("DESede/CBC/NoPadding", ours);
-      cipher.init(Cipher.DECRYPT_MODE, new SecretKeySpec(KEY, "DESede"), new IvParameterSpec(new byte[8]));
+      cipher.init(Cipher.DECRYPT_MODE, TRIPLE, new IvParameterSpec(new byte[8]));
+      Cipher stream = Cipher.getInstance("DESede/CTR/NoPadding", ours);
+      stream.init(Cipher.ENCRYPT_MODE, TRIPLE);
       Mac mac = Mac.getInstance("DESEDECMAC", ours);
-      mac.init(new SecretKeySpec(KEY, "DESede"));
+      mac.init(TRIPLE);
       long[] counts = new long[300];
       Arrays.fill(counts, 1);
       Throwable[] thrown = new Throwable[1];
@@ -142,7 +189,7 @@ public final class Lifecycle {
               null,
               () -> {
                 try {
-                  descend(cipher, mac, new byte[2400], counts);
+                  descend(0, cipher, stream, mac, new byte[2400], counts);
                 } catch (Throwable error) {
                   thrown[0] = error;
                 }

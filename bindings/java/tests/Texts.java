@@ -14,7 +14,10 @@ import java.util.Locale;
 import javax.crypto.Cipher;
 import javax.crypto.Mac;
 import javax.crypto.SecretKey;
+import javax.crypto.SecretKeyFactory;
 import javax.crypto.spec.IvParameterSpec;
+import javax.crypto.spec.PBEKeySpec;
+import javax.crypto.spec.PBEParameterSpec;
 import javax.crypto.spec.SecretKeySpec;
 
 /** No text of an object or an exception shows a key or a PIN, and what is destroyed is refused. */
@@ -37,11 +40,16 @@ public final class Texts {
     }
     String all = String.join(" ", texts);
     String hex = HexFormat.of().formatHex(KEY);
-    for (String secret : List.of(PIN, hex, hex.substring(0, 8), Base64.getEncoder().encodeToString(KEY), Arrays.toString(KEY), "1, 35, 69")) {
+    String base64 = Base64.getEncoder().encodeToString(KEY);
+    for (String secret : List.of(PIN, hex, hex.substring(0, 8), base64, Arrays.toString(KEY), "1, 35, 69")) {
       if (all.toLowerCase(Locale.ROOT).contains(secret.toLowerCase(Locale.ROOT))) {
         throw new AssertionError(all);
       }
     }
+  }
+
+  static SecretKey password(CukvasheProvider provider, String text) throws Exception {
+    return SecretKeyFactory.getInstance("PBEWithMD5AndDES", provider).generateSecret(new PBEKeySpec(text.toCharArray()));
   }
 
   static void refused(Call call) throws Exception {
@@ -80,6 +88,14 @@ public final class Texts {
           Cipher cipher = Cipher.getInstance("DESede/CBC/NoPadding", provider);
           cipher.init(Cipher.UNWRAP_MODE, key, new IvParameterSpec(new byte[8]));
           return cipher.unwrap(KEY, "RSA", Cipher.PRIVATE_KEY);
+        });
+    shows(() -> password(provider, PIN));
+    shows(() -> password(provider, PIN + "\ud800"));
+    shows(
+        () -> {
+          Cipher cipher = Cipher.getInstance("PBEWithMD5AndDES", provider);
+          cipher.init(Cipher.ENCRYPT_MODE, password(provider, PIN), new PBEParameterSpec(Arrays.copyOf(KEY, 7), 1));
+          return cipher;
         });
     shows(
         () -> {

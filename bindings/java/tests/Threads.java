@@ -1,4 +1,5 @@
 import cukvashe.des.CukvasheProvider;
+import java.security.Key;
 import java.security.Provider;
 import java.util.Arrays;
 import java.util.HexFormat;
@@ -9,8 +10,9 @@ import javax.crypto.spec.IvParameterSpec;
 import javax.crypto.spec.SecretKeySpec;
 
 /**
- * Threads MESSAGES CALLS: each of four threads decrypts messages of its own rightly while the collector runs; then all misuse one cipher and
- * one MAC, by init too. The answers of that may be wrong and exceptions come, but no thread ends and the machine does not crash.
+ * Threads MESSAGES CALLS: each of four threads decrypts messages of its own rightly while the collector runs; then all misuse one cipher
+ * and one MAC, by init too. The answers of that may be wrong and exceptions come, but no thread ends and the machine does not crash. And a
+ * key that several wrap by one cipher is always under one of the keys that they gave it.
  */
 public final class Threads {
   static final byte[] KEY = HexFormat.of().parseHex("0123456789abcdef23456789abcdef01456789abcdef0123");
@@ -91,6 +93,31 @@ public final class Threads {
     }
   }
 
+  static void wraps(int calls, Cipher cipher) throws Exception {
+    Random random = new Random();
+    Key[] keys = {new SecretKeySpec(KEY, "DESede"), new SecretKeySpec(KEY, 0, 16, "DESede")};
+    IvParameterSpec iv = new IvParameterSpec(new byte[8]);
+    byte[][] wrapped = new byte[2][];
+    for (int which = 0; which < 2; which++) {
+      Cipher own = Cipher.getInstance("DESedeWrap", OURS);
+      own.init(Cipher.WRAP_MODE, keys[which], iv);
+      wrapped[which] = own.wrap(keys[0]);
+    }
+    for (int call = 0; call < calls; call++) {
+      byte[] made;
+      try {
+        cipher.init(Cipher.WRAP_MODE, keys[random.nextInt(2)], iv);
+        made = cipher.wrap(keys[0]);
+      } catch (IllegalStateException expected) {
+        // Cipher itself: another thread's init had begun.
+        continue;
+      }
+      if (!Arrays.equals(made, wrapped[0]) && !Arrays.equals(made, wrapped[1])) {
+        throw new AssertionError("a key is wrapped under another one than was given");
+      }
+    }
+  }
+
   public static void main(String[] arguments) throws Exception {
     four(number -> own(number, Integer.parseInt(arguments[0])));
     Cipher cipher = Cipher.getInstance("DESede/CBC/PKCS5Padding", OURS);
@@ -98,5 +125,8 @@ public final class Threads {
     cipher.init(Cipher.ENCRYPT_MODE, new SecretKeySpec(KEY, "DESede"), new IvParameterSpec(new byte[8]));
     mac.init(new SecretKeySpec(KEY, "DESede"));
     four(number -> shared(number, Integer.parseInt(arguments[1]), cipher, mac));
+    Cipher wrap = Cipher.getInstance("DESedeWrap", OURS);
+    wrap.init(Cipher.WRAP_MODE, new SecretKeySpec(KEY, "DESede"));
+    four(number -> wraps(Integer.parseInt(arguments[1]), wrap));
   }
 }

@@ -1734,6 +1734,23 @@ static jint JNICALL call_tdes_ede3_open_salted(JNIEnv *env, jclass class, jint h
   return answer;
 }
 
+static jint JNICALL call_pbe_key(JNIEnv *env, jclass class, jbyteArray algorithm, jlong iterations, jbyteArray password,
+    jbyteArray salt, jbyteArray key) {
+  (void)class;
+  struct array arrays[] = {
+    {algorithm, 1, 0, false, NULL, 0},
+    {password, 1, 0, false, NULL, 0},
+    {salt, 1, 0, false, NULL, 0},
+    {key, 1, 0, true, NULL, 0},
+  };
+  struct copies copies;
+  if (!copied(env, &copies, arrays, LENGTH_OF(arrays))) return 0;
+  int answer = cukvashe_pbe_key(arrays[0].at, arrays[0].length, (size_t)iterations, arrays[1].at, arrays[1].length,
+      arrays[2].at, arrays[2].length, arrays[3].at, arrays[3].length);
+  given_back(env, &copies, arrays, LENGTH_OF(arrays), answer == CUKVASHE_OK);
+  return answer;
+}
+
 #define CALLS_OF_HEADER \
   {(char *)"desInit", (char *)"([J[B)I", (void *)call_des_init}, \
   {(char *)"tdesEde2Init", (char *)"([J[B)I", (void *)call_tdes_ede2_init}, \
@@ -1845,4 +1862,5 @@ static jint JNICALL call_tdes_ede3_open_salted(JNIEnv *env, jclass class, jint h
   {(char *)"bytesToKey", (char *)"(I[B[B[B)I", (void *)call_bytes_to_key}, \
   {(char *)"desOpenSalted", (char *)"(IJ[B[B[B[J)I", (void *)call_des_open_salted}, \
   {(char *)"tdesEde2OpenSalted", (char *)"(IJ[B[B[B[J)I", (void *)call_tdes_ede2_open_salted}, \
-  {(char *)"tdesEde3OpenSalted", (char *)"(IJ[B[B[B[J)I", (void *)call_tdes_ede3_open_salted}
+  {(char *)"tdesEde3OpenSalted", (char *)"(IJ[B[B[B[J)I", (void *)call_tdes_ede3_open_salted}, \
+  {(char *)"pbeKey", (char *)"([BJ[B[B[B)I", (void *)call_pbe_key}

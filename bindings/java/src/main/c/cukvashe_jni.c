@@ -23,8 +23,8 @@ static void fails(JNIEnv *env, int status) {
 
 /* -- Arrays of any call -- */
 
-/* An array of Java, or null, the bytes of an element, the bytes of all where the call takes no others, else 0, and whether the call
-   writes it; then, where its copy stands, and how many elements it has. */
+/* An array of Java, the bytes of an element, the bytes of all where the call takes no others, else 0, and whether the call writes it;
+   then, where its copy stands, and how many elements it has. */
 struct array {
   jarray object;
   size_t element;
@@ -34,11 +34,11 @@ struct array {
   size_t length;
 };
 
-/* The copies stand in `room` if they fit, else in memory of malloc. The room is small, since some calls need most of the stack. */
+/* The copies stand in `buffer` if they fit, else in memory of malloc. The buffer is small, since some calls need most of the stack. */
 struct copies {
   uint8_t *memory;
   size_t size;
-  uint64_t room[128];
+  uint64_t buffer[128];
 };
 
 static size_t rounded(size_t size) {
@@ -56,23 +56,27 @@ static bool copied(JNIEnv *env, struct copies *copies, struct array *arrays, siz
   copies->size = 0;
   for (size_t at = 0; at < count; at++) {
     struct array *it = &arrays[at];
-    it->length = it->object == NULL ? 0 : (size_t)(*env)->GetArrayLength(env, it->object);
+    if (it->object == NULL) {
+      throws(env, "java/lang/NullPointerException", "an array is null");
+      return false;
+    }
+    it->length = (size_t)(*env)->GetArrayLength(env, it->object);
     if (it->size != 0 && it->size != it->length * it->element) {
       throws(env, "java/lang/IllegalArgumentException", "an array does not have the length that the call takes");
       return false;
     }
     copies->size += rounded(it->length * it->element);
   }
-  copies->memory = (uint8_t *)copies->room;
-  if (copies->size > sizeof copies->room && (copies->memory = malloc(copies->size)) == NULL) {
+  copies->memory = (uint8_t *)copies->buffer;
+  if (copies->size > sizeof copies->buffer && (copies->memory = malloc(copies->size)) == NULL) {
     throws(env, "java/lang/OutOfMemoryError", "there is no memory for the copies of arrays");
     return false;
   }
   uint8_t *next = copies->memory;
   for (size_t at = 0; at < count; at++) {
     struct array *it = &arrays[at];
-    it->at = it->object == NULL ? NULL : next;
-    if (it->object != NULL) read_array(env, it);
+    it->at = next;
+    read_array(env, it);
     next += rounded(it->length * it->element);
   }
   return true;
@@ -82,12 +86,12 @@ static bool copied(JNIEnv *env, struct copies *copies, struct array *arrays, siz
 static void given_back(JNIEnv *env, struct copies *copies, const struct array *arrays, size_t count, bool succeeded) {
   for (size_t at = 0; at < count; at++) {
     const struct array *it = &arrays[at];
-    if (!succeeded || !it->is_written || it->object == NULL) continue;
+    if (!succeeded || !it->is_written) continue;
     if (it->element == 1) (*env)->SetByteArrayRegion(env, it->object, 0, (jsize)it->length, it->at);
     else (*env)->SetLongArrayRegion(env, it->object, 0, (jsize)it->length, it->at);
   }
   cukvashe_wipe(copies->memory, copies->size);
-  if (copies->memory != (uint8_t *)copies->room) free(copies->memory);
+  if (copies->memory != (uint8_t *)copies->buffer) free(copies->memory);
 }
 
 /* The messages that stand one after the other, by the length of each; or null after an exception. */

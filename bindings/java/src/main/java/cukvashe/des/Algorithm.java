@@ -40,6 +40,13 @@ enum Algorithm {
     return bytes;
   }
 
+  /** How many bits of a key count. */
+  int bits(Key key) throws InvalidKeyException {
+    byte[] bytes = bytesOf(key);
+    Arrays.fill(bytes, (byte) 0);
+    return bytes.length * 7;
+  }
+
   static byte[] rawOf(Key key) throws InvalidKeyException {
     byte[] bytes = "RAW".equalsIgnoreCase(key.getFormat()) ? key.getEncoded() : null;
     if (bytes == null) {

@@ -17,10 +17,10 @@ public final class CardVerification {
    *     {@link Status#SERVICE_LENGTH}, {@link Status#SERVICE_DIGIT}
    */
   public static String cvv(SecretKey key, String account, String expiry, String service) throws CukvasheException {
-    try (Held heldKey = Held.key(key, 16);
-        Held made = Held.room(4)) {
-      CukvasheException.check(Native.cvv(heldKey.bytes, Held.text(account), Held.text(expiry), Held.text(service),
-          made.bytes));
+    try (Secret copiedKey = Secret.key(key, 16);
+        Secret made = Secret.buffer(4)) {
+      CukvasheException.check(Native.cvv(copiedKey.bytes, Secret.text(account), Secret.text(expiry),
+          Secret.text(service), made.bytes));
       return made.text();
     }
   }

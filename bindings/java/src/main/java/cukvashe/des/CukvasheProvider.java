@@ -8,7 +8,8 @@ import java.util.function.Function;
 
 /**
  * The provider {@code Cukvashe}: ciphers {@code DES} and {@code DESede} in ECB and CBC, without padding or with that of PKCS#5, and in CTR,
- * OFB, CFB and CFB8; CBC-MAC, retail MAC and CMAC under the names of Bouncy Castle; key factories, key generators and parameters.
+ * OFB, CFB and CFB8; {@code DESedeWrap}; encryption under passwords by SunJCE's names ({@code PBEWith..}); CBC-MAC, retail MAC and CMAC
+ * under the names of Bouncy Castle; key factories, key generators and parameters.
  *
  * <p>{@code Security.insertProviderAt(new CukvasheProvider(), 1)} or {@code security.provider.1=Cukvashe} in {@code java.security} makes it
  * the first. With the argument {@code no_tables} no call reads a table at an address that depends on a key or data: {@code new
@@ -38,10 +39,17 @@ public final class CukvasheProvider extends Provider {
       List<String> aliases = algorithm == Algorithm.DESEDE ? List.of("TripleDES") : List.of();
       Map<String, String> attributes =
           Map.of("SupportedModes", Mode.NAMES, "SupportedPaddings", "NOPADDING|PKCS5PADDING|PKCS7PADDING", "SupportedKeyFormats", "RAW");
-      add("Cipher", algorithm.title, aliases, attributes, provider -> new DesCipher(provider, algorithm));
+      add("Cipher", algorithm.title, aliases, attributes, provider -> new DesCipher(provider, algorithm, Mode.ECB));
       add("AlgorithmParameters", algorithm.title, aliases, Map.of(), provider -> new DesParameters());
       add("SecretKeyFactory", algorithm.title, aliases, Map.of(), provider -> new DesKeyFactory(algorithm));
       add("KeyGenerator", algorithm.title, aliases, Map.of(), provider -> new DesKeyGenerator(algorithm));
+    }
+    Map<String, String> attributes = Map.of("SupportedModes", "CBC", "SupportedPaddings", "NOPADDING", "SupportedKeyFormats", "RAW");
+    add("Cipher", "DESedeWrap", List.of(), attributes, WrapCipher::new);
+    for (PasswordScheme scheme : PasswordScheme.values()) {
+      add("Cipher", scheme.title, scheme.aliases(), Map.of(), provider -> new PasswordCipher(provider, scheme));
+      add("AlgorithmParameters", scheme.title, scheme.aliases(), Map.of(), provider -> new PasswordParameters());
+      add("SecretKeyFactory", scheme.title, scheme.aliases(), Map.of(), provider -> new PasswordKeyFactory(scheme));
     }
     // Not DESMAC and DESEDEMAC, whose tags have 4 bytes in Bouncy Castle.
     mac(MacAlgorithm.CBC_MAC_DES_1, "DESMAC64", "DES64");
@@ -67,7 +75,8 @@ public final class CukvasheProvider extends Provider {
     if (Native.FAULT != null) {
       return "nothing is offered: " + Native.FAULT.getMessage();
     }
-    return "DES and triple DES (ECB, CBC, CTR, OFB, CFB, CFB8), CBC-MAC, retail MAC, CMAC" + (readsTables ? "" : ", without tables");
+    String offered = "DES and triple DES (ECB, CBC, CTR, OFB, CFB, CFB8, key wrap, under passwords), CBC-MAC, retail MAC, CMAC";
+    return readsTables ? offered : offered + ", without tables";
   }
 
   boolean readsTables() {

@@ -17,7 +17,7 @@ public final class DecimalTable {
   public static DecimalTable of(String digits) throws CukvasheException {
     Native.isThere();
     byte[] table = new byte[Native.DECIMAL_TABLE_SIZE];
-    CukvasheException.check(Native.decimalTableInit(table, Held.text(digits)));
+    CukvasheException.check(Native.decimalTableInit(table, Secret.text(digits)));
     return new DecimalTable(table);
   }
 
@@ -29,7 +29,7 @@ public final class DecimalTable {
   public static DecimalTable ofAnyVariety(String digits) throws CukvasheException {
     Native.isThere();
     byte[] table = new byte[Native.DECIMAL_TABLE_SIZE];
-    CukvasheException.check(Native.decimalTableInitAny(table, Held.text(digits)));
+    CukvasheException.check(Native.decimalTableInitAny(table, Secret.text(digits)));
     return new DecimalTable(table);
   }
 }

@@ -8,15 +8,10 @@ import java.security.AlgorithmParameters;
 import java.security.InvalidAlgorithmParameterException;
 import java.security.InvalidKeyException;
 import java.security.Key;
-import java.security.KeyFactory;
 import java.security.NoSuchAlgorithmException;
 import java.security.ProviderException;
 import java.security.SecureRandom;
 import java.security.spec.AlgorithmParameterSpec;
-import java.security.spec.InvalidKeySpecException;
-import java.security.spec.InvalidParameterSpecException;
-import java.security.spec.PKCS8EncodedKeySpec;
-import java.security.spec.X509EncodedKeySpec;
 import java.util.Arrays;
 import java.util.Locale;
 import javax.crypto.BadPaddingException;
@@ -25,23 +20,21 @@ import javax.crypto.CipherSpi;
 import javax.crypto.IllegalBlockSizeException;
 import javax.crypto.NoSuchPaddingException;
 import javax.crypto.ShortBufferException;
-import javax.crypto.spec.IvParameterSpec;
-import javax.crypto.spec.SecretKeySpec;
 
 /**
  * DES and triple DES in ECB, CBC, and the modes without padding, which hold no bytes.
  *
- * <p>All work is in place: the input is copied to where the output goes, after what is held, and the blocks there are encrypted or
- * decrypted. So arrays may overlap in any way. What is held for the next call is saved before anything is written, and sizes are known
- * before: a call that lacks room changes nothing. Faults come in SunJCE's order.
+ * <p>All work is in place: the input is copied to where the output goes, after the pending bytes, and the blocks there are encrypted or
+ * decrypted. So arrays may overlap in any way. What stays pending for the next call is saved before anything is written, and sizes are
+ * known before: a call whose output is too short changes nothing. Faults come in SunJCE's order.
  */
-final class DesCipher extends CipherSpi {
+class DesCipher extends CipherSpi {
   private static final VarHandle WORDS = MethodHandles.byteArrayViewVarHandle(long[].class, ByteOrder.BIG_ENDIAN);
   private static final int BLOCK = Native.BLOCK_SIZE;
 
   private final CukvasheProvider provider;
   private final Algorithm algorithm;
-  private Mode mode = Mode.ECB;
+  private Mode mode;
   private boolean pads = true;
 
   private RoundKeys keys;
@@ -54,14 +47,15 @@ final class DesCipher extends CipherSpi {
   private final long[] stream = new long[Native.STREAM_WORDS];
 
   /** Bytes that wait for a whole block; in decryption with padding also a block that may be the last. */
-  private byte[] held = new byte[2 * BLOCK];
+  private byte[] pending = new byte[2 * BLOCK];
 
   private byte[] spare = new byte[2 * BLOCK];
   private int count;
 
-  DesCipher(CukvasheProvider provider, Algorithm algorithm) {
+  DesCipher(CukvasheProvider provider, Algorithm algorithm, Mode mode) {
     this.provider = provider;
     this.algorithm = algorithm;
+    this.mode = mode;
   }
 
   @Override
@@ -86,9 +80,7 @@ final class DesCipher extends CipherSpi {
 
   @Override
   protected int engineGetKeySize(Key key) throws InvalidKeyException {
-    byte[] bytes = algorithm.bytesOf(key);
-    Arrays.fill(bytes, (byte) 0);
-    return bytes.length * 7;
+    return algorithm.bits(key);
   }
 
   @Override
@@ -112,20 +104,7 @@ final class DesCipher extends CipherSpi {
     if (mode == Mode.ECB) {
       return null;
     }
-    byte[] bytes = hasIv ? engineGetIV() : random(null);
-    try {
-      AlgorithmParameters parameters = AlgorithmParameters.getInstance(algorithm.title, provider);
-      parameters.init(new IvParameterSpec(bytes));
-      return parameters;
-    } catch (NoSuchAlgorithmException | InvalidParameterSpecException impossible) {
-      throw new ProviderException(impossible);
-    }
-  }
-
-  private static byte[] random(SecureRandom random) {
-    byte[] bytes = new byte[BLOCK];
-    (random == null ? new SecureRandom() : random).nextBytes(bytes);
-    return bytes;
+    return Vectors.parameters(hasIv ? engineGetIV() : Vectors.random(null), algorithm, provider);
   }
 
   // -- Keys and vectors --
@@ -142,27 +121,22 @@ final class DesCipher extends CipherSpi {
   @Override
   protected void engineInit(int opmode, Key key, AlgorithmParameters parameters, SecureRandom random)
       throws InvalidKeyException, InvalidAlgorithmParameterException {
-    IvParameterSpec spec = null;
-    if (parameters != null) {
-      try {
-        spec = parameters.getParameterSpec(IvParameterSpec.class);
-      } catch (InvalidParameterSpecException error) {
-        throw new InvalidAlgorithmParameterException("the parameters have no initialization vector");
-      }
-    }
-    engineInit(opmode, key, spec, random);
+    engineInit(opmode, key, Vectors.specOf(parameters), random);
   }
 
   @Override
   protected void engineInit(int opmode, Key key, AlgorithmParameterSpec parameters, SecureRandom random)
       throws InvalidKeyException, InvalidAlgorithmParameterException {
     boolean isInverse = opmode == Cipher.DECRYPT_MODE || opmode == Cipher.UNWRAP_MODE;
-    byte[] vector = vectorOf(parameters);
+    byte[] vector = Vectors.of(parameters);
+    if (mode == Mode.ECB && vector != null) {
+      throw new InvalidAlgorithmParameterException("ECB takes no initialization vector");
+    }
     if (mode != Mode.ECB && vector == null) {
       if (isInverse) {
         throw new InvalidAlgorithmParameterException("decryption needs an initialization vector");
       }
-      vector = random(random);
+      vector = Vectors.random(random);
     }
     byte[] bytes = algorithm.bytesOf(key);
     RoundKeys made;
@@ -181,23 +155,6 @@ final class DesCipher extends CipherSpi {
     reset();
   }
 
-  private byte[] vectorOf(AlgorithmParameterSpec parameters) throws InvalidAlgorithmParameterException {
-    if (parameters == null) {
-      return null;
-    }
-    if (!(parameters instanceof IvParameterSpec)) {
-      throw new InvalidAlgorithmParameterException("the parameters are not an IvParameterSpec");
-    }
-    byte[] vector = ((IvParameterSpec) parameters).getIV();
-    if (vector.length != BLOCK) {
-      throw new InvalidAlgorithmParameterException("an initialization vector has " + BLOCK + " bytes, not " + vector.length);
-    }
-    if (mode == Mode.ECB) {
-      throw new InvalidAlgorithmParameterException("ECB takes no initialization vector");
-    }
-    return vector;
-  }
-
   private void initialized() {
     if (keys == null) {
       throw new IllegalStateException("the cipher is not initialized");
@@ -207,7 +164,7 @@ final class DesCipher extends CipherSpi {
   private void reset() {
     chain = iv;
     count = 0;
-    Arrays.fill(held, (byte) 0);
+    Arrays.fill(pending, (byte) 0);
     if (mode.isStream()) {
       Native.streamBegin(stream, mode.number, engineGetIV());
     }
@@ -237,31 +194,31 @@ final class DesCipher extends CipherSpi {
     return mode.isStream() ? most : most - most % BLOCK;
   }
 
-  private static void needs(int size, int room) throws ShortBufferException {
-    if (size > room) {
+  private static void needs(int size, int capacity) throws ShortBufferException {
+    if (size > capacity) {
       throw new ShortBufferException("the output needs " + size + " bytes");
     }
   }
 
-  /** Writes what is held and bytes of the input, {@code size} in all, and holds the other bytes. */
+  /** Writes pending bytes and bytes of the input, {@code size} in all; the other bytes are pending then. */
   private void gather(byte[] input, int offset, int length, byte[] output, int at, int size) {
     int ours = Math.min(count, size);
     int theirs = size - ours;
     int left = count - ours;
-    System.arraycopy(held, ours, spare, 0, left);
+    System.arraycopy(pending, ours, spare, 0, left);
     if (length != 0) { // else the input may be null, as Cipher.doFinal() gives it
       System.arraycopy(input, offset + theirs, spare, left, length - theirs);
       System.arraycopy(input, offset, output, at + ours, theirs);
     }
-    System.arraycopy(held, 0, output, at, ours);
-    byte[] old = held;
-    held = spare;
+    System.arraycopy(pending, 0, output, at, ours);
+    byte[] old = pending;
+    pending = spare;
     spare = old;
     Arrays.fill(spare, (byte) 0);
     count = left + length - theirs;
   }
 
-  /** Encrypts or decrypts {@code size} bytes of what is held and the input. */
+  /** Encrypts or decrypts {@code size} bytes of the pending ones and the input. */
   private void work(byte[] input, int offset, int length, byte[] output, int at, int size) {
     gather(input, offset, length, output, at, size);
     run(output, at, size);
@@ -281,10 +238,10 @@ final class DesCipher extends CipherSpi {
     return advance(input, offset, length, output, at, output.length - at);
   }
 
-  private int advance(byte[] input, int offset, int length, byte[] output, int at, int room) throws ShortBufferException {
+  private int advance(byte[] input, int offset, int length, byte[] output, int at, int capacity) throws ShortBufferException {
     initialized();
     int size = ready(Math.addExact(count, length));
-    needs(size, room);
+    needs(size, capacity);
     work(input, offset, length, output, at, size);
     return size;
   }
@@ -312,18 +269,18 @@ final class DesCipher extends CipherSpi {
     return finish(input, offset, length, output, at, output.length - at);
   }
 
-  private int finish(byte[] input, int offset, int length, byte[] output, int at, int room)
+  private int finish(byte[] input, int offset, int length, byte[] output, int at, int capacity)
       throws ShortBufferException, IllegalBlockSizeException, BadPaddingException {
     initialized();
     int total = Math.addExact(count, length);
     int padding = pads && !decrypts ? BLOCK - total % BLOCK : 0;
     // What can't be long enough is short, whatever else is wrong.
-    needs(decrypts && !mode.isStream() ? total - BLOCK : total + padding, room);
+    needs(decrypts && !mode.isStream() ? total - BLOCK : total + padding, capacity);
     whole(total);
     if (pads && decrypts && total != 0) {
-      return unpad(input, offset, length, output, at, room);
+      return unpad(input, offset, length, output, at, capacity);
     }
-    needs(total + padding, room);
+    needs(total + padding, capacity);
     gather(input, offset, length, output, at, total);
     Arrays.fill(output, at + total, at + total + padding, (byte) padding);
     run(output, at, total + padding);
@@ -338,7 +295,7 @@ final class DesCipher extends CipherSpi {
   }
 
   /** Decrypts with padding. The last block comes first, since it says how long the plaintext is. */
-  private int unpad(byte[] input, int offset, int length, byte[] output, int at, int room)
+  private int unpad(byte[] input, int offset, int length, byte[] output, int at, int capacity)
       throws ShortBufferException, BadPaddingException {
     int before = count + length - BLOCK;
     long last = keys.decrypted(word(before, input, offset));
@@ -355,7 +312,7 @@ final class DesCipher extends CipherSpi {
       throw new BadPaddingException(Status.PADDING.sentence());
     }
     int size = before + BLOCK - padding;
-    needs(size, room);
+    needs(size, capacity);
     work(input, offset, length, output, at, before);
     for (int place = 0; place < BLOCK - padding; place++) {
       output[at + before + place] = (byte) (last >>> 8 * (BLOCK - 1 - place));
@@ -364,14 +321,14 @@ final class DesCipher extends CipherSpi {
     return size;
   }
 
-  /** The block at a place of what is held and the input together. */
+  /** The block at a place of the pending bytes and the input together. */
   private long word(int place, byte[] input, int offset) {
     if (place >= count) {
       return (long) WORDS.get(input, offset + place - count);
     }
     long word = 0;
     for (int at = place; at < place + BLOCK; at++) {
-      word = word << 8 | (at < count ? held[at] : input[offset + at - count]) & 255;
+      word = word << 8 | (at < count ? pending[at] : input[offset + at - count]) & 255;
     }
     return word;
   }
@@ -441,10 +398,7 @@ final class DesCipher extends CipherSpi {
 
   @Override
   protected byte[] engineWrap(Key key) throws IllegalBlockSizeException, InvalidKeyException {
-    byte[] bytes = key.getEncoded();
-    if (bytes == null || bytes.length == 0) {
-      throw new InvalidKeyException("the key that is to be wrapped has no encoding");
-    }
+    byte[] bytes = EncodedKeys.of(key);
     try {
       return engineDoFinal(bytes, 0, bytes.length);
     } catch (BadPaddingException impossible) {
@@ -462,21 +416,6 @@ final class DesCipher extends CipherSpi {
     } catch (BadPaddingException | IllegalBlockSizeException error) {
       throw new InvalidKeyException("what is to be unwrapped is no wrapped key: " + error.getMessage(), error);
     }
-    try {
-      switch (type) {
-        case Cipher.SECRET_KEY:
-          return new SecretKeySpec(bytes, name);
-        case Cipher.PRIVATE_KEY:
-          return KeyFactory.getInstance(name).generatePrivate(new PKCS8EncodedKeySpec(bytes));
-        case Cipher.PUBLIC_KEY:
-          return KeyFactory.getInstance(name).generatePublic(new X509EncodedKeySpec(bytes));
-        default:
-          throw new InvalidKeyException("there is no type of keys " + type);
-      }
-    } catch (InvalidKeySpecException | IllegalArgumentException error) {
-      throw new InvalidKeyException("what is unwrapped is no key of " + name, error);
-    } finally {
-      Arrays.fill(bytes, (byte) 0);
-    }
+    return EncodedKeys.unwrapped(bytes, name, type);
   }
 }

@@ -5,10 +5,10 @@ import java.io.ObjectInputStream;
 import java.security.KeyRep;
 import java.security.MessageDigest;
 import java.util.Arrays;
-import java.util.Locale;
 import javax.crypto.SecretKey;
+import javax.crypto.spec.SecretKeySpec;
 
-/** A key of DES or triple DES. {@link #destroy} overwrites its bytes. */
+/** A key of DES or triple DES, or a password. {@link #destroy} overwrites its bytes. */
 final class DesKey implements SecretKey {
   private static final long serialVersionUID = 1L;
 
@@ -57,12 +57,17 @@ final class DesKey implements SecretKey {
     return isDestroyed;
   }
 
+  /** Whether a name is that of the algorithm: DESede has two. */
+  private boolean isNamed(String name) {
+    return algorithm.equalsIgnoreCase(name) || algorithm.equals(Algorithm.DESEDE.title) && Algorithm.DESEDE.isNamed(name);
+  }
+
   @Override
   public boolean equals(Object other) {
     if (this == other) {
       return true;
     }
-    if (!(other instanceof SecretKey) || !((SecretKey) other).getAlgorithm().equalsIgnoreCase(algorithm)) {
+    if (!(other instanceof SecretKey) || !isNamed(((SecretKey) other).getAlgorithm())) {
       return false;
     }
     byte[] ours = getEncoded();
@@ -75,9 +80,10 @@ final class DesKey implements SecretKey {
     return isEqual;
   }
 
+  /** That of SecretKeySpec, whose keys can be equal to this one. It takes no empty password. */
   @Override
   public synchronized int hashCode() {
-    return Arrays.hashCode(bytes) ^ algorithm.toLowerCase(Locale.ROOT).hashCode();
+    return bytes.length == 0 ? algorithm.hashCode() : new SecretKeySpec(bytes, algorithm).hashCode();
   }
 
   /** Not its bytes. */

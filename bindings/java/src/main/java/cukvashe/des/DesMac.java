@@ -44,7 +44,7 @@ final class DesMac extends MacSpi implements Cloneable {
     }
     byte[] bytes = Algorithm.rawOf(key);
     if (algorithm.number(24) < 0) {
-      bytes = Held.withoutThirdPart(bytes);
+      bytes = Secret.withoutThirdPart(bytes);
     }
     try {
       long[] made = algorithm.context(bytes, readsTables);

@@ -19,7 +19,7 @@ public final class Dukpt {
    */
   public static boolean isUsable(byte[] serial) {
     Native.isThere();
-    return Native.dukptIsUsable(Held.sized(serial, Native.DUKPT_SERIAL_SIZE, SERIAL));
+    return Native.dukptIsUsable(Secret.sized(serial, Native.DUKPT_SERIAL_SIZE, SERIAL));
   }
 
   /**
@@ -31,7 +31,7 @@ public final class Dukpt {
   public static byte[] nextSerial(byte[] serial) throws CukvasheException {
     Native.isThere();
     byte[] next = new byte[Native.DUKPT_SERIAL_SIZE];
-    CukvasheException.check(Native.dukptNextSerial(Held.sized(serial, Native.DUKPT_SERIAL_SIZE, SERIAL), next));
+    CukvasheException.check(Native.dukptNextSerial(Secret.sized(serial, Native.DUKPT_SERIAL_SIZE, SERIAL), next));
     return next;
   }
 
@@ -44,8 +44,8 @@ public final class Dukpt {
   public static byte[] transactionKeysFromBase(SecretKey base, byte[] serials) throws CukvasheException {
     int count = serials.length / Native.DUKPT_SERIAL_SIZE;
     byte[] keys = new byte[Math.multiplyExact(count, Native.DUKPT_KEY_SIZE)];
-    try (Held held = Held.key(base, Native.DUKPT_KEY_SIZE)) {
-      CukvasheException.check(Native.dukptTransactionKeysFromBase(held.bytes, serials, keys, count));
+    try (Secret secret = Secret.key(base, Native.DUKPT_KEY_SIZE)) {
+      CukvasheException.check(Native.dukptTransactionKeysFromBase(secret.bytes, serials, keys, count));
     }
     return keys;
   }
@@ -60,12 +60,8 @@ public final class Dukpt {
    * @throws IllegalArgumentException if a key serial number does not have 10 bytes
    */
   public static SecretKey initialKey(SecretKey base, byte[] serial) throws CukvasheException {
-    Held.sized(serial, 10, "a key serial number");
-    try (Held heldBase = Held.key(base, 16);
-        Held made = Held.room(16)) {
-      Native.dukptInitialKey(heldBase.bytes, serial, made.bytes);
-      return made.key();
-    }
+    Secret.sized(serial, 10, "a key serial number");
+    return Secret.derived(16, base, (key, made) -> Native.dukptInitialKey(key, serial, made));
   }
 
   /**
@@ -77,12 +73,8 @@ public final class Dukpt {
    * @throws IllegalArgumentException if a key serial number does not have 10 bytes
    */
   public static SecretKey transactionKey(SecretKey initial, byte[] serial) throws CukvasheException {
-    Held.sized(serial, 10, "a key serial number");
-    try (Held heldInitial = Held.key(initial, 16);
-        Held made = Held.room(16)) {
-      Native.dukptTransactionKey(heldInitial.bytes, serial, made.bytes);
-      return made.key();
-    }
+    Secret.sized(serial, 10, "a key serial number");
+    return Secret.derived(16, initial, (key, made) -> Native.dukptTransactionKey(key, serial, made));
   }
 
   /**
@@ -91,11 +83,7 @@ public final class Dukpt {
    * @throws CukvasheException {@link Status#KEY_LENGTH}
    */
   public static SecretKey pinKey(SecretKey transaction) throws CukvasheException {
-    try (Held heldTransaction = Held.key(transaction, 16);
-        Held made = Held.room(16)) {
-      Native.dukptPinKey(heldTransaction.bytes, made.bytes);
-      return made.key();
-    }
+    return Secret.derived(16, transaction, (key, made) -> Native.dukptPinKey(key, made));
   }
 
   /**
@@ -104,11 +92,7 @@ public final class Dukpt {
    * @throws CukvasheException {@link Status#KEY_LENGTH}
    */
   public static SecretKey macKey(SecretKey transaction, Direction direction) throws CukvasheException {
-    try (Held heldTransaction = Held.key(transaction, 16);
-        Held made = Held.room(16)) {
-      Native.dukptMacKey(heldTransaction.bytes, direction.isResponse(), made.bytes);
-      return made.key();
-    }
+    return Secret.derived(16, transaction, (key, made) -> Native.dukptMacKey(key, direction.isResponse(), made));
   }
 
   /**
@@ -117,11 +101,7 @@ public final class Dukpt {
    * @throws CukvasheException {@link Status#KEY_LENGTH}
    */
   public static SecretKey dataKey(SecretKey transaction, Direction direction) throws CukvasheException {
-    try (Held heldTransaction = Held.key(transaction, 16);
-        Held made = Held.room(16)) {
-      Native.dukptDataKey(heldTransaction.bytes, direction.isResponse(), made.bytes);
-      return made.key();
-    }
+    return Secret.derived(16, transaction, (key, made) -> Native.dukptDataKey(key, direction.isResponse(), made));
   }
 
   /**
@@ -131,11 +111,7 @@ public final class Dukpt {
    * @throws CukvasheException {@link Status#KEY_LENGTH}
    */
   public static SecretKey dataVariant(SecretKey transaction, Direction direction) throws CukvasheException {
-    try (Held heldTransaction = Held.key(transaction, 16);
-        Held made = Held.room(16)) {
-      Native.dukptDataVariant(heldTransaction.bytes, direction.isResponse(), made.bytes);
-      return made.key();
-    }
+    return Secret.derived(16, transaction, (key, made) -> Native.dukptDataVariant(key, direction.isResponse(), made));
   }
   // This ends what bindings/describe made.
 }

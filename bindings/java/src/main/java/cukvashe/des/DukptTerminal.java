@@ -46,10 +46,10 @@ public final class DukptTerminal implements Destroyable {
    * @throws IllegalArgumentException if a key serial number does not have 10 bytes
    */
   public static DukptTerminal of(SecretKey initial, byte[] serial) throws CukvasheException {
-    Held.sized(serial, Native.DUKPT_SERIAL_SIZE, "a key serial number");
+    Secret.sized(serial, Native.DUKPT_SERIAL_SIZE, "a key serial number");
     byte[] state = new byte[Native.DUKPT_TERMINAL_SIZE];
-    try (Held held = Held.key(initial, Native.DUKPT_KEY_SIZE)) {
-      Native.dukptTerminalInit(state, held.bytes, serial);
+    try (Secret secret = Secret.key(initial, Native.DUKPT_KEY_SIZE)) {
+      Native.dukptTerminalInit(state, secret.bytes, serial);
     }
     return new DukptTerminal(state);
   }
@@ -61,7 +61,7 @@ public final class DukptTerminal implements Destroyable {
    */
   public static DukptTerminal ofState(byte[] state) {
     Native.isThere();
-    return new DukptTerminal(Held.sized(state, Native.DUKPT_TERMINAL_SIZE, "the state of a terminal").clone());
+    return new DukptTerminal(Secret.sized(state, Native.DUKPT_TERMINAL_SIZE, "the state of a terminal").clone());
   }
 
   /** The state, which is secret: store it before you use a key, or that is used twice. */
@@ -82,7 +82,7 @@ public final class DukptTerminal implements Destroyable {
       throw new IllegalStateException("the terminal is destroyed");
     }
     byte[] serial = new byte[Native.DUKPT_SERIAL_SIZE];
-    try (Held made = Held.room(Native.DUKPT_KEY_SIZE)) {
+    try (Secret made = Secret.buffer(Native.DUKPT_KEY_SIZE)) {
       CukvasheException.check(Native.dukptTerminalNextKey(state, serial, made.bytes));
       return new Transaction(serial, made.key());
     }

@@ -16,11 +16,8 @@ public final class Emv {
    *     {@link Status#ACCOUNT_DIGIT}, {@link Status#SEQUENCE_LENGTH}, {@link Status#SEQUENCE_DIGIT}
    */
   public static SecretKey cardKey(SecretKey issuer, String account, String sequence) throws CukvasheException {
-    try (Held heldIssuer = Held.key(issuer, 16);
-        Held made = Held.room(16)) {
-      CukvasheException.check(Native.emvCardKey(heldIssuer.bytes, Held.text(account), Held.text(sequence), made.bytes));
-      return made.key();
-    }
+    return Secret.derived(16, issuer, (key, made) ->
+        CukvasheException.check(Native.emvCardKey(key, Secret.text(account), Secret.text(sequence), made)));
   }
 
   /**
@@ -31,12 +28,8 @@ public final class Emv {
    *     {@link Status#ACCOUNT_DIGIT}, {@link Status#SEQUENCE_LENGTH}, {@link Status#SEQUENCE_DIGIT}
    */
   public static SecretKey cardKeyB(SecretKey issuer, String account, String sequence) throws CukvasheException {
-    try (Held heldIssuer = Held.key(issuer, 16);
-        Held made = Held.room(16)) {
-      CukvasheException.check(Native.emvCardKeyB(heldIssuer.bytes, Held.text(account), Held.text(sequence),
-          made.bytes));
-      return made.key();
-    }
+    return Secret.derived(16, issuer, (key, made) ->
+        CukvasheException.check(Native.emvCardKeyB(key, Secret.text(account), Secret.text(sequence), made)));
   }
 
   /**
@@ -47,12 +40,8 @@ public final class Emv {
    * @throws IllegalArgumentException if a transaction counter does not have 2 bytes
    */
   public static SecretKey applicationKey(SecretKey card, byte[] counter) throws CukvasheException {
-    Held.sized(counter, 2, "a transaction counter");
-    try (Held heldCard = Held.key(card, 16);
-        Held made = Held.room(16)) {
-      Native.emvApplicationKey(heldCard.bytes, counter, made.bytes);
-      return made.key();
-    }
+    Secret.sized(counter, 2, "a transaction counter");
+    return Secret.derived(16, card, (key, made) -> Native.emvApplicationKey(key, counter, made));
   }
 
   /**
@@ -63,12 +52,8 @@ public final class Emv {
    * @throws IllegalArgumentException if block of a session does not have 8 bytes
    */
   public static SecretKey sessionKey(SecretKey card, byte[] block) throws CukvasheException {
-    Held.sized(block, 8, "the block of a session");
-    try (Held heldCard = Held.key(card, 16);
-        Held made = Held.room(16)) {
-      Native.emvSessionKey(heldCard.bytes, block, made.bytes);
-      return made.key();
-    }
+    Secret.sized(block, 8, "the block of a session");
+    return Secret.derived(16, card, (key, made) -> Native.emvSessionKey(key, block, made));
   }
 
   /**
@@ -78,9 +63,9 @@ public final class Emv {
    * @throws CukvasheException {@link Status#KEY_LENGTH}
    */
   public static byte[] applicationCryptogram(SecretKey session, byte[] data) throws CukvasheException {
-    try (Held heldSession = Held.key(session, 16);
-        Held made = Held.room(8)) {
-      Native.emvApplicationCryptogram(heldSession.bytes, data, made.bytes);
+    try (Secret copiedSession = Secret.key(session, 16);
+        Secret made = Secret.buffer(8)) {
+      Native.emvApplicationCryptogram(copiedSession.bytes, data, made.bytes);
       return made.copy();
     }
   }
@@ -94,11 +79,11 @@ public final class Emv {
    *     not have 2 bytes
    */
   public static byte[] response1(SecretKey session, byte[] cryptogram, byte[] code) throws CukvasheException {
-    Held.sized(cryptogram, 8, "an application cryptogram");
-    Held.sized(code, 2, "a response code");
-    try (Held heldSession = Held.key(session, 16);
-        Held made = Held.room(8)) {
-      Native.emvResponse1(heldSession.bytes, cryptogram, code, made.bytes);
+    Secret.sized(cryptogram, 8, "an application cryptogram");
+    Secret.sized(code, 2, "a response code");
+    try (Secret copiedSession = Secret.key(session, 16);
+        Secret made = Secret.buffer(8)) {
+      Native.emvResponse1(copiedSession.bytes, cryptogram, code, made.bytes);
       return made.copy();
     }
   }
@@ -113,11 +98,11 @@ public final class Emv {
    */
   public static byte[] response2(SecretKey session, byte[] cryptogram, byte[] status,
       byte[] data) throws CukvasheException {
-    Held.sized(cryptogram, 8, "an application cryptogram");
-    Held.sized(status, 4, "a card status update");
-    try (Held heldSession = Held.key(session, 16);
-        Held made = Held.room(4)) {
-      CukvasheException.check(Native.emvResponse2(heldSession.bytes, cryptogram, status, data, made.bytes));
+    Secret.sized(cryptogram, 8, "an application cryptogram");
+    Secret.sized(status, 4, "a card status update");
+    try (Secret copiedSession = Secret.key(session, 16);
+        Secret made = Secret.buffer(4)) {
+      CukvasheException.check(Native.emvResponse2(copiedSession.bytes, cryptogram, status, data, made.bytes));
       return made.copy();
     }
   }

@@ -69,15 +69,15 @@ public final class KeyBlock {
     return key;
   }
 
-  private static Held protection(SecretKey key) {
-    return Held.of(Held.withoutThirdPart(Held.raw(key)));
+  private static Secret protection(SecretKey key) {
+    return Secret.of(Secret.withoutThirdPart(Secret.raw(key)));
   }
 
   private static byte[] text(String block) throws CukvasheException {
     if (block.chars().anyMatch(character -> character > 127)) {
       throw new CukvasheException(Status.KEY_BLOCK_DIGIT);
     }
-    return Held.text(block);
+    return Secret.text(block);
   }
 
   /**
@@ -90,9 +90,9 @@ public final class KeyBlock {
   public static KeyBlock unwrap(SecretKey protection, String block) throws CukvasheException {
     byte[] fields = new byte[Native.KEY_BLOCK_FIELDS_SIZE];
     long[] length = new long[1];
-    try (Held held = protection(protection);
-        Held made = Held.room(Native.TDES_EDE3_KEY_SIZE)) {
-      CukvasheException.check(Native.keyBlockUnwrap(held.bytes, text(block), fields, made.bytes, length));
+    try (Secret kbpk = protection(protection);
+        Secret made = Secret.buffer(Native.TDES_EDE3_KEY_SIZE)) {
+      CukvasheException.check(Native.keyBlockUnwrap(kbpk.bytes, text(block), fields, made.bytes, length));
       return new KeyBlock(KeyBlockHeader.of(fields), made.key((int) length[0]));
     }
   }
@@ -130,13 +130,13 @@ public final class KeyBlock {
     }
     byte[] text = new byte[Native.KEY_BLOCK_SIZE];
     long[] written = new long[1];
-    try (Held held = protection(protection);
-        Held secret = Held.key(key, length);
-        Held random = Held.of(padding.clone())) {
+    try (Secret kbpk = protection(protection);
+        Secret secret = Secret.key(key, length);
+        Secret random = Secret.of(padding.clone())) {
       CukvasheException.check(
-          Native.keyBlockWrap(held.bytes, header.struct(), Held.text(blocks.toString()), secret.bytes, random.bytes, text, written));
+          Native.keyBlockWrap(kbpk.bytes, header.struct(), Secret.text(blocks.toString()), secret.bytes, random.bytes, text, written));
     }
-    return Held.of(text).text();
+    return Secret.of(text).text();
   }
 
   /**
@@ -183,7 +183,7 @@ public final class KeyBlock {
       }
       CukvasheException.check(status);
       int begin = (int) offset[0];
-      found.add(new Optional(Held.of(name.clone()).text(), block.substring(begin, begin + (int) length[0])));
+      found.add(new Optional(Secret.of(name.clone()).text(), block.substring(begin, begin + (int) length[0])));
     }
   }
 }

@@ -39,7 +39,7 @@ public final class KeyBlockHeader {
   }
 
   byte[] struct() {
-    byte[] characters = Held.text(fields);
+    byte[] characters = Secret.text(fields);
     byte[] struct = new byte[Native.KEY_BLOCK_FIELDS_SIZE];
     for (int at = 0; at < PLACES.length; at++) {
       struct[PLACES[at]] = characters[at];

@@ -25,8 +25,8 @@ public final class Keys {
    * @throws CukvasheException {@link Status#KEY_LENGTH}
    */
   public static boolean isWeak(SecretKey key) throws CukvasheException {
-    try (Held held = Held.key(key, 8, 16, 24)) {
-      int status = Native.weakKeyTest(held.bytes);
+    try (Secret secret = Secret.key(key, 8, 16, 24)) {
+      int status = Native.weakKeyTest(secret.bytes);
       if (Status.of(status) != Status.WEAK_KEY) {
         CukvasheException.check(status);
       }
@@ -40,9 +40,9 @@ public final class Keys {
    * @throws CukvasheException {@link Status#KEY_LENGTH}
    */
   public static SecretKey withOddParity(SecretKey key) throws CukvasheException {
-    try (Held held = Held.key(key, 8, 16, 24)) {
-      Native.setOddParity(held.bytes);
-      return held.key();
+    try (Secret secret = Secret.key(key, 8, 16, 24)) {
+      Native.setOddParity(secret.bytes);
+      return secret.key();
     }
   }
 
@@ -52,8 +52,8 @@ public final class Keys {
    * @throws CukvasheException {@link Status#KEY_LENGTH}
    */
   public static boolean areEqualButParity(SecretKey first, SecretKey second) throws CukvasheException {
-    try (Held one = Held.key(first, 8, 16, 24);
-        Held other = Held.key(second, one.bytes.length)) {
+    try (Secret one = Secret.key(first, 8, 16, 24);
+        Secret other = Secret.key(second, one.bytes.length)) {
       return Native.equalButParity(one.bytes, other.bytes);
     }
   }
@@ -64,13 +64,13 @@ public final class Keys {
    * @throws CukvasheException {@link Status#KEY_LENGTH}; {@link Status#WEAK_KEY} if the test of {@link #isWeak} refuses the key
    */
   public static SecretKey combine(SecretKey first, SecretKey second, SecretKey... others) throws CukvasheException {
-    try (Held one = Held.key(first, 8, 16, 24);
-        Held other = Held.key(second, one.bytes.length);
-        Held rest = Held.room(others.length * one.bytes.length);
-        Held made = Held.room(one.bytes.length)) {
+    try (Secret one = Secret.key(first, 8, 16, 24);
+        Secret other = Secret.key(second, one.bytes.length);
+        Secret rest = Secret.buffer(others.length * one.bytes.length);
+        Secret made = Secret.buffer(one.bytes.length)) {
       int size = one.bytes.length;
       for (int at = 0; at < others.length; at++) {
-        try (Held component = Held.key(others[at], size)) {
+        try (Secret component = Secret.key(others[at], size)) {
           System.arraycopy(component.bytes, 0, rest.bytes, at * size, size);
         }
       }
@@ -118,9 +118,9 @@ public final class Keys {
    * @throws CukvasheException {@link Status#KEY_LENGTH}
    */
   public static byte[] checkValue(SecretKey key) throws CukvasheException {
-    try (Held heldKey = Held.key(key, 8, 16, 24);
-        Held made = Held.room(3)) {
-      CukvasheException.check(Native.keyCheckValue(heldKey.bytes, made.bytes));
+    try (Secret copiedKey = Secret.key(key, 8, 16, 24);
+        Secret made = Secret.buffer(3)) {
+      CukvasheException.check(Native.keyCheckValue(copiedKey.bytes, made.bytes));
       return made.copy();
     }
   }
@@ -131,9 +131,9 @@ public final class Keys {
    * @throws CukvasheException {@link Status#KEY_LENGTH}
    */
   public static byte[] shortCheckValue(SecretKey key) throws CukvasheException {
-    try (Held heldKey = Held.key(key, 8, 16, 24);
-        Held made = Held.room(2)) {
-      CukvasheException.check(Native.shortKeyCheckValue(heldKey.bytes, made.bytes));
+    try (Secret copiedKey = Secret.key(key, 8, 16, 24);
+        Secret made = Secret.buffer(2)) {
+      CukvasheException.check(Native.shortKeyCheckValue(copiedKey.bytes, made.bytes));
       return made.copy();
     }
   }

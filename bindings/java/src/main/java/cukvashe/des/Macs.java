@@ -13,8 +13,8 @@ public final class Macs {
    * @throws CukvasheException {@link Status#KEY_LENGTH}
    */
   public static byte[] tags(MacAlgorithm algorithm, SecretKey key, byte[]... messages) throws CukvasheException {
-    try (Held held = Held.key(key, algorithm.sizes())) {
-      return run(algorithm, algorithm.number(held.bytes.length), false, held.bytes, messages);
+    try (Secret secret = Secret.key(key, algorithm.sizes())) {
+      return run(algorithm, algorithm.number(secret.bytes.length), false, secret.bytes, messages);
     }
   }
 

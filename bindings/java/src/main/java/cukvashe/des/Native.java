@@ -321,5 +321,7 @@ final class Native {
 
   static native int tdesEde3OpenSalted(int hash, long iterations, byte[] password, byte[] bytes, byte[] plain,
       long[] plainLength);
+
+  static native int pbeKey(byte[] algorithm, long iterations, byte[] password, byte[] salt, byte[] key);
   // This ends what bindings/describe made.
 }

@@ -6,14 +6,23 @@ import java.util.Arrays;
 public final class Passwords {
   private Passwords() {}
 
+  /** A buffer for a key. */
+  private static byte[] buffer(int length) throws CukvasheException {
+    Native.isThere();
+    if (length < 1) {
+      throw new CukvasheException(Status.KEY_LENGTH);
+    }
+    return new byte[length];
+  }
+
   /**
    * A key by PBKDF2 (RFC 8018, 5.2) with HMAC over a hash function. Overwrite it after use.
    *
-   * @throws CukvasheException {@link Status#HASH} of MD5; {@link Status#ITERATIONS} if they are not 1 to 2^32 - 1
+   * @throws CukvasheException {@link Status#KEY_LENGTH} if the length is not positive; {@link Status#HASH} of MD5; {@link Status#ITERATIONS}
+   *     if they are not 1 to 2^32 - 1
    */
   public static byte[] pbkdf2(HashFunction hash, byte[] password, byte[] salt, long iterations, int length) throws CukvasheException {
-    Native.isThere();
-    byte[] key = new byte[length];
+    byte[] key = buffer(length);
     CukvasheException.check(Native.pbkdf2(hash.number, iterations, password, salt, key));
     return key;
   }
@@ -23,12 +32,27 @@ public final class Passwords {
    *
    * @param salt 8 bytes, or none
    * @param length of both together: 32 for a key of 24 bytes
-   * @throws CukvasheException {@link Status#SALT_LENGTH}
+   * @throws CukvasheException {@link Status#KEY_LENGTH} if the length is not positive; {@link Status#SALT_LENGTH}
    */
   public static byte[] bytesToKey(HashFunction hash, byte[] password, byte[] salt, int length) throws CukvasheException {
-    Native.isThere();
-    byte[] key = new byte[length];
+    byte[] key = buffer(length);
     CukvasheException.check(Native.bytesToKey(hash.number, password, salt, key));
+    return key;
+  }
+
+  /**
+   * The key, and after it the vector, of password-based encryption: PKCS #5 version 1.5, PKCS #12, or SunJCE's own. JCE has most of these as
+   * ciphers too, as {@code PBEWithMD5AndDES}. Overwrite them after use.
+   *
+   * @param algorithm its name in Java, as {@code PBEWithSHA1AndDESede}, or in the standards, as {@code pbeWithSHAAnd2-KeyTripleDES-CBC}
+   * @param password by PKCS #12 UTF-8
+   * @param length of both together: 16 for DES, 24 for two keys, 32 for triple DES
+   * @throws CukvasheException {@link Status#ALGORITHM}, {@link Status#KEY_LENGTH}, {@link Status#ITERATIONS}; {@link Status#SALT_LENGTH} if
+   *     SunJCE's own has a salt of other than 8 bytes
+   */
+  public static byte[] pbeKey(String algorithm, byte[] password, byte[] salt, long iterations, int length) throws CukvasheException {
+    byte[] key = buffer(length);
+    CukvasheException.check(Native.pbeKey(Secret.text(algorithm), iterations, password, salt, key));
     return key;
   }
 
@@ -45,7 +69,7 @@ public final class Passwords {
    */
   public static byte[] openSalted(int size, HashFunction hash, long iterations, byte[] password, byte[] file) throws CukvasheException {
     long[] length = new long[1];
-    try (Held made = Held.room(file.length)) {
+    try (Secret made = Secret.buffer(file.length)) {
       int status;
       if (size == 8) {
         status = Native.desOpenSalted(hash.number, iterations, password, file, made.bytes, length);

@@ -15,25 +15,25 @@ public final class PinBlocks {
   }
 
   private static byte[] encoded(Call call) throws CukvasheException {
-    try (Held made = Held.room(Native.BLOCK_SIZE)) {
+    try (Secret made = Secret.buffer(Native.BLOCK_SIZE)) {
       CukvasheException.check(call.of(made.bytes));
       return made.copy();
     }
   }
 
   private static Pin decoded(Call call) throws CukvasheException {
-    try (Held made = Held.room(Native.PIN_SIZE)) {
+    try (Secret made = Secret.buffer(Native.PIN_SIZE)) {
       CukvasheException.check(call.of(made.bytes));
       return made.pin();
     }
   }
 
   private static byte[] block(byte[] block) {
-    return Held.sized(block, Native.BLOCK_SIZE, "a PIN block");
+    return Secret.sized(block, Native.BLOCK_SIZE, "a PIN block");
   }
 
   static byte[] fill(byte[] digits) {
-    return Held.sized(digits, Native.FILL_SIZE, "a list of fill digits");
+    return Secret.sized(digits, Native.FILL_SIZE, "a list of fill digits");
   }
 
   /** Ten random fill digits for format 3, from 10 to 15, one in a byte. */
@@ -52,20 +52,20 @@ public final class PinBlocks {
    *     Status#ACCOUNT_DIGIT}
    */
   public static byte[] encode0(Pin pin, String account) throws CukvasheException {
-    try (Held held = Held.pin(pin)) {
-      return encoded(made -> Native.pinEncode0(held.bytes, Held.text(account), made));
+    try (Secret digits = Secret.pin(pin)) {
+      return encoded(made -> Native.pinEncode0(digits.bytes, Secret.text(account), made));
     }
   }
 
   /**
-   * The block of format 1, with ten transaction digits, one in a byte, from 0 to 15, of which it takes those that it has room for.
+   * The block of format 1, with ten transaction digits, one in a byte, from 0 to 15, of which it takes as many as fit.
    *
    * @throws CukvasheException {@link Status#PIN_LENGTH}, {@link Status#PIN_DIGIT}, {@link Status#FILL}
    * @throws IllegalArgumentException if there are not ten digits
    */
   public static byte[] encode1(Pin pin, byte[] transaction) throws CukvasheException {
-    try (Held held = Held.pin(pin)) {
-      return encoded(made -> Native.pinEncode1(held.bytes, fill(transaction), made));
+    try (Secret digits = Secret.pin(pin)) {
+      return encoded(made -> Native.pinEncode1(digits.bytes, fill(transaction), made));
     }
   }
 
@@ -75,8 +75,8 @@ public final class PinBlocks {
    * @throws CukvasheException {@link Status#PIN_LENGTH}, {@link Status#PIN_DIGIT}
    */
   public static byte[] encode2(Pin pin) throws CukvasheException {
-    try (Held held = Held.pin(pin)) {
-      return encoded(made -> Native.pinEncode2(held.bytes, made));
+    try (Secret digits = Secret.pin(pin)) {
+      return encoded(made -> Native.pinEncode2(digits.bytes, made));
     }
   }
 
@@ -88,8 +88,8 @@ public final class PinBlocks {
    * @throws IllegalArgumentException if there are not ten digits
    */
   public static byte[] encode3(Pin pin, String account, byte[] fill) throws CukvasheException {
-    try (Held held = Held.pin(pin)) {
-      return encoded(made -> Native.pinEncode3(held.bytes, Held.text(account), fill(fill), made));
+    try (Secret digits = Secret.pin(pin)) {
+      return encoded(made -> Native.pinEncode3(digits.bytes, Secret.text(account), fill(fill), made));
     }
   }
 
@@ -101,7 +101,7 @@ public final class PinBlocks {
    * @throws IllegalArgumentException if a PIN block does not have 8 bytes
    */
   public static Pin decode0(byte[] block, String account) throws CukvasheException {
-    return decoded(made -> Native.pinDecode0(block(block), Held.text(account), made));
+    return decoded(made -> Native.pinDecode0(block(block), Secret.text(account), made));
   }
 
   /**
@@ -131,6 +131,6 @@ public final class PinBlocks {
    * @throws IllegalArgumentException if a PIN block does not have 8 bytes
    */
   public static Pin decode3(byte[] block, String account) throws CukvasheException {
-    return decoded(made -> Native.pinDecode3(block(block), Held.text(account), made));
+    return decoded(made -> Native.pinDecode3(block(block), Secret.text(account), made));
   }
 }

@@ -26,6 +26,9 @@ public final class PinTranslation {
     }
   }
 
+  /** What stands for an account number or fill digits that do not matter. */
+  private static final byte[] NOTHING = {};
+
   private final Incoming incoming;
   private final PinFormat format;
   private final SecretKey key;
@@ -62,18 +65,18 @@ public final class PinTranslation {
    * @throws IllegalArgumentException if a PIN block does not have 8 bytes, or there are not ten digits
    */
   public byte[] translate(byte[] block, String account, byte[] fill) throws CukvasheException {
-    Held.sized(block, Native.BLOCK_SIZE, "a PIN block");
-    byte[] number = account == null ? null : Held.text(account);
+    Secret.sized(block, Native.BLOCK_SIZE, "a PIN block");
+    byte[] number = account == null ? NOTHING : Secret.text(account);
     byte[] translated = new byte[Native.BLOCK_SIZE];
-    try (Held from = Held.key(incoming.key, 8, 16, 24);
-        Held to = Held.key(key, 8, 16, 24)) {
+    try (Secret from = Secret.key(incoming.key, 8, 16, 24);
+        Secret to = Secret.key(key, 8, 16, 24)) {
       int status;
       switch (format) {
         case ISO_0:
-          status = Native.pinTranslateTo0(from.bytes, incoming.format.number, to.bytes, number, null, block, translated);
+          status = Native.pinTranslateTo0(from.bytes, incoming.format.number, to.bytes, number, NOTHING, block, translated);
           break;
         case ISO_1:
-          status = Native.pinTranslateTo1(from.bytes, incoming.format.number, to.bytes, number, null, block, translated);
+          status = Native.pinTranslateTo1(from.bytes, incoming.format.number, to.bytes, number, NOTHING, block, translated);
           break;
         default:
           status = Native.pinTranslateTo3(from.bytes, incoming.format.number, to.bytes, number, PinBlocks.fill(fill), block, translated);

@@ -10,7 +10,7 @@ public final class PinVerification {
   private PinVerification() {}
 
   private static byte[] validation(byte[] data) {
-    return Held.sized(data, Native.BLOCK_SIZE, "the validation data");
+    return Secret.sized(data, Native.BLOCK_SIZE, "the validation data");
   }
 
   /**
@@ -22,10 +22,10 @@ public final class PinVerification {
    *     Status#ACCOUNT_LENGTH}, {@link Status#ACCOUNT_DIGIT}, {@link Status#KEY_INDEX}
    */
   public static String pvv(SecretKey key, String account, int index, Pin pin) throws CukvasheException {
-    try (Held pair = Held.key(key, 16);
-        Held digits = Held.pin(pin);
-        Held made = Held.room(Native.PVV_SIZE)) {
-      CukvasheException.check(Native.pvv(pair.bytes, Held.text(account), index, digits.bytes, made.bytes));
+    try (Secret pair = Secret.key(key, 16);
+        Secret digits = Secret.pin(pin);
+        Secret made = Secret.buffer(Native.PVV_SIZE)) {
+      CukvasheException.check(Native.pvv(pair.bytes, Secret.text(account), index, digits.bytes, made.bytes));
       return made.text();
     }
   }
@@ -36,9 +36,9 @@ public final class PinVerification {
    * @throws CukvasheException as {@link #pvv}; {@link Status#WRONG_PIN} for any other PIN
    */
   public static void verifyPvv(SecretKey key, String account, int index, Pin pin, String value) throws CukvasheException {
-    try (Held pair = Held.key(key, 16);
-        Held digits = Held.pin(pin)) {
-      CukvasheException.check(Native.pvvVerify(pair.bytes, Held.text(account), index, digits.bytes, Held.text(value)));
+    try (Secret pair = Secret.key(key, 16);
+        Secret digits = Secret.pin(pin)) {
+      CukvasheException.check(Native.pvvVerify(pair.bytes, Secret.text(account), index, digits.bytes, Secret.text(value)));
     }
   }
 
@@ -52,10 +52,10 @@ public final class PinVerification {
    * @throws IllegalArgumentException if the validation data do not have 8 bytes
    */
   public static Pin naturalPin(SecretKey key, DecimalTable table, byte[] validation, int length) throws CukvasheException {
-    try (Held held = Held.key(key, 8, 16, 24);
-        Held made = Held.room(Native.PIN_SIZE)) {
+    try (Secret secret = Secret.key(key, 8, 16, 24);
+        Secret made = Secret.buffer(Native.PIN_SIZE)) {
       CukvasheException.check(
-          Native.naturalPin(held.bytes, table.digits, validation(validation), Integer.toUnsignedLong(length), made.bytes));
+          Native.naturalPin(secret.bytes, table.digits, validation(validation), Integer.toUnsignedLong(length), made.bytes));
       return made.pin();
     }
   }
@@ -67,10 +67,10 @@ public final class PinVerification {
    * @throws IllegalArgumentException if the validation data do not have 8 bytes
    */
   public static String offset(SecretKey key, DecimalTable table, byte[] validation, Pin pin) throws CukvasheException {
-    try (Held held = Held.key(key, 8, 16, 24);
-        Held digits = Held.pin(pin);
-        Held made = Held.room(Native.PIN_SIZE)) {
-      CukvasheException.check(Native.pinOffset(held.bytes, table.digits, validation(validation), digits.bytes, made.bytes));
+    try (Secret secret = Secret.key(key, 8, 16, 24);
+        Secret digits = Secret.pin(pin);
+        Secret made = Secret.buffer(Native.PIN_SIZE)) {
+      CukvasheException.check(Native.pinOffset(secret.bytes, table.digits, validation(validation), digits.bytes, made.bytes));
       return made.text();
     }
   }
@@ -83,10 +83,10 @@ public final class PinVerification {
    */
   public static void verifyOffset(SecretKey key, DecimalTable table, byte[] validation, Pin pin, String offset)
       throws CukvasheException {
-    try (Held held = Held.key(key, 8, 16, 24);
-        Held digits = Held.pin(pin)) {
+    try (Secret secret = Secret.key(key, 8, 16, 24);
+        Secret digits = Secret.pin(pin)) {
       CukvasheException.check(
-          Native.pinOffsetVerify(held.bytes, table.digits, validation(validation), digits.bytes, Held.text(offset)));
+          Native.pinOffsetVerify(secret.bytes, table.digits, validation(validation), digits.bytes, Secret.text(offset)));
     }
   }
 }

@@ -18,7 +18,7 @@ public final class Records {
    * @param counts how many blocks each record has. Records of like lengths go fastest.
    * @return the records; what was given stays
    * @throws CukvasheException {@link Status#KEY_LENGTH}; {@link Status#COUNTS} if there is not a vector for each record; {@link
-   *     Status#BLOCKS}; {@link Status#COUNTS} if the records do not have so many blocks
+   *     Status#BLOCKS}; {@link Status#COUNTS} if the counts do not add up to the blocks of the records
    */
   public static byte[] encryptCbc(SecretKey key, byte[] records, byte[] vectors, long[] counts) throws CukvasheException {
     return run(false, key, records.clone(), vectors.clone(), counts);
@@ -34,8 +34,8 @@ public final class Records {
   }
 
   private static byte[] run(boolean decrypts, SecretKey key, byte[] records, byte[] vectors, long[] counts) throws CukvasheException {
-    try (Held held = Held.key(key, 8, 16, 24)) {
-      RoundKeys keys = new RoundKeys(held.bytes, false);
+    try (Secret secret = Secret.key(key, 8, 16, 24)) {
+      RoundKeys keys = new RoundKeys(secret.bytes, false);
       try {
         CukvasheException.check(keys.records(decrypts, vectors, counts, records));
       } finally {

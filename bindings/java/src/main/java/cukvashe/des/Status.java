@@ -38,8 +38,8 @@ public enum Status {
   SERVICE_DIGIT("a character of the service code is not a digit"),
   /** The data do not end with the padding. */
   PADDING("the data do not end with the padding"),
-  /** The buffer has no room for the padding, or for what is opened. */
-  CAPACITY("the buffer has no room for the padding, or for what is opened"),
+  /** The buffer is too small for all that the call would write. */
+  CAPACITY("the buffer is too small for all that the call would write"),
   /** The numbers of elements do not agree: a count, or a sum of counts, and a length. */
   COUNTS("the numbers of elements do not agree: a count, or a sum of counts, and a length"),
   /** The index of the key pair is not 1 to 6. */
@@ -74,7 +74,8 @@ public enum Status {
    * The optional blocks can't be read or written: a wrong length, name, content or PB, an end off a multiple of
    * eight, or more than 99.
    */
-  OPTIONAL_BLOCK("the optional blocks can't be read or written: a wrong length, name, content or PB, an end off a multiple of eight, or more than 99"),
+  OPTIONAL_BLOCK(
+      "the optional blocks can't be read or written: a wrong length, name, content or PB, an end off a multiple of eight, or more than 99"),
   /** The encrypted key data do not have a length that they can have. */
   KEY_DATA_LENGTH("the encrypted key data do not have a length that they can have"),
   /** A character of the encrypted key data or the MAC is not 0 to 9 or A to F. */
@@ -102,7 +103,17 @@ public enum Status {
   /** The wrapped key does not have a length that it can have. */
   WRAPPED_LENGTH("the wrapped key does not have a length that it can have"),
   /** The bytes are no key that was wrapped under the protection key. */
-  WRAPPED_KEY("the bytes are no key that was wrapped under the protection key");
+  WRAPPED_KEY("the bytes are no key that was wrapped under the protection key"),
+  /** The value is none that MySQL encrypted. */
+  NOT_ENCRYPTED("the value is none that MySQL encrypted"),
+  /** Some values can't be read: their statuses say why. */
+  VALUES("some values can't be read: their statuses say why"),
+  /** The algorithm is not one that the call takes. */
+  ALGORITHM("the algorithm is not one that the call takes"),
+  /** The value is not Base64. */
+  BASE64("the value is not Base64"),
+  /** The number is not one of a key. */
+  KEY_NUMBER("the number is not one of a key");
 
   private static final Status[] BY_NUMBER = values();
 

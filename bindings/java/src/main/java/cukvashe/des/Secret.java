@@ -6,26 +6,26 @@ import java.util.Arrays;
 import javax.crypto.SecretKey;
 
 /** Bytes that a call takes or makes, which are overwritten at its end. */
-final class Held implements AutoCloseable {
+final class Secret implements AutoCloseable {
   static {
     Native.isThere();
   }
 
-  private static final Held NOTHING = new Held(new byte[0]);
+  private static final Secret NOTHING = new Secret(new byte[0]);
 
   final byte[] bytes;
 
-  private Held(byte[] bytes) {
+  private Secret(byte[] bytes) {
     this.bytes = bytes;
   }
 
-  /** Room that a call writes. */
-  static Held room(int size) {
-    return size == 0 ? NOTHING : new Held(new byte[size]);
+  /** A buffer that a call writes. */
+  static Secret buffer(int size) {
+    return size == 0 ? NOTHING : new Secret(new byte[size]);
   }
 
   /** The bytes of a key, which has one of these sizes. */
-  static Held key(SecretKey key, int... sizes) throws CukvasheException {
+  static Secret key(SecretKey key, int... sizes) throws CukvasheException {
     byte[] bytes = raw(key);
     if (bytes.length == 24 && !has(sizes, 24) && has(sizes, 16)) {
       bytes = withoutThirdPart(bytes);
@@ -34,7 +34,7 @@ final class Held implements AutoCloseable {
       Arrays.fill(bytes, (byte) 0);
       throw new CukvasheException(Status.KEY_LENGTH);
     }
-    return new Held(bytes);
+    return new Secret(bytes);
   }
 
   /** A copy of the bytes of a key, which the caller overwrites. */
@@ -56,8 +56,8 @@ final class Held implements AutoCloseable {
   }
 
   /**
-   * Of 24 bytes whose third part is the first, the first 16, and else the bytes themselves. Keys of two parts come in both ways: SunJCE and
-   * {@code DESedeKeySpec} know 24 bytes alone. The array that is not given back is overwritten.
+   * Of 24 bytes whose third part is the first, the first 16, and else the bytes themselves. Keys of two parts come in both forms: SunJCE
+   * and {@code DESedeKeySpec} know 24 bytes alone. The array that is not given back is overwritten.
    */
   static byte[] withoutThirdPart(byte[] bytes) {
     if (bytes.length != 24) {
@@ -77,12 +77,12 @@ final class Held implements AutoCloseable {
   }
 
   /** An array that is the caller's no more. */
-  static Held of(byte[] bytes) {
-    return new Held(bytes);
+  static Secret of(byte[] bytes) {
+    return new Secret(bytes);
   }
 
-  static Held pin(Pin pin) {
-    return new Held(pin.bytes());
+  static Secret pin(Pin pin) {
+    return new Secret(pin.bytes());
   }
 
   /** The characters of a text, each a byte: one that no byte is has 255, which no call takes. */
@@ -100,6 +100,20 @@ final class Held implements AutoCloseable {
       throw new IllegalArgumentException(what + " has " + size + " bytes, not " + bytes.length);
     }
     return bytes;
+  }
+
+  /** A call that makes a key of another. */
+  interface Derivation {
+    void of(byte[] key, byte[] made) throws CukvasheException;
+  }
+
+  /** The key that a call makes of another of the same size. */
+  static SecretKey derived(int size, SecretKey key, Derivation call) throws CukvasheException {
+    try (Secret secret = key(key, size);
+        Secret made = buffer(size)) {
+      call.of(secret.bytes, made.bytes);
+      return made.key();
+    }
   }
 
   /** A key that a call made. */
