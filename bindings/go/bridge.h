@@ -35,16 +35,26 @@ static inline int bridge_ecb(const uint64_t *words, int parts, bool decrypts, co
 #undef ECB
 }
 
-static inline int bridge_cbc(const uint64_t *words, int parts, bool decrypts, uint8_t *iv, const uint8_t *from, uint8_t *to, size_t length) {
-#define CBC(NAME) (decrypts ? cukvashe_##NAME##_decrypt_cbc_to : cukvashe_##NAME##_encrypt_cbc_to)(BRIDGE_CONTEXT(NAME), iv, from, to, length)
+static inline int bridge_cbc(const uint64_t *words, int parts, bool decrypts, uint8_t *iv, const uint8_t *from, uint8_t *to,
+                             size_t length) {
+#define CBC(NAME) \
+  (decrypts ? cukvashe_##NAME##_decrypt_cbc_to : cukvashe_##NAME##_encrypt_cbc_to)(BRIDGE_CONTEXT(NAME), iv, from, to, length)
   BRIDGE_CIPHER(CBC)
 #undef CBC
 }
 
 static inline int bridge_stream(const uint64_t *words, int parts, bool decrypts, cukvashe_stream *stream, uint8_t *data, size_t length) {
-#define STREAM(NAME) (decrypts ? cukvashe_##NAME##_decrypt_stream : cukvashe_##NAME##_encrypt_stream)(BRIDGE_CONTEXT(NAME), stream, data, length)
+#define STREAM(NAME) \
+  (decrypts ? cukvashe_##NAME##_decrypt_stream : cukvashe_##NAME##_encrypt_stream)(BRIDGE_CONTEXT(NAME), stream, data, length)
   BRIDGE_CIPHER(STREAM)
 #undef STREAM
+}
+
+static inline int bridge_stream_bits(const uint64_t *words, int parts, bool decrypts, cukvashe_stream *stream, uint8_t *data, size_t bits) {
+#define BITS(NAME) \
+  (decrypts ? cukvashe_##NAME##_decrypt_stream_bits : cukvashe_##NAME##_encrypt_stream_bits)(BRIDGE_CONTEXT(NAME), stream, data, bits)
+  BRIDGE_CIPHER(BITS)
+#undef BITS
 }
 
 static inline int bridge_records(const uint64_t *words, int parts, bool decrypts, uint8_t *vectors, size_t vectors_length,
@@ -62,16 +72,25 @@ static inline int bridge_each(int parts, bool decrypts, const uint8_t *keys, siz
 #undef EACH
 }
 
-static inline int bridge_check_values(int parts, const uint8_t *keys, size_t keys_length, uint8_t *values, size_t values_length, size_t count) {
+static inline int bridge_check_values(int parts, const uint8_t *keys, size_t keys_length, uint8_t *values, size_t values_length,
+                                      size_t count) {
 #define VALUES(NAME) cukvashe_##NAME##_check_values(keys, keys_length, values, values_length, count)
   BRIDGE_CIPHER(VALUES)
 #undef VALUES
 }
 
+static inline int bridge_open_salted(int parts, int hash, size_t iterations, const uint8_t *password, size_t password_length,
+                                     const uint8_t *bytes, size_t length, uint8_t *plain, size_t capacity, size_t *plain_length) {
+#define OPEN(NAME) cukvashe_##NAME##_open_salted(hash, iterations, password, password_length, bytes, length, plain, capacity, plain_length)
+  BRIDGE_CIPHER(OPEN)
+#undef OPEN
+}
+
 /* The first two of the components, and the others after them. */
 static inline int bridge_combine(int parts, const uint8_t *components, size_t length, uint8_t *key) {
   const size_t size = 8 * (size_t)parts;
-#define COMBINE(SIZE) cukvashe_combine_##SIZE(components, components + size, components + 2 * size, length - 2 * size, length / size - 2, key)
+#define COMBINE(SIZE) \
+  cukvashe_combine_##SIZE(components, components + size, components + 2 * size, length - 2 * size, length / size - 2, key)
   switch (parts) {
   case 1: return COMBINE(8);
   case 2: return COMBINE(16);
@@ -96,7 +115,8 @@ enum { BRIDGE_CBC_MAC = 1, BRIDGE_RETAIL_MAC = 3, BRIDGE_CMAC = 5 };
   default: return CUKVASHE_ERR_KEY_LENGTH;                                \
   }
 
-static inline int bridge_mac_init(uint64_t *words, int algorithm, int parts, int method, const uint8_t *key, size_t length, bool no_tables) {
+static inline int bridge_mac_init(uint64_t *words, int algorithm, int parts, int method, const uint8_t *key, size_t length,
+                                  bool no_tables) {
 #define INIT(NAME, ...) \
   (no_tables ? cukvashe_##NAME##_init_no_tables : cukvashe_##NAME##_init)((cukvashe_##NAME *)words, key, length __VA_ARGS__)
   BRIDGE_MAC(INIT)
@@ -121,23 +141,25 @@ static inline int bridge_mac_verify(const uint64_t *words, int algorithm, int pa
 #undef VERIFY
 }
 
-/* The tags of messages that stand one after the other. `room` has `count` elements, for this call alone. */
-static inline int bridge_macs(int algorithm, int parts, int method, bool each, const uint8_t *keys, size_t keys_length, const uint8_t *bytes,
-                              const size_t *lengths, cukvashe_message *room, uint8_t *tags, size_t tags_length, size_t count) {
+/* The tags of messages that stand one after the other. `messages` is a buffer of `count` elements, for this call alone. */
+static inline int bridge_macs(int algorithm, int parts, int method, bool each, const uint8_t *keys, size_t keys_length,
+                              const uint8_t *bytes, const size_t *lengths, cukvashe_message *messages, uint8_t *tags,
+                              size_t tags_length, size_t count) {
   for (size_t i = 0; i < count; i++) {
-    room[i].bytes = bytes;
-    room[i].length = lengths[i];
+    messages[i].bytes = bytes;
+    messages[i].length = lengths[i];
     bytes += lengths[i];
   }
 #define MACS(NAME, ...)                                                                                             \
-  (each ? cukvashe_##NAME##_macs_each : cukvashe_##NAME##_macs)(keys, keys_length __VA_ARGS__, room, tags, tags_length, count)
+  (each ? cukvashe_##NAME##_macs_each : cukvashe_##NAME##_macs)(keys, keys_length __VA_ARGS__, messages, tags, tags_length, count)
   BRIDGE_MAC(MACS)
 #undef MACS
 }
 
-static inline int bridge_translate(const uint8_t *incoming_key, size_t incoming_key_length, int incoming_format, const uint8_t *outgoing_key,
-                                   size_t outgoing_key_length, int outgoing_format, const char *account, size_t account_length,
-                                   const uint8_t *fill, const uint8_t *block, uint8_t *translated) {
+static inline int bridge_translate(const uint8_t *incoming_key, size_t incoming_key_length, int incoming_format,
+                                   const uint8_t *outgoing_key, size_t outgoing_key_length, int outgoing_format,
+                                   const char *account, size_t account_length, const uint8_t *fill, const uint8_t *block,
+                                   uint8_t *translated) {
   const cukvashe_pin_translation translation = {
       .incoming_key = incoming_key,
       .incoming_key_length = incoming_key_length,

@@ -80,8 +80,8 @@ func text(it string) (*C.char, C.size_t) {
 	return (*C.char)(unsafe.Pointer(bytes(copied))), size(copied)
 }
 
-// room is where C writes a text.
-func room(slice []byte) *C.char { return (*C.char)(unsafe.Pointer(bytes(slice))) }
+// buffer is where C writes a text.
+func buffer(slice []byte) *C.char { return (*C.char)(unsafe.Pointer(bytes(slice))) }
 
 // until is the text before the zero byte.
 func until(slice []byte) string {
@@ -108,6 +108,18 @@ func number(it int) C.int {
 		return -1
 	}
 	return C.int(it)
+}
+
+// written are the bytes that a call writes into a buffer of this capacity, of which it says how many they are.
+func written(capacity int, write func(made []byte, length *C.size_t) C.int) ([]byte, error) {
+	if capacity < 0 {
+		capacity = 0
+	}
+	made, length := make([]byte, capacity), C.size_t(0)
+	if status := write(made, &length); status != C.CUKVASHE_OK {
+		return nil, Error(status)
+	}
+	return made[:length], nil
 }
 
 func wipe(slice []byte) {

@@ -6,6 +6,7 @@ import (
 	stdbytes "bytes"
 	"crypto/cipher"
 	"crypto/des"
+	"encoding/binary"
 	"encoding/hex"
 	"errors"
 	"fmt"
@@ -61,7 +62,7 @@ func standard(t testing.TB, key []byte) (theirs cipher.Block) {
 	return theirs
 }
 
-// length is mostly short, and sometimes so long that the library takes its widest way.
+// length is mostly short, and sometimes so long that the library takes its widest code path.
 func length(r *rand.Rand) int {
 	if r.Intn(20) == 0 {
 		return r.Intn(700)
@@ -136,17 +137,35 @@ func TestCBCBesideCryptoDes(t *testing.T) {
 	}
 }
 
-// cfb8 is cipher feedback of 8 bits by its definition (NIST SP 800-38A, 6.3).
-func cfb8(block cipher.Block, iv, src []byte, decrypts bool) []byte {
+// cfb is cipher feedback with segments of size bytes by its definition (NIST SP 800-38A, 6.3).
+func cfb(block cipher.Block, iv, src []byte, size int, decrypts bool) []byte {
 	register, out, dst := append([]byte{}, iv...), make([]byte, 8), make([]byte, len(src))
+	ciphertext := dst
+	if decrypts {
+		ciphertext = src
+	}
 	for at := range src {
-		block.Encrypt(out, register)
-		dst[at] = src[at] ^ out[0]
-		next := dst[at]
-		if decrypts {
-			next = src[at]
+		if at%size == 0 {
+			block.Encrypt(out, register)
 		}
-		register = append(register[1:], next)
+		dst[at] = src[at] ^ out[at%size]
+		register = append(register[1:], ciphertext[at])
+	}
+	return dst
+}
+
+// cfb1 is cipher feedback of 1 bit by its definition, of the first bits.
+func cfb1(block cipher.Block, iv, src []byte, bits int, decrypts bool) []byte {
+	register, in, out, dst := binary.BigEndian.Uint64(iv), make([]byte, 8), make([]byte, 8), append([]byte{}, src...)
+	ciphertext := dst
+	if decrypts {
+		ciphertext = src
+	}
+	for at := 0; at < bits; at++ {
+		binary.BigEndian.PutUint64(in, register)
+		block.Encrypt(out, in)
+		dst[at/8] ^= out[0] >> 7 << (7 - at%8)
+		register = register<<1 | uint64(ciphertext[at/8]>>(7-at%8)&1)
 	}
 	return dst
 }
@@ -160,7 +179,7 @@ func TestStreamsBesideCryptoCipher(t *testing.T) {
 	}
 	for round := 0; round < 1000; round++ {
 		ours, theirs := pair(t, r)
-		iv, src := some(r, 8), some(r, 8*length(r)+r.Intn(8))
+		iv, src, segment := some(r, 8), some(r, 8*length(r)+r.Intn(8)), 1+r.Intn(8)
 		if r.Intn(4) == 0 {
 			copy(iv, x("ffffffffffff")) // the counter goes over
 		}
@@ -168,12 +187,14 @@ func TestStreamsBesideCryptoCipher(t *testing.T) {
 			ours cipher.Stream
 			want []byte
 		}{
-			"CTR":             {cipher.NewCTR(ours, iv), through(cipher.NewCTR(theirs, iv), src)},
-			"OFB":             {ours.NewOFB(iv), through(cipher.NewOFB(theirs, iv), src)},
-			"CFB encryption":  {ours.NewCFBEncrypter(iv), through(cipher.NewCFBEncrypter(theirs, iv), src)},
-			"CFB decryption":  {ours.NewCFBDecrypter(iv), through(cipher.NewCFBDecrypter(theirs, iv), src)},
-			"CFB8 encryption": {ours.NewCFB8Encrypter(iv), cfb8(theirs, iv, src, false)},
-			"CFB8 decryption": {ours.NewCFB8Decrypter(iv), cfb8(theirs, iv, src, true)},
+			"CTR":                        {cipher.NewCTR(ours, iv), through(cipher.NewCTR(theirs, iv), src)},
+			"OFB":                        {ours.NewOFB(iv), through(cipher.NewOFB(theirs, iv), src)},
+			"CFB encryption":             {ours.NewCFBEncrypter(iv), through(cipher.NewCFBEncrypter(theirs, iv), src)},
+			"CFB decryption":             {ours.NewCFBDecrypter(iv), through(cipher.NewCFBDecrypter(theirs, iv), src)},
+			"CFB8 encryption":            {ours.NewCFB8Encrypter(iv), cfb(theirs, iv, src, 1, false)},
+			"CFB8 decryption":            {ours.NewCFB8Decrypter(iv), cfb(theirs, iv, src, 1, true)},
+			"CFB encryption by segments": {ours.NewCFBSegmentEncrypter(iv, segment), cfb(theirs, iv, src, segment, false)},
+			"CFB decryption by segments": {ours.NewCFBSegmentDecrypter(iv, segment), cfb(theirs, iv, src, segment, true)},
 		} {
 			if _, ok := it.ours.(*stream); !ok {
 				t.Fatalf("crypto/cipher does not take the library's %s: %T", name, it.ours)
@@ -195,6 +216,29 @@ func TestStreamsBesideCryptoCipher(t *testing.T) {
 		want := through(cipher.NewCTR(theirs, iv), src)[8*skipped:]
 		if !stdbytes.Equal(want, through(ours.NewCTRAt(iv, uint64(skipped)), src[8*skipped:])) {
 			t.Fatal("a part of CTR", round)
+		}
+	}
+}
+
+func TestBitsOfCFB1(t *testing.T) {
+	r := random(8)
+	for round := 0; round < 300; round++ {
+		ours, theirs := pair(t, r)
+		iv, src := some(r, 8), some(r, r.Intn(60))
+		bits := r.Intn(8*len(src) + 1)
+		first, made := r.Intn(bits/8+1), make([]byte, len(src))
+		encrypted := cfb1(theirs, iv, src, bits, false)
+		it := ours.NewCFB1Encrypter(iv)
+		it.XORKeyStream(made, src[:first])
+		it.XORKeyBits(made[first:], src[first:], bits-8*first)
+		taken := (bits + 7) / 8
+		if !stdbytes.Equal(made[:taken], encrypted[:taken]) || !stdbytes.Equal(made[taken:], make([]byte, len(src)-taken)) {
+			t.Fatal("encryption", round)
+		}
+		back := ours.NewCFB1Decrypter(iv)
+		back.XORKeyBits(encrypted, encrypted, bits)
+		if !stdbytes.Equal(encrypted, src) || !stdbytes.Equal(cfb1(theirs, iv, made[:taken], bits, true), src[:taken]) {
+			t.Fatal("decryption", round)
 		}
 	}
 }
@@ -224,6 +268,7 @@ func TestPanicsAreThoseOfCryptoDes(t *testing.T) {
 		"small output in CTR":  func(b cipher.Block) { cipher.NewCTR(b, memory[:8]).XORKeyStream(memory[:8], memory[:16]) },
 		"overlap in CTR":       func(b cipher.Block) { cipher.NewCTR(b, memory[:8]).XORKeyStream(memory[1:], memory[:16]) },
 		"nothing in CTR":       func(b cipher.Block) { cipher.NewCTR(b, memory[:8]).XORKeyStream(nil, nil) },
+		"CTR's vector":         func(b cipher.Block) { cipher.NewCTR(b, memory[:7]) },
 		"vector of other size": func(b cipher.Block) { cipher.NewCBCEncrypter(b, memory[:9]) },
 	} {
 		want, got := panics(func() { call(theirs) }), panics(func() { call(ours) })
@@ -237,10 +282,15 @@ func TestPanicsAreThoseOfCryptoDes(t *testing.T) {
 		}
 	}
 	for name, call := range map[string]func(){
-		"vector of CTR": func() { cipher.NewCTR(ours, memory[:7]) },
 		"vector of OFB": func() { ours.NewOFB(memory[:9]) },
 		"vector of CFB": func() { ours.NewCFBDecrypter(nil) },
 		"SetIV":         func() { ours.NewCBCDecrypter(memory[:8]).(*cbc).SetIV(memory[:7]) },
+		"no segment":    func() { ours.NewCFBSegmentEncrypter(memory[:8], 0) },
+		"a segment":     func() { ours.NewCFBSegmentDecrypter(memory[:8], 9) },
+		"many bits":     func() { ours.NewCFB1Encrypter(memory[:8]).XORKeyBits(memory, memory[:1], 9) },
+		"fewer bits":    func() { ours.NewCFB1Encrypter(memory[:8]).XORKeyBits(memory, memory, -1) },
+		"output":        func() { ours.NewCFB1Encrypter(memory[:8]).XORKeyBits(memory[:1], memory[:2], 9) },
+		"overlap":       func() { ours.NewCFB1Encrypter(memory[:8]).XORKeyBits(memory[1:], memory, 16) },
 	} {
 		if panics(call) == nil {
 			t.Errorf("%s: nothing refuses it", name)
@@ -397,6 +447,9 @@ func TestKnownMACs(t *testing.T) {
 		each, err := MACsEach(algorithm(fields[0], fields[1]), keys, messages)
 		if err != nil || each[0] != tags[0] || each[1] != tags[1] || each[2] == tags[2] || each[3] != tags[0] {
 			t.Fatal(line, each, err)
+		}
+		if wrong, err := WrongTags(each, tags); err != nil || fmt.Sprint(wrong) != "[2]" {
+			t.Fatal(line, wrong, err)
 		}
 	}
 	if count < 50 {

@@ -65,7 +65,7 @@ func wrap(protection []byte, header KeyBlockHeader, key []byte, optional string,
 	block := make([]byte, C.CUKVASHE_KEY_BLOCK_SIZE)
 	var length C.size_t
 	status := C.bridge_wrap(bytes(protection), size(protection), &fields, blocks, count, bytes(key), size(key), bytes(padding), size(padding),
-		room(block), size(block), &length)
+		buffer(block), size(block), &length)
 	return string(block[:length]), result(status)
 }
 
@@ -95,7 +95,7 @@ func ReadKeyBlock(block string) (KeyBlockContents, error) {
 	for {
 		var name [3]byte
 		var offset, length C.size_t
-		status := C.cukvashe_key_block_optional_block(characters, count, C.size_t(len(contents.Optional)), room(name[:]), &offset, &length)
+		status := C.cukvashe_key_block_optional_block(characters, count, C.size_t(len(contents.Optional)), buffer(name[:]), &offset, &length)
 		if Error(status) == ErrNoOptionalBlock {
 			return contents, nil
 		}

@@ -67,18 +67,17 @@ func countOf(keySize int, keys []byte) (int, error) {
 
 // Pad is data with 1 to 8 bytes of padding, in new memory.
 func (p Padding) Pad(data []byte) ([]byte, error) {
-	padded := make([]byte, len(data)+BlockSize)
-	copy(padded, data)
-	var length C.size_t
-	status := C.cukvashe_pad(bytes(padded), size(data), size(padded), C.int(p), &length)
-	return padded[:length], result(status)
+	return written(len(data)+BlockSize, func(padded []byte, length *C.size_t) C.int {
+		copy(padded, data)
+		return C.cukvashe_pad(bytes(padded), size(data), size(padded), number(int(p)), length)
+	})
 }
 
 // Unpad is the part of data before the padding. ErrPaddingMethod, ErrBlockLength, ErrPaddingMismatch: an attacker who learns whether
 // it accepts what he sent can decrypt CBC without the key, so verify a MAC of the ciphertext first.
 func (p Padding) Unpad(data []byte) ([]byte, error) {
 	var length C.size_t
-	if status := C.cukvashe_unpad(bytes(data), size(data), C.int(p), &length); status != C.CUKVASHE_OK {
+	if status := C.cukvashe_unpad(bytes(data), size(data), number(int(p)), &length); status != C.CUKVASHE_OK {
 		return nil, Error(status)
 	}
 	return data[:length], nil

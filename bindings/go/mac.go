@@ -117,6 +117,26 @@ func MACsEach(algorithm Algorithm, keys []byte, messages [][]byte) ([][TagSize]b
 	return macs(algorithm, parts(len(keys)/len(messages)), true, keys, messages)
 }
 
+// WrongTags are the places of the tags that are not the ones at their places in expected, which MACs or MACsEach made. Every byte is
+// compared. ErrCountMismatch.
+func WrongTags(tags, expected [][TagSize]byte) ([]int, error) {
+	if len(tags) != len(expected) {
+		return nil, ErrCountMismatch
+	}
+	var wrong []int
+	right := make([]C.bool, len(tags))
+	if len(tags) > 0 {
+		length := C.size_t(TagSize * len(tags))
+		must(C.cukvashe_compare_tags(bytes(tags[0][:]), length, bytes(expected[0][:]), length, &right[0], C.size_t(len(tags))))
+	}
+	for at, is := range right {
+		if !is {
+			wrong = append(wrong, at)
+		}
+	}
+	return wrong, nil
+}
+
 func macs(algorithm Algorithm, parts C.int, each C.bool, keys []byte, messages [][]byte) ([][TagSize]byte, error) {
 	var total int
 	for _, it := range messages {

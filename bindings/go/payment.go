@@ -20,6 +20,16 @@ func CheckValue(key []byte) (value [3]byte, err error) {
 	return value, result(C.cukvashe_key_check_value(bytes(key), size(key), bytes(value[:])))
 }
 
+// ShortCheckValue is the check value of two bytes of a key or component of 8, 16 or 24. ErrKeyLength.
+func ShortCheckValue(key []byte) (value [2]byte, err error) {
+	return value, result(C.cukvashe_short_key_check_value(bytes(key), size(key), bytes(value[:])))
+}
+
+// EqualButParity says whether two keys of one length, a multiple of 8, agree in all bits but the lowest of each byte.
+func EqualButParity(first, second []byte) bool {
+	return len(first) == len(second) && bool(C.cukvashe_equal_but_parity(bytes(first), bytes(second), size(first)))
+}
+
 // Combine is the key that two or more components of one length make: their xor, with odd parity. ErrKeyLength, ErrCountMismatch,
 // ErrWeakKey.
 func Combine(components ...[]byte) ([]byte, error) {
@@ -159,7 +169,7 @@ func (t *Terminal) Wipe() { C.cukvashe_wipe(unsafe.Pointer(&t.state), C.size_t(T
 // an account number (PAN) 8 to 19, the last the check digit.
 type PINBlock [8]byte
 
-// Fill are digits, one in a byte, of which a PIN block takes those it has room for: of format 3 each from 10 to 15, of format 1 from 0
+// Fill are digits, one in a byte, of which a PIN block takes as many as fit: of format 3 each from 10 to 15, of format 1 from 0
 // to 15.
 type Fill [10]byte
 
@@ -217,26 +227,26 @@ func pinOf(pin []byte, status C.int) (string, error) {
 func DecodePIN0(block PINBlock, account string) (string, error) {
 	card, cardLength := text(account)
 	pin := make([]byte, C.CUKVASHE_PIN_SIZE)
-	return pinOf(pin, C.cukvashe_pin_decode_0(bytes(block[:]), card, cardLength, room(pin)))
+	return pinOf(pin, C.cukvashe_pin_decode_0(bytes(block[:]), card, cardLength, buffer(pin)))
 }
 
 // DecodePIN1 is the PIN of a block that EncodePIN1 makes. ErrFormat, ErrPINLength, ErrPINDigit, as of DecodePIN0.
 func DecodePIN1(block PINBlock) (string, error) {
 	pin := make([]byte, C.CUKVASHE_PIN_SIZE)
-	return pinOf(pin, C.cukvashe_pin_decode_1(bytes(block[:]), room(pin)))
+	return pinOf(pin, C.cukvashe_pin_decode_1(bytes(block[:]), buffer(pin)))
 }
 
 // DecodePIN2 is the PIN of a block that EncodePIN2 makes. ErrFormat, ErrPINLength, ErrPINDigit, ErrFill, as of DecodePIN0.
 func DecodePIN2(block PINBlock) (string, error) {
 	pin := make([]byte, C.CUKVASHE_PIN_SIZE)
-	return pinOf(pin, C.cukvashe_pin_decode_2(bytes(block[:]), room(pin)))
+	return pinOf(pin, C.cukvashe_pin_decode_2(bytes(block[:]), buffer(pin)))
 }
 
 // DecodePIN3 is the PIN of a block that EncodePIN3 makes. Errors as of DecodePIN0.
 func DecodePIN3(block PINBlock, account string) (string, error) {
 	card, cardLength := text(account)
 	pin := make([]byte, C.CUKVASHE_PIN_SIZE)
-	return pinOf(pin, C.cukvashe_pin_decode_3(bytes(block[:]), card, cardLength, room(pin)))
+	return pinOf(pin, C.cukvashe_pin_decode_3(bytes(block[:]), card, cardLength, buffer(pin)))
 }
 
 // Translation takes PIN blocks from one key and format to another. The PIN does not come out.
@@ -266,7 +276,7 @@ func (k PairKey) PVV(account string, index int, pin string) (string, error) {
 	card, cardLength := text(account)
 	digits, length := text(pin)
 	value := make([]byte, C.CUKVASHE_PVV_SIZE)
-	status := C.cukvashe_pvv(bytes(k[:]), card, cardLength, number(index), digits, length, room(value))
+	status := C.cukvashe_pvv(bytes(k[:]), card, cardLength, number(index), digits, length, buffer(value))
 	return until(value), result(status)
 }
 
@@ -285,7 +295,7 @@ func (k PairKey) CVV(account, expiry, service string) (string, error) {
 	date, dateLength := text(expiry)
 	code, codeLength := text(service)
 	value := make([]byte, C.CUKVASHE_CVV_SIZE)
-	status := C.cukvashe_cvv(bytes(k[:]), card, cardLength, date, dateLength, code, codeLength, room(value))
+	status := C.cukvashe_cvv(bytes(k[:]), card, cardLength, date, dateLength, code, codeLength, buffer(value))
 	return until(value), result(status)
 }
 
@@ -299,13 +309,13 @@ type IBM3624 struct {
 // out. ErrKeyLength, ErrTableLength, ErrTableDigit; ErrTableVariety of one with fewer than eight different digits.
 func NewIBM3624(key []byte, table string) (*IBM3624, error) {
 	m, digits := &IBM3624{key: append([]byte(nil), key...)}, []byte(table)
-	return m.made(C.cukvashe_decimal_table_init(&m.table, room(digits), size(digits)))
+	return m.made(C.cukvashe_decimal_table_init(&m.table, buffer(digits), size(digits)))
 }
 
 // NewIBM3624OfAnyTable is NewIBM3624 with a table of any variety, for old systems. ErrKeyLength, ErrTableLength, ErrTableDigit.
 func NewIBM3624OfAnyTable(key []byte, table string) (*IBM3624, error) {
 	m, digits := &IBM3624{key: append([]byte(nil), key...)}, []byte(table)
-	return m.made(C.cukvashe_decimal_table_init_any(&m.table, room(digits), size(digits)))
+	return m.made(C.cukvashe_decimal_table_init_any(&m.table, buffer(digits), size(digits)))
 }
 
 func (m *IBM3624) made(status C.int) (*IBM3624, error) {
@@ -321,14 +331,14 @@ func (m *IBM3624) made(status C.int) (*IBM3624, error) {
 // NaturalPIN is the PIN of validation data, with 4 to 12 digits. ErrPINLength.
 func (m *IBM3624) NaturalPIN(validation [8]byte, digits int) (string, error) {
 	pin := make([]byte, C.CUKVASHE_PIN_SIZE)
-	return pinOf(pin, C.cukvashe_natural_pin(bytes(m.key), size(m.key), &m.table, bytes(validation[:]), C.size_t(digits), room(pin)))
+	return pinOf(pin, C.cukvashe_natural_pin(bytes(m.key), size(m.key), &m.table, bytes(validation[:]), C.size_t(digits), buffer(pin)))
 }
 
 // Offset is what the host keeps of a PIN: digit by digit, modulo ten, the PIN less the natural PIN. ErrPINLength, ErrPINDigit.
 func (m *IBM3624) Offset(validation [8]byte, pin string) (string, error) {
 	digits, length := text(pin)
 	offset := make([]byte, C.CUKVASHE_PIN_SIZE)
-	return pinOf(offset, C.cukvashe_pin_offset(bytes(m.key), size(m.key), &m.table, bytes(validation[:]), digits, length, room(offset)))
+	return pinOf(offset, C.cukvashe_pin_offset(bytes(m.key), size(m.key), &m.table, bytes(validation[:]), digits, length, buffer(offset)))
 }
 
 // Verify returns nil for the right PIN alone. ErrPINLength, ErrPINDigit, of the PIN and then of the offset; ErrWrongPIN. Count wrong

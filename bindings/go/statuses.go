@@ -57,7 +57,7 @@ const (
 	// ErrPaddingMismatch: the data do not end with the padding.
 	ErrPaddingMismatch Error = 17
 
-	// ErrCapacity: the buffer has no room for the padding, or for what is opened.
+	// ErrCapacity: the buffer is too small for all that the call would write.
 	ErrCapacity Error = 18
 
 	// ErrCountMismatch: the numbers of elements do not agree: a count, or a sum of counts, and a length.
@@ -150,4 +150,19 @@ const (
 
 	// ErrWrappedKey: the bytes are no key that was wrapped under the protection key.
 	ErrWrappedKey Error = 48
+
+	// ErrNotEncrypted: the value is none that MySQL encrypted.
+	ErrNotEncrypted Error = 49
+
+	// ErrValues: some values can't be read: their statuses say why.
+	ErrValues Error = 50
+
+	// ErrAlgorithmName: the algorithm is not one that the call takes.
+	ErrAlgorithmName Error = 51
+
+	// ErrBase64: the value is not Base64.
+	ErrBase64 Error = 52
+
+	// ErrKeyNumber: the number is not one of a key.
+	ErrKeyNumber Error = 53
 )
