@@ -1,10 +1,10 @@
 /*
  * Nanoseconds for a block of 8 bytes of one call on a message, beside OpenSSL's EVP and libgcrypt: DES and triple DES (EDE, three parts),
- * each block by itself (ECB), chained (CBC), and triple DES by the modes without padding. With the word `ways`, nanoseconds for a block of
- * lists about as long as a batch, by each of the ways that the library chooses from. Keys are set before the clock runs, which is that of the process; the least of many short
- * runs counts. An empty cell is a way that there is not.
+ * each block by itself (ECB), chained (CBC), and triple DES by the modes without padding. With the word `paths`, nanoseconds for a block of
+ * lists about as long as a batch, by each of the code paths that the library chooses from. Keys are set before the clock runs, which is
+ * that of the process; the least of many short runs counts. An empty cell is a code path that there is not.
  *
- *   benchmark [RUNS] [ways]
+ *   benchmark [RUNS] [paths]
  */
 #include "benchmark.h"
 #include <openssl/evp.h>
@@ -19,17 +19,17 @@ enum { MOST = 8192 };
 static uint8_t message[MOST], key[24], iv[8];
 static bool is_v3;
 
-/* Which call is timed, and by which way. */
+/* Which call is timed, and by which code path. */
 struct mode {
   int is_triple, is_chained, encrypts;
   int stream; /* the number of a mode without padding, or 0 */
 };
 
-enum way { PUBLIC, ONE_BY_ONE, NARROW, WIDE };
+enum path { PUBLIC, ONE_BY_ONE, NARROW, WIDE };
 
 struct ours {
   struct mode mode;
-  enum way way;
+  enum path path;
 };
 
 /* Pieces that are too short for a batch. */
@@ -38,15 +38,15 @@ enum { FEW = 8 * 18 };
 /* The data as the exports take them: blocks, and the number of bytes. */
 #define DATA data, length / CUKVASHE_BLOCK_SIZE, length
 
-/* The calls of a cipher: ECB both ways, CBC both ways, and by one way or another where there are several. */
+/* The calls of a cipher: ECB and CBC, encryption and decryption, by one code path or another if there are several. */
 #define CALLS(name)                                                                                            \
   static cukvashe_##name name##_context;                                                                       \
   static int name##_ecb(const struct ours *by, uint8_t *data, size_t length) {                                 \
     const cukvashe_##name *c = &name##_context;                                                                \
-    if (by->way == NARROW)                                                                                     \
+    if (by->path == NARROW)                                                                                    \
       return by->mode.encrypts ? cukvashe_internal_encrypt_ecb(WORDS_OF(*c), DATA)                             \
                                : cukvashe_internal_decrypt_ecb(WORDS_OF(*c), DATA);                            \
-    if (by->way == WIDE)                                                                                       \
+    if (by->path == WIDE)                                                                                      \
       return by->mode.encrypts ? cukvashe_wide_encrypt_ecb(WORDS_OF(*c), DATA)                                 \
                                : cukvashe_wide_decrypt_ecb(WORDS_OF(*c), DATA);                                \
     return by->mode.encrypts ? cukvashe_##name##_encrypt_ecb(c, data, length)                                  \
@@ -55,8 +55,8 @@ enum { FEW = 8 * 18 };
   static int name##_cbc(const struct ours *by, uint8_t *data, size_t length) {                                 \
     const cukvashe_##name *c = &name##_context;                                                                \
     if (by->mode.encrypts) return cukvashe_##name##_encrypt_cbc(c, iv, data, length);                          \
-    if (by->way == NARROW) return cukvashe_internal_decrypt_cbc(WORDS_OF(*c), iv, DATA);                       \
-    if (by->way == WIDE) return cukvashe_wide_decrypt_cbc(WORDS_OF(*c), iv, DATA);                             \
+    if (by->path == NARROW) return cukvashe_internal_decrypt_cbc(WORDS_OF(*c), iv, DATA);                      \
+    if (by->path == WIDE) return cukvashe_wide_decrypt_cbc(WORDS_OF(*c), iv, DATA);                            \
     return cukvashe_##name##_decrypt_cbc(c, iv, data, length);                                                 \
   }                                                                                                            \
   static int name##_stream(const struct ours *by, uint8_t *data, size_t length) {                              \
@@ -67,7 +67,7 @@ enum { FEW = 8 * 18 };
     const struct ours *by = (const struct ours *)state;                                                        \
     int (*const call)(const struct ours *, uint8_t *, size_t) =                                                \
         by->mode.stream ? name##_stream : by->mode.is_chained ? name##_cbc : name##_ecb;                       \
-    const size_t most = by->way == ONE_BY_ONE ? FEW : bytes;                                                   \
+    const size_t most = by->path == ONE_BY_ONE ? FEW : bytes;                                                  \
     for (size_t from = 0; from < bytes; from += most) {                                                        \
       size_t length = bytes - from < most ? bytes - from : most;                                               \
       if (call(by, message + from, length)) fail(#name);                                                       \
@@ -157,8 +157,8 @@ static void messages(const char *what, struct mode mode) {
 #endif
 }
 
-/* Rows of lists about as long as a batch, by each way. */
-static void ways(const char *what, struct mode mode) {
+/* Rows of lists about as long as a batch, by each code path. */
+static void paths(const char *what, struct mode mode) {
   static const size_t sizes[] = {31, 32, 33, 64, 127, 128, 129, 159, 160, 256, 257, 287, 288, 300};
   struct ours ours[] = {{mode, PUBLIC}, {mode, ONE_BY_ONE}, {mode, NARROW}, {mode, WIDE}};
   call *const by = mode.is_triple ? tdes_ede3_call : des_call;
@@ -178,12 +178,12 @@ int main(int count, char **words) {
   if (!legacy || !usual) fail("OpenSSL's providers default and legacy");
   for (size_t i = 0; i < sizeof key; i++) key[i] = (uint8_t)(17 * i * i + 59 * i + 3);
   if (cukvashe_des_init(&des_context, key, 8) || cukvashe_tdes_ede3_init(&tdes_ede3_context, key, 24)) fail("init");
-  if (rest[0] && strcmp(rest[0], "ways") == 0) {
-    begin_table("ways", "ns per block | | 31 blocks | 32 | 33 | 64 | 127 | 128 | 129 | 159 | 160 | 256 | 257 | 287 | 288 | 300");
-    ways("DES, ECB", (struct mode){0, 0, 1, 0});
-    ways("DES, CBC decryption", (struct mode){0, 1, 0, 0});
-    ways("triple DES, ECB", (struct mode){1, 0, 1, 0});
-    ways("triple DES, CBC decryption", (struct mode){1, 1, 0, 0});
+  if (rest[0] && strcmp(rest[0], "paths") == 0) {
+    begin_table("paths", "ns per block | | 31 blocks | 32 | 33 | 64 | 127 | 128 | 129 | 159 | 160 | 256 | 257 | 287 | 288 | 300");
+    paths("DES, ECB", (struct mode){0, 0, 1, 0});
+    paths("DES, CBC decryption", (struct mode){0, 1, 0, 0});
+    paths("triple DES, ECB", (struct mode){1, 0, 1, 0});
+    paths("triple DES, CBC decryption", (struct mode){1, 1, 0, 0});
     return 0;
   }
   printf("OpenSSL: %s\n", OpenSSL_version(OPENSSL_VERSION_STRING));

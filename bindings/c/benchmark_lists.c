@@ -3,7 +3,7 @@
  * processor has them, and by a peer one at a time. The peer is OpenSSL's own functions of DES, called with nothing around them, or,
  * where OpenSSL has no such call, this library's call of one. Then lists of few blocks, by contexts with and without tables, beside OpenSSL
  * and libgcrypt; threads, by the clock on the wall; and PBKDF2 beside OpenSSL's. The least of many short runs counts; an empty cell is a
- * way that there is not.
+ * call that there is not.
  *
  *   benchmark_lists [RUNS]
  */
@@ -122,7 +122,7 @@ static void one_transaction(void *state, size_t bytes) {
   }
 }
 
-/* The cells of a row by both widths and a peer, for each of so many parts. */
+/* The cells of a row by both widths and a peer: nanoseconds for one of `parts` parts. */
 static void row_of(const char *what, call *by_batches, call *by_peer, bool is_triple, size_t parts) {
   struct of narrow = {is_triple, false}, wide = {is_triple, true};
   struct timed timed[] = {{"", by_batches, &narrow, 0}, {"", is_v3 ? by_batches : NULL, &wide, 0}, {"", by_peer, &narrow, 0}};

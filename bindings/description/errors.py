@@ -2,7 +2,8 @@
 
 A sentence `Errors: CUKVASHE_ERR_ONE, _OTHER; _THIRD if ..` is of the calls declared after the comment that return a status, and
 `Errors of pin_offset: ..` of those with this name, or whose name ends with it, or else has it between its words. What stands after an
-error says when it is returned, and `of NAME alone` by which calls. An error is of no call that lacks the argument that it is about."""
+error says when it is returned, and `of NAME alone` by which calls. An error is of no call that lacks the argument that it is about.
+`Statuses of values: CUKVASHE_ERR_ONE` are what a call says of the values of a list, and not what it returns."""
 
 import re
 from dataclasses import dataclass
@@ -12,6 +13,7 @@ from sources.text import Refused
 from .header import PLACE
 
 SENTENCE = re.compile(r"\bErrors(?: of ([\w ,]+))?: (.+?)\.(?=\s|$)")
+OF_VALUES = re.compile(r"\bStatuses of values: (.+?)\.(?=\s|$)")
 ERROR = re.compile(r"(?<!\w)(?:CUKVASHE_ERR)?_([A-Z][A-Z0-9_]+)\b")
 
 # The argument that an error is about, which not all calls of its section have. A field of a struct is an argument, too.
@@ -63,6 +65,7 @@ class Errors:
                     raise Refused(f"{PLACE}: '{listed}' is the errors of no call, or of one whose errors another sentence says")
                 self.by_name.update({it.name: [one for one in errors_in(listed) if self._applies(it, calls, one)] for it in chosen})
         said = {it.status for errors in self.by_name.values() for it in errors}
+        said |= {it.status for comment, _ in self._sections() for listed in OF_VALUES.findall(comment) for it in errors_in(listed)}
         if said ^ known:
             raise Refused(f"{PLACE}: these are statuses or errors of calls, and not both: {', '.join(sorted(said ^ known))}")
         for call in header.calls.values():

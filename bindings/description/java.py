@@ -15,8 +15,9 @@ from .javascript import camel
 from .statuses import SAID, capitalized, short
 from .wrappers import wrapped
 
-# C for tests and buffers of its own, which Java does not take.
+# C for tests and buffers of its own, which Java does not take; and how the names of columns of databases begin, which it does not have.
 NOT_TAKEN = {"wipe", "strerror", "pad", "compare_tags"}
+COLUMNS = ("mysql_", "pgcrypto_", "jasypt_")
 # Of the calls with a context, those that are made here: the others are the ones whose speed counts, which are written by hand.
 WITH_CONTEXT = ("_init", "_init_no_tables", "_records", "stream_begin")
 
@@ -145,7 +146,8 @@ def natives(header):
     for it in header.calls.values():
         has_context = any(header.structs[one.type.struct].words for one in it.parameters if one.type.struct)
         is_copy = it.name.endswith("_to")
-        if it.parameters and it.name not in NOT_TAKEN and not is_copy and (not has_context or it.name.endswith(WITH_CONTEXT)):
+        is_taken = it.name not in NOT_TAKEN and not it.name.startswith(COLUMNS) and not is_copy
+        if it.parameters and is_taken and (not has_context or it.name.endswith(WITH_CONTEXT)):
             yield Reader(header, it).made
 
 
@@ -227,8 +229,8 @@ def javadoc(text, indent, tags=()):
     if len(lines) == 1 and not tags:
         return [f"{indent}/** {lines[0]} */"]
     # A link stays in one line.
-    held = (re.sub(r"\{@\w+ [^}]*\}", lambda found: found[0].replace(" ", "\0"), it) for it in tags)
-    tagged = [line.replace("\0", " ") for it in held for line in textwrap.wrap(it, 112 - len(indent), subsequent_indent="    ", break_on_hyphens=False)]
+    tags = [re.sub(r"\{@\w+ [^}]*\}", lambda found: found[0].replace(" ", "\0"), it) for it in tags]
+    tagged = [line.replace("\0", " ") for it in tags for line in textwrap.wrap(it, 112 - len(indent), subsequent_indent="    ", break_on_hyphens=False)]
     return [f"{indent}/**", *(f"{indent} * {it}" for it in lines), *([f"{indent} *"] * bool(tagged)), *(f"{indent} * {it}" for it in tagged), f"{indent} */"]
 
 
@@ -241,7 +243,8 @@ def statuses(header):
     *others, last = header.statuses
     for it in header.statuses:
         yield from javadoc(f"{capitalized(it.text)}.", "  ")
-        yield f'  {short(it)}("{it.text}"){";" if it is last else ","}'
+        first, text = f"  {short(it)}(", f'"{it.text}"){";" if it is last else ","}'
+        yield from [first + text] if len(first + text) <= 140 else [first, f"      {text}"]
     yield from [
         "", "  private static final Status[] BY_NUMBER = values();", "", "  private final String sentence;", "",
         "  Status(String sentence) {", "    this.sentence = sentence;", "  }", "",
@@ -274,26 +277,35 @@ def method(it):
     result = "SecretKey" if is_key else "String" if it.is_text else "byte[]"
     first = f"  public static {result} {class_of(it.name)[1]}("
     yield from broken(given, first, "      ", 120, ") throws CukvasheException {")
-    words, held = [], []
+    keys = [one for one in it.arguments if one.kind == "key"]
+    is_derived = is_key and [one.sizes for one in keys] == [str(it.size)]
+    words, secrets = [], []
     for one in it.arguments:
         name = names[one.name]
         if one.kind == "key":
-            held.append(f"Held held{capitalized(name)} = Held.key({name}, {one.sizes})")
-            words.append(f"held{capitalized(name)}.bytes")
+            secrets.append(f"Secret copied{capitalized(name)} = Secret.key({name}, {one.sizes})")
+            words.append("key" if is_derived else f"copied{capitalized(name)}.bytes")
         elif one.kind == "array":
-            yield f'    Held.sized({name}, {one.size}, "{one.what}");'
+            yield f'    Secret.sized({name}, {one.size}, "{one.what}");'
             words.append(name)
         elif one.kind == "response":
             words.append(f"{name}.isResponse()")
         elif one.kind == "text":
-            words.append(f"Held.text({name})")
+            words.append(f"Secret.text({name})")
         else:
             words.append(name)
-    held.append(f"Held made = Held.room({it.size})")
-    if len(held) == 1:
-        yield f"    try ({held[0]}) {{"
+    if is_derived:
+        first = f"    return Secret.derived({it.size}, {names[keys[0].name]}, (key, made) ->"
+        call = f"Native.{camel(it.name)}({', '.join([*words, 'made'])})"
+        call = f"CukvasheException.check({call}));" if it.returns_status else f"{call});"
+        yield from [f"{first} {call}"] if len(f"{first} {call}") <= 120 else [first, f"        {call}"]
+        yield "  }"
+        return
+    secrets.append(f"Secret made = Secret.buffer({it.size})")
+    if len(secrets) == 1:
+        yield f"    try ({secrets[0]}) {{"
     else:
-        yield from [f"    try ({held[0]};", *(f"        {one};" for one in held[1:-1]), f"        {held[-1]}) {{"]
+        yield from [f"    try ({secrets[0]};", *(f"        {one};" for one in secrets[1:-1]), f"        {secrets[-1]}) {{"]
     first = f"      {'CukvasheException.check(' * it.returns_status}Native.{camel(it.name)}("
     yield from broken([*words, "made.bytes"], first, "          ", 120, f"){')' * it.returns_status};")
     yield f"      return made.{'key' if is_key else 'text' if it.is_text else 'copy'}();"

@@ -1,4 +1,4 @@
-"""What the exports of the module take, for JavaScript: those that read bytes and numbers, and write to room whose size is known."""
+"""What the exports of the module take, for JavaScript: those that read bytes and numbers, and write to buffers whose size is known."""
 
 import re
 

@@ -26,6 +26,7 @@ LISTS = ("check_values", "decrypt_each", "encrypt_each", "macs", "macs_each")
 # The arguments that are given in places, where that is another order than the header's, or some have fields or go by name.
 IN_PLACES = {
     "cms_wrap_key": ["protection", "key"], "key_block_wrap": ["protection", "header", "key"], "open_salted": ["password", "bytes"],
+    "pbe_key": ["algorithm", "password", "salt", "iterations", "key_length"],
     "pbkdf2": ["hash", "password", "salt", "iterations", "key_length"], "pin_translate_to_0": ["incoming_format", "account", "block"],
     "pin_translate_to_1": ["block"], "pin_translate_to_3": ["incoming_format", "account", "fill", "block"],
 }  # fmt: skip
@@ -167,7 +168,7 @@ class Inputs:
         for it in call.parameters:
             struct = header.structs.get(it.type.struct)
             if it.type.is_pointer and not it.type.is_const:
-                self.made.append(f"(void *)rooms[{len(self.written)}]")
+                self.made.append(f"(void *)outputs[{len(self.written)}]")
                 self.written.append(it)
             elif struct and len(struct.fields) > 1:
                 fields = []

@@ -17,10 +17,12 @@ FAULTS = {
     "*.MODE": {"mode": "0"},
     "*_each.COUNTS if `count`*": {"count": "count + 1"},
     "*.COUNTS if the sum of the counts*": {"counts": "no_counts"},
+    "*.COUNTS if the sum of the lengths*": {"lengths": "no_counts"},
     "*.COUNTS*`vectors_length`*": {"vectors_length": "8 * count + 1"},
     "*.COUNTS*`others_length`*": {"others_count": "2"},
     "*.COUNTS*": {"count": "count + 1"},
     "unpad.BLOCKS": {"length": "9"},
+    "pgcrypto_encrypt_values.BLOCKS*": None,
     "*_open_salted.BLOCKS": {"length": "17"},
     "cms_wrap_key.BLOCKS*": {"key_length": "7"},
     "*.BLOCKS": {"length": "8 * count + 1"},
@@ -78,11 +80,19 @@ FAULTS = {
     "*.KEY_DATA_LENGTH": {"block": "block_with(KEY_DATA_LENGTH)"},
     "*.KEY_BLOCK_DIGIT": {"block": "block_with(KEY_BLOCK_DIGIT)"},
     "*.KEY_BLOCK_MAC": {"block": "block_with(KEY_BLOCK_MAC)"},
+    "*.KEY_NUMBER": {"number": "10"},
+    "*.VALUES": {},
+    "pbe_key.ALGORITHM": {"algorithm": '"PBEWithMD5AndTripleDEX"'},
+    "jasypt_*.ALGORITHM": {"algorithm": '"PBEWithMD5AndDEX"'},
+    "*.ALGORITHM": {"algorithm": '"xdes"'},
     "*.HASH": {"hash": "0"},
     "pbkdf2.ITERATIONS": {"iterations": "0"},
+    "pbe_key.ITERATIONS": {"iterations": "0"},
+    "jasypt_*.ITERATIONS": {"iterations": "0"},
     "*.ITERATIONS": {"iterations": "(size_t)1 << 32", "hash": "CUKVASHE_SHA256"},
     "*.NOT_SALTED": {"bytes": "blocks"},
     "bytes_to_key.SALT_LENGTH": {"salt_length": "7"},
+    "pbe_key.SALT_LENGTH*": {"salt_length": "7"},
     "*.SALT_LENGTH": {"length": "15"},
     "*_open_salted.PADDING": None,
     "*_open_salted.CAPACITY": None,
@@ -119,9 +129,9 @@ class Orders:
         chosen = [f"has[{at}] ? {fault[name]}" for at, (_, fault) in enumerate(faults) if name in fault]
         return " : ".join([*chosen, good])
 
-    def _given(self, call, faults, one, room):
+    def _given(self, call, faults, one, outputs):
         """The C of an argument. A struct whose fields may have faults is made of them."""
-        good = self.samples.argument(call, one, room)
+        good = self.samples.argument(call, one, outputs)
         struct = self.header.structs.get(one.type.struct)
         fields = [it.name for it in struct.fields] if struct else []
         own = {it.name for it in call.parameters}
@@ -135,8 +145,8 @@ class Orders:
         yield "/* Each call that returns a status, with the faults that it is told to have. Made by bindings/describe. */"
         rows = []
         for call, faults in self.calls.items():
-            room = iter(range(9))
-            given = ", ".join(self._given(call, faults, one, room) for one in call.parameters)
+            outputs = iter(range(9))
+            given = ", ".join(self._given(call, faults, one, outputs) for one in call.parameters)
             yield f"static int faulty_{call.name}(const bool *has) {{"
             if not any(fault for _, fault in faults):
                 yield "  (void)has;"

@@ -16,7 +16,8 @@ BLOCKS = "length / CUKVASHE_BLOCK_SIZE"
 BYTES_OF_BITS = "bits / 8 + (bits % 8 != 0)"
 # The calls of lists whose speed goes by the number of blocks, and not by the other count: CBC decryption takes all blocks of all records
 # at once, and encryption a block of each record.
-BY_BLOCKS = ("decrypt_cbc_records",)
+COLUMNS = ("decrypt_values", "decrypt_values_by_file", "encrypt_values")
+BY_BLOCKS = ("decrypt_cbc_records", "decrypt_values", "decrypt_values_by_file")
 
 # What exports require: of the words of a context and of constants, which are right; and of lengths, which are sizes, one for two slices, or
 # what the call refuses by the condition of its error.
@@ -89,7 +90,8 @@ class OverExport:
         left = [it for it in self.left if it not in checked and "->" not in self.values[it][0]]
         if left:
             raise Refused(f"cukvashe_{self.call.name} does not hand '{left[0]}' on to cukvashe_{self.export.name}, nor compare it")
-        lists = [it for it in self.values if self.count and it.endswith("_length") and it not in checked]
+        is_of_lists = self.count and not self.call.name.endswith(COLUMNS)
+        lists = [it for it in self.values if is_of_lists and it.endswith("_length") and it not in checked]
         if lists:
             raise Refused(f"{PLACE}: no error of cukvashe_{self.call.name} says which `{lists[0]}` it refuses")
         if self.export.is_wide:
@@ -108,7 +110,7 @@ class OverExport:
             return ["context->words", str(words)]
         if kind.endswith("MessageState"):
             return [f"context->words + {words}"]
-        if name in fixed:
+        if name in fixed and not kind.startswith("&"):
             return [fixed[name]]
         if name == "padding" and kind == "u32":
             return [f"(uint32_t){self._taken('method')}" if "method" in self.values else "CUKVASHE_MAC_PADDING_2"]
@@ -156,7 +158,7 @@ class OverExport:
             return [BLOCKS]
         if size and "capacity" in self.values:
             return [f"{self._taken('capacity')} / {size[1]}"]
-        if size or "usize" in kind or "bool" in kind or "&[u8]" in kind[1:]:
+        if size or "usize" in kind or "bool" in kind or "i32" in kind or "&[u8]" in kind[1:]:
             return [self._taken(self.count or "count")]
         if its.sizes:
             return [str(its.sizes[0])]

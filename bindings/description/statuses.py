@@ -14,10 +14,11 @@ NAMES = {
     "VERSION": "KeyBlockVersion",
     "HEADER": "KeyBlockField",
     "HASH": "HashName",
+    "ALGORITHM": "AlgorithmName",
     "ITERATIONS": "IterationCount",
 }
 # Those that no caller meets, and those of which a call says more than their sentence.
-NO_ERRORS = {"OK", "CAPACITY", "NO_OPTIONAL_BLOCK", "CONTEXT", "MODE", "STREAM", "WEAK_KEY", "NO_SERIAL"}
+NO_ERRORS = {"OK", "CAPACITY", "NO_OPTIONAL_BLOCK", "CONTEXT", "MODE", "STREAM", "VALUES", "WEAK_KEY", "NO_SERIAL"}
 
 SAID = "made of it by bindings/describe"
 

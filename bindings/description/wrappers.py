@@ -149,9 +149,10 @@ def python_call(it, names):
     managers, words = [], []
     for one in it.arguments:
         if one.kind in ("key", "text"):
-            managers.append(f"key_of({one.name}, {one.sizes}) as held_{one.name}" if one.kind == "key" else f"text_of({one.name}) as held_{one.name}")
-            words.append(f"held_{one.name}" if one.kind == "key" else f"*held_{one.name}")
-            words += [f"len(held_{one.name})"] * (one.kind == "key" and not one.size)
+            copied = f"key_of({one.name}, {one.sizes})" if one.kind == "key" else f"text_of({one.name})"
+            managers.append(f"{copied} as copied_{one.name}")
+            words.append(f"copied_{one.name}" if one.kind == "key" else f"*copied_{one.name}")
+            words += [f"len(copied_{one.name})"] * (one.kind == "key" and not one.size)
         elif one.kind == "array":
             yield f'    taken_{one.name} = data_of({one.name}, {one.size}, "{one.what} has", {one.fault}Error)'
             words.append(f"taken_{one.name}")
@@ -161,7 +162,7 @@ def python_call(it, names):
         else:
             yield f"    taken_{one.name} = bytes_of({one.name})"
             words += [f"taken_{one.name}", f"len(taken_{one.name})"]
-    yield f"    made = room({it.size})"
+    yield f"    made = buffer_of({it.size})"
     made = f"_{it.name}({', '.join([*words, 'made'])})"
     yield from python_with(managers, [f"check({made})" if it.returns_status else made])
     yield f"    return {'text_from(made)' if it.is_text else 'bytes_from(made)' if it.is_secret else 'bytes(made)'}"
@@ -174,7 +175,7 @@ def of_python(header, stack, read_errors):
     yield ""
     yield "from __future__ import annotations"
     yield ""
-    yield "from ._data import bytes_from, bytes_of, data_of, key_of, room, text_from, text_of"
+    yield "from ._data import buffer_of, bytes_from, bytes_of, data_of, key_of, text_from, text_of"
     yield f"from ._faults import {', '.join([*faults, 'check'])}"
     yield "from ._keys import response_of"
     yield "from ._library import function"

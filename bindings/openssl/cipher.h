@@ -32,15 +32,15 @@ struct cipher {
   int library_mode;
 };
 
-/* A message under a key. `held` came and is not processed: a part of a block, or a whole last one that may be padding. */
+/* A message under a key. `pending` came and is not processed: a part of a block, or a whole last one that may be padding. */
 struct context {
   const struct provider *provider;
   const struct cipher *cipher;
   union keys keys;
   bool has_key, has_vector, encrypts, pads, counts_bits;
   uint32_t number; /* "num": how many bytes of the vector are used, in OFB and in CFB of 64 bits; else it means nothing */
-  uint8_t first_vector[BLOCK], vector[BLOCK], held[BLOCK];
-  size_t held_length;
+  uint8_t first_vector[BLOCK], vector[BLOCK], pending[BLOCK];
+  size_t pending_length;
 };
 
 void *new_context(struct provider *provider, const struct cipher *cipher);

@@ -85,7 +85,7 @@ const OSSL_PARAM *gettable_ctx_params(void *context, void *provider) {
 }
 
 /*
- * A random key of odd parity. The core gives no size, or one that has room. A parameter of another type may have no more
+ * A random key of odd parity. The core gives no size, or one that is large enough. A parameter of another type may have no more
  * than a number or a pointer behind it.
  */
 static bool put_random_key(OSSL_PARAM *param, size_t length) {
@@ -172,7 +172,7 @@ static int set_key(struct context *context, const uint8_t *key, size_t length) {
 static int begin(struct context *context, const uint8_t *key, size_t key_length, const uint8_t *vector,
                  size_t vector_length, const OSSL_PARAM params[], bool encrypts) {
   context->encrypts = encrypts;
-  context->held_length = 0;
+  context->pending_length = 0;
   context->number = 0;
   if (vector != NULL && !set_vector(context, vector, vector_length)) return 0;
   if (context->has_vector) memcpy(context->vector, context->first_vector, BLOCK);
@@ -203,66 +203,66 @@ static int run_moved(struct context *context, unsigned char *output, size_t leng
 }
 
 /*
- * The input may lie over the output in any way. So what will be held is saved first, then the input moved to its place in
- * the output, and what was held put before it. If a block is ready, it has all that was held.
+ * The input may lie over the output in any way. So what will be pending is saved first, then the input moved to its place in
+ * the output, and the pending bytes put before it. If a block is ready, it has all of them.
  */
-static NOT_INLINED int run_with_held(struct context *context, unsigned char *output, size_t ready, const unsigned char *input,
-                         size_t held) {
-  const size_t rest_length = context->held_length;
+static NOT_INLINED int run_with_pending(struct context *context, unsigned char *output, size_t ready, const unsigned char *input,
+                         size_t pending) {
+  const size_t rest_length = context->pending_length;
   uint8_t rest[BLOCK];
-  copy(rest, input + (ready - held), rest_length);
-  copy(output + held, input, ready - held);
-  copy(output, context->held, held);
-  copy(context->held, rest, rest_length);
+  copy(rest, input + (ready - pending), rest_length);
+  copy(output + pending, input, ready - pending);
+  copy(output, context->pending, pending);
+  copy(context->pending, rest, rest_length);
   return run_moved(context, output, ready);
 }
 
 int block_update(void *given, unsigned char *output, size_t *output_length, size_t size, const unsigned char *input,
                  size_t length) {
   struct context *context = given;
-  const size_t held = context->held_length, total = held + length, ready = ready_of(context, total);
+  const size_t pending = context->pending_length, total = pending + length, ready = ready_of(context, total);
   if (!context->has_key) return REFUSE(context->provider, PROV_R_NO_KEY_SET, NULL);
   if (!is_length(length)) return REFUSE(context->provider, PROV_R_BAD_LENGTH, NULL);
   if (size < ready) return REFUSE(context->provider, PROV_R_OUTPUT_BUFFER_TOO_SMALL, NULL);
   *output_length = ready;
-  context->held_length = total - ready;
+  context->pending_length = total - ready;
   if (ready == 0) {
-    copy(context->held + held, input, length);
+    copy(context->pending + pending, input, length);
     return 1;
   }
-  if (held != 0 || ready != length) return run_with_held(context, output, ready, input, held);
+  if (pending != 0 || ready != length) return run_with_pending(context, output, ready, input, pending);
   copy(output, input, length);
   return run_moved(context, output, length);
 }
 
-/* `length` bytes of the last block, which is not held any longer. */
+/* `length` bytes of the last block, which is not pending any longer. */
 static int give_last(struct context *context, unsigned char *output, size_t *output_length, size_t size, size_t length) {
   if (size < length) return REFUSE(context->provider, PROV_R_OUTPUT_BUFFER_TOO_SMALL, NULL);
-  copy(output, context->held, length);
+  copy(output, context->pending, length);
   *output_length = length;
-  cukvashe_wipe(context->held, BLOCK);
-  context->held_length = 0;
+  cukvashe_wipe(context->pending, BLOCK);
+  context->pending_length = 0;
   return 1;
 }
 
 static int final_encryption(struct context *context, unsigned char *output, size_t *output_length, size_t size) {
-  size_t padded = context->held_length;
-  if (context->pads && cukvashe_pad(context->held, padded, BLOCK, CUKVASHE_PKCS7, &padded) != CUKVASHE_OK)
+  size_t padded = context->pending_length;
+  if (context->pads && cukvashe_pad(context->pending, padded, BLOCK, CUKVASHE_PKCS7, &padded) != CUKVASHE_OK)
     return REFUSE(context->provider, PROV_R_CIPHER_OPERATION_FAILED, NULL);
   if (padded % BLOCK != 0) return REFUSE(context->provider, PROV_R_WRONG_FINAL_BLOCK_LENGTH, NULL);
   if (size < padded) return REFUSE(context->provider, PROV_R_OUTPUT_BUFFER_TOO_SMALL, NULL);
-  return run(context, context->held, padded) && give_last(context, output, output_length, size, padded);
+  return run(context, context->pending, padded) && give_last(context, output, output_length, size, padded);
 }
 
-/* That a padding is wrong is told, as EVP wants it. What it was decrypted to is not kept. */
+/* A wrong padding is reported, as EVP expects. What it was decrypted to is not kept. */
 static int final_decryption(struct context *context, unsigned char *output, size_t *output_length, size_t size) {
-  size_t length = context->held_length;
+  size_t length = context->pending_length;
   if (length == 0 && !context->pads) return give_last(context, output, output_length, size, 0);
   if (length != BLOCK) return REFUSE(context->provider, PROV_R_WRONG_FINAL_BLOCK_LENGTH, NULL);
-  if (!run(context, context->held, BLOCK)) return 0;
-  if (context->pads && cukvashe_unpad(context->held, BLOCK, CUKVASHE_PKCS7, &length) != CUKVASHE_OK) {
-    cukvashe_wipe(context->held, BLOCK);
-    context->held_length = 0;
+  if (!run(context, context->pending, BLOCK)) return 0;
+  if (context->pads && cukvashe_unpad(context->pending, BLOCK, CUKVASHE_PKCS7, &length) != CUKVASHE_OK) {
+    cukvashe_wipe(context->pending, BLOCK);
+    context->pending_length = 0;
     return REFUSE(context->provider, PROV_R_BAD_DECRYPT, NULL);
   }
   return give_last(context, output, output_length, size, length);
@@ -275,7 +275,7 @@ int block_final(void *given, unsigned char *output, size_t *output_length, size_
   return final_decryption(context, output, output_length, size);
 }
 
-/* EVP_Cipher: whole blocks, beside what is held. */
+/* EVP_Cipher: whole blocks, beside the pending bytes. */
 int block_at_once(void *given, unsigned char *output, size_t *output_length, size_t size, const unsigned char *input,
                   size_t length) {
   struct context *context = given;

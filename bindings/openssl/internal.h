@@ -49,7 +49,7 @@ static inline void copy(void *to, const void *from, size_t length) {
 
 /*
  * Parameters, in the manner of libcrypto's OSSL_PARAM_get_.. and _set_.., which are not there to be called. What is put
- * into a parameter without room tells its size. False where the type or the size of the parameter does not fit.
+ * into a parameter without a buffer tells its size. False where the type or the size of the parameter does not fit.
  */
 struct number {
   const char *name;
@@ -62,7 +62,7 @@ bool put_bytes(OSSL_PARAM *param, const uint8_t *bytes, size_t length);
 bool put_text(OSSL_PARAM *param, const char *text);
 bool take_number(const OSSL_PARAM *param, uint32_t *value);
 
-/* The calls of an algorithm, as the core wants them. */
+/* The calls of an algorithm, as the core expects them. */
 #define CALL(ID, FUNCTION) {ID, (void (*)(void))FUNCTION}
 #define NO_MORE_CALLS {0, NULL}
 

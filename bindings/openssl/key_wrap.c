@@ -6,21 +6,21 @@ enum { OVERHEAD = 2 * BLOCK, MOST = 1 << 30 };
 
 static bool wrap(const struct context *context, const uint8_t *key, size_t length, uint8_t *output) {
   const uint8_t *wrapping = context->keys.wrapping;
-  const size_t room = length + OVERHEAD;
+  const size_t capacity = length + OVERHEAD;
   uint8_t vector[BLOCK];
   size_t made;
   if (getrandom(vector, sizeof vector, 0) != sizeof vector) return false;
-  return cukvashe_cms_wrap_key(wrapping, sizeof context->keys.wrapping, vector, key, length, output, room, &made) == CUKVASHE_OK;
+  return cukvashe_cms_wrap_key(wrapping, sizeof context->keys.wrapping, vector, key, length, output, capacity, &made) == CUKVASHE_OK;
 }
 
 /* Of what is refused, zeros stand in the output, as by OpenSSL's own. */
 static bool unwrap(const struct context *context, const uint8_t *wrapped, size_t length, uint8_t *output) {
   const uint8_t *wrapping = context->keys.wrapping;
-  const size_t room = length - OVERHEAD;
+  const size_t capacity = length - OVERHEAD;
   size_t made;
-  if (cukvashe_cms_unwrap_key(wrapping, sizeof context->keys.wrapping, wrapped, length, output, room, &made) == CUKVASHE_OK)
+  if (cukvashe_cms_unwrap_key(wrapping, sizeof context->keys.wrapping, wrapped, length, output, capacity, &made) == CUKVASHE_OK)
     return true;
-  memset(output, 0, room);
+  memset(output, 0, capacity);
   return false;
 }
 
@@ -44,8 +44,8 @@ static int run(const struct context *context, uint8_t *output, size_t *output_le
 }
 
 /*
- * The core says of an output that it has room for the input and a block, though a wrapped key is two blocks longer: as by
- * OpenSSL's own, the program must have made room for them. Without an output the length is told.
+ * The core says of an output that it has space for the input and a block, though a wrapped key is two blocks longer: as by
+ * OpenSSL's own, the program must have allowed for them. Without an output the length is told.
  */
 static int is_ready(const struct context *context, size_t size, size_t length) {
   if (!context->has_key) return REFUSE(context->provider, PROV_R_NO_KEY_SET, NULL);

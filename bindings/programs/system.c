@@ -20,9 +20,9 @@ struct tried {
 struct tried rattle_alloc(size_t size, size_t alignment);
 struct tried rattle_realloc(void *memory, size_t kept, size_t size, size_t alignment);
 void rattle_dealloc(void *memory);
-ptrdiff_t rattle_arg(size_t place, unsigned char *buffer, size_t room);
-ptrdiff_t rattle_env(const char *name, unsigned char *buffer, size_t room);
-ptrdiff_t rattle_env_at(size_t place, unsigned char *buffer, size_t room);
+ptrdiff_t rattle_arg(size_t place, unsigned char *buffer, size_t capacity);
+ptrdiff_t rattle_env(const char *name, unsigned char *buffer, size_t capacity);
+ptrdiff_t rattle_env_at(size_t place, unsigned char *buffer, size_t capacity);
 int32_t rattle_errno(void);
 void rattle_set_errno(int32_t error);
 
@@ -89,28 +89,28 @@ int32_t rattle_errno(void) { return errno; }
 
 void rattle_set_errno(int32_t error) { errno = error; }
 
-/* Writes a text to the start of a buffer, without its zero, and returns its length; -1 if there is no such text, or -2 if the buffer has
-   no room for it, and then the buffer is full. */
-static ptrdiff_t copy(const char *text, unsigned char *buffer, size_t room) {
+/* Writes a text to the start of a buffer, without its zero, and returns its length; -1 if there is no such text, or -2 if the buffer is
+   too small for it, and then the buffer is full. */
+static ptrdiff_t copy(const char *text, unsigned char *buffer, size_t capacity) {
   if (text == NULL) return -1;
   const size_t length = strlen(text);
-  memcpy(buffer, text, length < room ? length : room);
-  return length <= room ? (ptrdiff_t)length : -2;
+  memcpy(buffer, text, length < capacity ? length : capacity);
+  return length <= capacity ? (ptrdiff_t)length : -2;
 }
 
 /* The argument at a place; the first is the program's name. */
-ptrdiff_t rattle_arg(size_t place, unsigned char *buffer, size_t room) {
-  return copy(place < (size_t)count ? arguments[place] : NULL, buffer, room);
+ptrdiff_t rattle_arg(size_t place, unsigned char *buffer, size_t capacity) {
+  return copy(place < (size_t)count ? arguments[place] : NULL, buffer, capacity);
 }
 
 /* The value of a variable of the environment. */
-ptrdiff_t rattle_env(const char *name, unsigned char *buffer, size_t room) { return copy(getenv(name), buffer, room); }
+ptrdiff_t rattle_env(const char *name, unsigned char *buffer, size_t capacity) { return copy(getenv(name), buffer, capacity); }
 
 /* The entry of the environment at a place: NAME=VALUE. */
-ptrdiff_t rattle_env_at(size_t place, unsigned char *buffer, size_t room) {
+ptrdiff_t rattle_env_at(size_t place, unsigned char *buffer, size_t capacity) {
   size_t at = 0;
   while (environ[at] != NULL && at < place) at++;
-  return copy(environ[at], buffer, room);
+  return copy(environ[at], buffer, capacity);
 }
 
 /* What glibc has and other C libraries, or its versions before 2.33, lack. With OLD_LIBC a test takes it too. */

@@ -1,7 +1,8 @@
 //! Builds the library by a C compiler, as `bindings/build` does, of the assembly that the proofs gave: of the repository, or of
-//! `native/` in a packaged crate (`bindings/carry` makes it). The crate `cc` is not taken: who builds without a network, as the tests do,
-//! has no other crate. Where CUKVASHE_DES_LIB_DIR names a folder, the library there is linked instead, the static one if it has both. One
-//! of another version is refused, and so is one that says none: its contexts could need more memory than this crate gives them.
+//! `native/` in a packaged crate (`bindings/carry` makes it). The crate `cc` is not taken: a build without a network, as that of the
+//! tests, has no other crate. Where CUKVASHE_DES_LIB_DIR names a folder, the library there is linked instead, the static one if it has
+//! both. One of another version is refused, and so is one that says none: its contexts could need more memory than this crate gives
+//! them.
 
 use std::env;
 use std::fs;

@@ -1090,6 +1090,67 @@ int cukvashe_tdes_ede3_open_salted(int hash, size_t iterations, const uint8_t *p
   return result;
 }
 
+int cukvashe_mysql_decrypt_values(const uint8_t *password, size_t password_length, const uint8_t *values, size_t length,
+    const size_t *lengths, size_t values_count, uint8_t *texts, size_t *text_lengths, int *statuses) {
+  const int result = CHOOSE(length / CUKVASHE_BLOCK_SIZE, mysql_decrypt_values, password, password_length, values,
+    length, lengths, values_count, texts, length, text_lengths, values_count, statuses, values_count);
+  cukvashe_internal_wipe_stack(STACK_mysql_decrypt_values);
+  return result;
+}
+
+int cukvashe_mysql_decrypt_values_by_file(const uint8_t *keys, size_t keys_length, const uint8_t *values, size_t length,
+    const size_t *lengths, size_t values_count, uint8_t *texts, size_t *text_lengths, int *statuses) {
+  const int result = CHOOSE(length / CUKVASHE_BLOCK_SIZE, mysql_decrypt_values_by_file, keys, keys_length, values,
+    length, lengths, values_count, texts, length, text_lengths, values_count, statuses, values_count);
+  cukvashe_internal_wipe_stack(STACK_mysql_decrypt_values_by_file);
+  return result;
+}
+
+int cukvashe_pgcrypto_decrypt_values(const char *algorithm, size_t algorithm_length, const uint8_t *key,
+    size_t key_length, const uint8_t *iv, size_t iv_length, const uint8_t *values, size_t length, const size_t *lengths,
+    size_t values_count, uint8_t *texts, size_t *text_lengths, int *statuses) {
+  const int result = CHOOSE(length / CUKVASHE_BLOCK_SIZE, pgcrypto_decrypt_values, (const uint8_t *)algorithm,
+    algorithm_length, key, key_length, iv, iv_length, values, length, lengths, values_count, texts, length,
+    text_lengths, values_count, statuses, values_count);
+  cukvashe_internal_wipe_stack(STACK_pgcrypto_decrypt_values);
+  return result;
+}
+
+int cukvashe_mysql_encrypt_values(const uint8_t *password, size_t password_length, size_t number, const uint8_t *texts,
+    size_t length, const size_t *lengths, size_t texts_count, uint8_t *values, size_t values_length) {
+  const int result = CHOOSE(texts_count, mysql_encrypt_values, password, password_length, number, texts, length,
+    lengths, texts_count, values, values_length);
+  cukvashe_internal_wipe_stack(STACK_mysql_encrypt_values);
+  return result;
+}
+
+int cukvashe_pgcrypto_encrypt_values(const char *algorithm, size_t algorithm_length, const uint8_t *key,
+    size_t key_length, const uint8_t *iv, size_t iv_length, const uint8_t *texts, size_t length, const size_t *lengths,
+    size_t texts_count, uint8_t *values, size_t values_length) {
+  const int result = CHOOSE(texts_count, pgcrypto_encrypt_values, (const uint8_t *)algorithm, algorithm_length, key,
+    key_length, iv, iv_length, texts, length, lengths, texts_count, values, values_length);
+  cukvashe_internal_wipe_stack(STACK_pgcrypto_encrypt_values);
+  return result;
+}
+
+int cukvashe_pbe_key(const char *algorithm, size_t algorithm_length, size_t iterations, const uint8_t *password,
+    size_t password_length, const uint8_t *salt, size_t salt_length, uint8_t *key, size_t key_length) {
+  const int result = cukvashe_unwiped_pbe_key(algorithm, algorithm_length, iterations, password, password_length, salt,
+    salt_length, key, key_length);
+  cukvashe_internal_wipe_stack(STACK_pbe_key);
+  return result;
+}
+
+int cukvashe_jasypt_decrypt_values(const char *algorithm, size_t algorithm_length, size_t iterations,
+    const uint8_t *password, size_t password_length, const uint8_t *values, size_t length, const size_t *lengths,
+    size_t values_count, uint8_t *texts, size_t *text_lengths, int *statuses) {
+  const int result = cukvashe_internal_jasypt_decrypt_values((const uint8_t *)algorithm, algorithm_length, iterations,
+    password, password_length, values, length, lengths, values_count, texts, length, text_lengths, values_count,
+    statuses, values_count);
+  cukvashe_internal_wipe_stack(STACK_jasypt_decrypt_values);
+  return result;
+}
+
 size_t cukvashe_des_size(void) {
   return sizeof(cukvashe_des);
 }

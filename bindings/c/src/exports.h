@@ -11,6 +11,10 @@ int cukvashe_internal_encrypt_cbc(const uint64_t *context, size_t context_count,
     size_t blocks_count, size_t size);
 int cukvashe_internal_encrypt_cbc_to(const uint64_t *context, size_t context_count, uint8_t iv[8], const uint8_t *input,
     size_t input_count, uint8_t *output, size_t output_count, size_t size);
+int cukvashe_internal_jasypt_decrypt_values(const uint8_t *algorithm, size_t algorithm_count, size_t iterations,
+    const uint8_t *password, size_t password_count, const uint8_t *values, size_t values_count, const size_t *lengths,
+    size_t lengths_count, uint8_t *texts, size_t texts_count, size_t *text_lengths, size_t text_lengths_count,
+    int *statuses, size_t statuses_count);
 bool cukvashe_internal_equal_but_parity(const uint8_t *first, size_t first_count, const uint8_t *second,
     size_t second_count);
 int cukvashe_internal_encrypt_ecb(const uint64_t *context, size_t context_count, uint8_t *blocks, size_t blocks_count,
@@ -25,6 +29,22 @@ int cukvashe_internal_decrypt_cbc(const uint64_t *context, size_t context_count,
     size_t blocks_count, size_t size);
 int cukvashe_internal_decrypt_cbc_to(const uint64_t *context, size_t context_count, uint8_t iv[8], const uint8_t *input,
     size_t input_count, uint8_t *output, size_t output_count, size_t size);
+int cukvashe_internal_mysql_decrypt_values(const uint8_t *password, size_t password_count, const uint8_t *values,
+    size_t values_count, const size_t *lengths, size_t lengths_count, uint8_t *texts, size_t texts_count,
+    size_t *text_lengths, size_t text_lengths_count, int *statuses, size_t statuses_count);
+int cukvashe_internal_mysql_decrypt_values_by_file(const uint8_t *keys, size_t keys_count, const uint8_t *values,
+    size_t values_count, const size_t *lengths, size_t lengths_count, uint8_t *texts, size_t texts_count,
+    size_t *text_lengths, size_t text_lengths_count, int *statuses, size_t statuses_count);
+int cukvashe_internal_pgcrypto_decrypt_values(const uint8_t *algorithm, size_t algorithm_count, const uint8_t *key,
+    size_t key_count, const uint8_t *iv, size_t iv_count, const uint8_t *values, size_t values_count,
+    const size_t *lengths, size_t lengths_count, uint8_t *texts, size_t texts_count, size_t *text_lengths,
+    size_t text_lengths_count, int *statuses, size_t statuses_count);
+int cukvashe_internal_mysql_encrypt_values(const uint8_t *password, size_t password_count, size_t number,
+    const uint8_t *texts, size_t texts_count, const size_t *lengths, size_t lengths_count, uint8_t *values,
+    size_t values_count);
+int cukvashe_internal_pgcrypto_encrypt_values(const uint8_t *algorithm, size_t algorithm_count, const uint8_t *key,
+    size_t key_count, const uint8_t *iv, size_t iv_count, const uint8_t *texts, size_t texts_count,
+    const size_t *lengths, size_t lengths_count, uint8_t *values, size_t values_count);
 int cukvashe_internal_encrypt_each(size_t key_size, const uint8_t *keys, size_t keys_count, uint8_t *blocks,
     size_t blocks_count);
 int cukvashe_internal_decrypt_each(size_t key_size, const uint8_t *keys, size_t keys_count, uint8_t *blocks,
@@ -84,6 +104,22 @@ int cukvashe_wide_decrypt_cbc(const uint64_t *context, size_t context_count, uin
     size_t blocks_count, size_t size);
 int cukvashe_wide_decrypt_cbc_to(const uint64_t *context, size_t context_count, uint8_t iv[8], const uint8_t *input,
     size_t input_count, uint8_t *output, size_t output_count, size_t size);
+int cukvashe_wide_mysql_decrypt_values(const uint8_t *password, size_t password_count, const uint8_t *values,
+    size_t values_count, const size_t *lengths, size_t lengths_count, uint8_t *texts, size_t texts_count,
+    size_t *text_lengths, size_t text_lengths_count, int *statuses, size_t statuses_count);
+int cukvashe_wide_mysql_decrypt_values_by_file(const uint8_t *keys, size_t keys_count, const uint8_t *values,
+    size_t values_count, const size_t *lengths, size_t lengths_count, uint8_t *texts, size_t texts_count,
+    size_t *text_lengths, size_t text_lengths_count, int *statuses, size_t statuses_count);
+int cukvashe_wide_pgcrypto_decrypt_values(const uint8_t *algorithm, size_t algorithm_count, const uint8_t *key,
+    size_t key_count, const uint8_t *iv, size_t iv_count, const uint8_t *values, size_t values_count,
+    const size_t *lengths, size_t lengths_count, uint8_t *texts, size_t texts_count, size_t *text_lengths,
+    size_t text_lengths_count, int *statuses, size_t statuses_count);
+int cukvashe_wide_mysql_encrypt_values(const uint8_t *password, size_t password_count, size_t number,
+    const uint8_t *texts, size_t texts_count, const size_t *lengths, size_t lengths_count, uint8_t *values,
+    size_t values_count);
+int cukvashe_wide_pgcrypto_encrypt_values(const uint8_t *algorithm, size_t algorithm_count, const uint8_t *key,
+    size_t key_count, const uint8_t *iv, size_t iv_count, const uint8_t *texts, size_t texts_count,
+    const size_t *lengths, size_t lengths_count, uint8_t *values, size_t values_count);
 int cukvashe_wide_encrypt_each(size_t key_size, const uint8_t *keys, size_t keys_count, uint8_t *blocks,
     size_t blocks_count);
 int cukvashe_wide_decrypt_each(size_t key_size, const uint8_t *keys, size_t keys_count, uint8_t *blocks,
@@ -182,6 +218,8 @@ int cukvashe_unwiped_pbkdf2(uint32_t hash, const uint8_t *password, size_t passw
     size_t salt_count, size_t iterations, uint8_t *key, size_t key_count);
 int cukvashe_unwiped_bytes_to_key(int hash, const uint8_t *password, size_t password_length, const uint8_t *salt,
     size_t salt_length, uint8_t *key, size_t key_length);
+int cukvashe_unwiped_pbe_key(const char *algorithm, size_t algorithm_length, size_t iterations, const uint8_t *password,
+    size_t password_length, const uint8_t *salt, size_t salt_length, uint8_t *key, size_t key_length);
 
 enum {
   STACK_des_init = 5650,
@@ -280,6 +318,13 @@ enum {
   STACK_des_open_salted = 26650,
   STACK_tdes_ede2_open_salted = 26650,
   STACK_tdes_ede3_open_salted = 26650,
+  STACK_mysql_decrypt_values = 44650,
+  STACK_mysql_decrypt_values_by_file = 44650,
+  STACK_pgcrypto_decrypt_values = 44650,
+  STACK_mysql_encrypt_values = 44650,
+  STACK_pgcrypto_encrypt_values = 44650,
+  STACK_pbe_key = 5650,
+  STACK_jasypt_decrypt_values = 44650,
 };
 
 #endif

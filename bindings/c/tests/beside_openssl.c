@@ -46,13 +46,14 @@ static void put_bit(uint8_t *bytes, size_t i, uint8_t bit) {
   bytes[i / 8] = (uint8_t)((bytes[i / 8] & ~(0x80 >> i % 8)) | bit >> i % 8);
 }
 
-/* What OpenSSL encrypts a segment of so many bits to, or as many segments as are in `size` bytes. */
+/* What OpenSSL encrypts a segment of `bits` bits to, or as many segments as are in `size` bytes. */
 static void feed_back(int cipher, struct schedules *by, DES_cblock *vector, int bits, const uint8_t *in, uint8_t *out, size_t size) {
   if (cipher == DES) DES_cfb_encrypt(in, out, bits, (long)size, &by->part[0], vector, DES_ENCRYPT);
   else DES_ede3_cfb_encrypt(in, out, bits, (long)size, &by->part[0], &by->part[1], &by->part[2], vector, DES_ENCRYPT);
 }
 
-/* What it encrypts bytes to in a mode. It has no CTR of DES: there each counter block is encrypted by itself. Room is for 8 bytes more. */
+/* What it encrypts bytes to in a mode. It has no CTR of DES: there each counter block is encrypted by itself. `out` has space for 8 more
+   bytes. */
 static void encrypt_in_mode(int cipher, struct schedules *by, int mode, const uint8_t *iv, const uint8_t *in, uint8_t *out, size_t length) {
   DES_cblock vector;
   int used = 0;
@@ -89,19 +90,19 @@ static size_t random_count(void) {
 
 /* A list at a random address, with bytes before it and AFTER of them after it that must stay. */
 struct list {
-  uint8_t room[8 * LONG + 8 + AFTER], *blocks, *end;
+  uint8_t buffer[8 * LONG + 8 + AFTER], *blocks, *end;
 };
 
 static void put(struct list *list, const uint8_t *blocks, size_t count) {
-  list->blocks = list->room + 1 + random_word() % 8;
+  list->blocks = list->buffer + 1 + random_word() % 8;
   list->end = list->blocks + 8 * count + AFTER;
-  memset(list->room, 0xa5, (size_t)(list->end - list->room));
+  memset(list->buffer, 0xa5, (size_t)(list->end - list->buffer));
   memcpy(list->blocks, blocks, 8 * count);
 }
 
 static int is(const struct list *list, const uint8_t *wanted) {
   const uint8_t *after = list->end - AFTER;
-  for (const uint8_t *at = list->room; at < list->blocks; at++)
+  for (const uint8_t *at = list->buffer; at < list->blocks; at++)
     if (*at != 0xa5) return 0;
   for (const uint8_t *at = after; at < list->end; at++)
     if (*at != 0xa5) return 0;
@@ -111,48 +112,48 @@ static int is(const struct list *list, const uint8_t *wanted) {
 static struct list list, other;
 
 /* A list in place, and from one list to another. */
-static void is_list(const struct way *way, const union context *context, const uint8_t *plain, const uint8_t *wanted,
+static void is_list(const struct path *path, const union context *context, const uint8_t *plain, const uint8_t *wanted,
                     size_t count) {
   const size_t length = 8 * count;
   put(&list, plain, count);
-  CHECK(way->encrypt_ecb(context, list.blocks, length) == CUKVASHE_OK && is(&list, wanted));
-  CHECK(way->decrypt_ecb(context, list.blocks, length) == CUKVASHE_OK && is(&list, plain));
+  CHECK(path->encrypt_ecb(context, list.blocks, length) == CUKVASHE_OK && is(&list, wanted));
+  CHECK(path->decrypt_ecb(context, list.blocks, length) == CUKVASHE_OK && is(&list, plain));
   put(&other, wanted, count);
-  CHECK(way->decrypt_ecb_to(context, other.blocks, list.blocks, length) == CUKVASHE_OK);
+  CHECK(path->decrypt_ecb_to(context, other.blocks, list.blocks, length) == CUKVASHE_OK);
   CHECK(is(&list, plain) && is(&other, wanted));
   memset(other.blocks, 0, length);
-  CHECK(way->encrypt_ecb_to(context, list.blocks, other.blocks, length) == CUKVASHE_OK);
+  CHECK(path->encrypt_ecb_to(context, list.blocks, other.blocks, length) == CUKVASHE_OK);
   CHECK(is(&list, plain) && is(&other, wanted));
 }
 
 /* CBC in two pieces, in place and from one list to another: the second piece begins with the vector that the first left. */
-static void is_chain(const struct way *way, const union context *context, const uint8_t *iv, const uint8_t *plain,
+static void is_chain(const struct path *path, const union context *context, const uint8_t *iv, const uint8_t *plain,
                      const uint8_t *wanted, size_t count) {
   const size_t length = 8 * count, cut = count ? 8 * (random_word() % (count + 1)) : 0, rest = length - cut;
   uint8_t vector[8];
   const uint8_t *last = count ? wanted + length - 8 : iv;
   put(&list, plain, count);
   memcpy(vector, iv, 8);
-  CHECK(way->encrypt_cbc(context, vector, list.blocks, cut) == CUKVASHE_OK);
-  CHECK(way->encrypt_cbc(context, vector, list.blocks + cut, rest) == CUKVASHE_OK);
+  CHECK(path->encrypt_cbc(context, vector, list.blocks, cut) == CUKVASHE_OK);
+  CHECK(path->encrypt_cbc(context, vector, list.blocks + cut, rest) == CUKVASHE_OK);
   CHECK(is(&list, wanted) && memcmp(vector, last, 8) == 0);
   put(&other, plain, count);
   memcpy(vector, iv, 8);
-  CHECK(way->decrypt_cbc_to(context, vector, list.blocks, other.blocks, cut) == CUKVASHE_OK);
-  CHECK(way->decrypt_cbc_to(context, vector, list.blocks + cut, other.blocks + cut, rest) == CUKVASHE_OK);
+  CHECK(path->decrypt_cbc_to(context, vector, list.blocks, other.blocks, cut) == CUKVASHE_OK);
+  CHECK(path->decrypt_cbc_to(context, vector, list.blocks + cut, other.blocks + cut, rest) == CUKVASHE_OK);
   CHECK(is(&list, wanted) && is(&other, plain) && memcmp(vector, last, 8) == 0);
   memcpy(vector, iv, 8);
-  CHECK(way->decrypt_cbc(context, vector, list.blocks, cut) == CUKVASHE_OK);
-  CHECK(way->decrypt_cbc(context, vector, list.blocks + cut, rest) == CUKVASHE_OK);
+  CHECK(path->decrypt_cbc(context, vector, list.blocks, cut) == CUKVASHE_OK);
+  CHECK(path->decrypt_cbc(context, vector, list.blocks + cut, rest) == CUKVASHE_OK);
   CHECK(is(&list, plain) && memcmp(vector, last, 8) == 0);
   memset(other.blocks, 0, length);
   memcpy(vector, iv, 8);
-  CHECK(way->encrypt_cbc_to(context, vector, list.blocks, other.blocks, cut) == CUKVASHE_OK);
-  CHECK(way->encrypt_cbc_to(context, vector, list.blocks + cut, other.blocks + cut, rest) == CUKVASHE_OK);
+  CHECK(path->encrypt_cbc_to(context, vector, list.blocks, other.blocks, cut) == CUKVASHE_OK);
+  CHECK(path->encrypt_cbc_to(context, vector, list.blocks + cut, other.blocks + cut, rest) == CUKVASHE_OK);
   CHECK(is(&list, plain) && is(&other, wanted) && memcmp(vector, last, 8) == 0);
 }
 
-/* A list under a key by all calls and ways: each block by itself, and as a chain. */
+/* A list under a key by all calls and code paths: each block by itself, and as a chain. */
 static void list_under(int n, const uint8_t *key, const uint8_t *iv, const uint8_t *plain, size_t count) {
   static uint8_t wanted[8 * LONG], chained[8 * LONG];
   const struct cipher *cipher = &ciphers[n];
@@ -163,23 +164,23 @@ static void list_under(int n, const uint8_t *key, const uint8_t *iv, const uint8
   answer_list(n, &by, wanted, count, DES_ENCRYPT);
   memcpy(chained, plain, 8 * count);
   chain(n, &by, iv, chained, count);
-  for (int way = 0; way < count_of_ways(); way++) {
-    is_list(&cipher->ways[way], &context, plain, wanted, count);
-    is_chain(&cipher->ways[way], &context, iv, plain, chained, count);
+  for (int path = 0; path < count_of_paths(); path++) {
+    is_list(&cipher->paths[path], &context, plain, wanted, count);
+    is_chain(&cipher->paths[path], &context, iv, plain, chained, count);
   }
 }
 
-/* Bytes in a mode, both ways, whole and in three pieces. */
-static void is_in_mode(const struct way *way, const union context *context, int mode, const uint8_t *iv, const uint8_t *plain,
+/* Bytes in a mode, encrypted and decrypted, whole and in three pieces. */
+static void is_in_mode(const struct path *path, const union context *context, int mode, const uint8_t *iv, const uint8_t *plain,
                        const uint8_t *wanted, size_t length) {
   static uint8_t bytes[8 * MOST];
   const size_t cut = (size_t)(random_word() % (length + 1)), next = cut + (size_t)(random_word() % (length - cut + 1));
   for (int n = 0; n < 2; n++) {
-    next_bytes *const call = n == 0 ? way->encrypt_stream : way->decrypt_stream;
+    next_bytes *const call = n == 0 ? path->encrypt_stream : path->decrypt_stream;
     const uint8_t *before = n == 0 ? plain : wanted, *after = n == 0 ? wanted : plain;
     cukvashe_stream stream;
     memcpy(bytes, before, length);
-    CHECK((n == 0 ? way->encrypt_mode : way->decrypt_mode)(context, mode, iv, bytes, length) == CUKVASHE_OK);
+    CHECK((n == 0 ? path->encrypt_mode : path->decrypt_mode)(context, mode, iv, bytes, length) == CUKVASHE_OK);
     CHECK(memcmp(bytes, after, length) == 0);
     memcpy(bytes, before, length);
     CHECK(cukvashe_stream_begin(&stream, mode, iv) == CUKVASHE_OK);
@@ -205,7 +206,7 @@ static void random_modes(int n) {
     if (mode > CUKVASHE_OFB && mode < CUKVASHE_CFB1) continue;
     random_bytes(plain, sizeof plain);
     encrypt_in_mode(n, &by, mode, iv, plain, wanted, length);
-    for (int way = 0; way < count_of_ways(); way++) is_in_mode(&cipher->ways[way], &context, mode, iv, plain, wanted, length);
+    for (int path = 0; path < count_of_paths(); path++) is_in_mode(&cipher->paths[path], &context, mode, iv, plain, wanted, length);
   }
 }
 
@@ -253,7 +254,7 @@ int main(int count, char **words) {
     if (longest > 0) random_list(cipher, longest);
   }
   printf("beside OpenSSL: %d keys for each of %d ciphers, %d of them in each mode without padding, %d keys of known answers, lists of up to "
-         "%zu blocks, by %d of %d ways\n",
-         keys, (int)CIPHERS, keys / 10, cases, longest > MOST ? longest : (size_t)MOST, count_of_ways(), (int)MOST_WAYS);
+         "%zu blocks, by %d of %d code paths\n",
+         keys, (int)CIPHERS, keys / 10, cases, longest > MOST ? longest : (size_t)MOST, count_of_paths(), (int)MOST_PATHS);
   return 0;
 }

@@ -2,7 +2,7 @@
 static void call_is_supported(void) { returned = cukvashe_is_supported(); }
 static void call_version(void) { returned = *cukvashe_version(); }
 static void call_strerror(void) { returned = *cukvashe_strerror(3); }
-static void call_wipe(void) { cukvashe_wipe((void *)rooms[0], sizeof blocks); }
+static void call_wipe(void) { cukvashe_wipe((void *)outputs[0], sizeof blocks); }
 static void call_des_init(void) { returned = cukvashe_des_init((void *)contexts[0], key, CUKVASHE_DES_KEY_SIZE); }
 static void call_tdes_ede2_init(void) { returned = cukvashe_tdes_ede2_init((void *)contexts[1], key,
     CUKVASHE_TDES_EDE2_KEY_SIZE); }
@@ -14,130 +14,131 @@ static void call_tdes_ede2_init_no_tables(void) { returned = cukvashe_tdes_ede2_
     CUKVASHE_TDES_EDE2_KEY_SIZE); }
 static void call_tdes_ede3_init_no_tables(void) { returned = cukvashe_tdes_ede3_init_no_tables((void *)contexts[2], key,
     CUKVASHE_TDES_EDE3_KEY_SIZE); }
-static void call_des_encrypt_ecb(void) { returned = cukvashe_des_encrypt_ecb((void *)contexts[0], (void *)rooms[0],
+static void call_des_encrypt_ecb(void) { returned = cukvashe_des_encrypt_ecb((void *)contexts[0], (void *)outputs[0],
     8 * count); }
-static void call_des_decrypt_ecb(void) { returned = cukvashe_des_decrypt_ecb((void *)contexts[0], (void *)rooms[0],
+static void call_des_decrypt_ecb(void) { returned = cukvashe_des_decrypt_ecb((void *)contexts[0], (void *)outputs[0],
     8 * count); }
 static void call_des_encrypt_ecb_to(void) { returned = cukvashe_des_encrypt_ecb_to((void *)contexts[0], blocks,
-    (void *)rooms[0], 8 * count); }
+    (void *)outputs[0], 8 * count); }
 static void call_des_decrypt_ecb_to(void) { returned = cukvashe_des_decrypt_ecb_to((void *)contexts[0], blocks,
-    (void *)rooms[0], 8 * count); }
+    (void *)outputs[0], 8 * count); }
 static void call_tdes_ede2_encrypt_ecb(void) { returned = cukvashe_tdes_ede2_encrypt_ecb((void *)contexts[1],
-    (void *)rooms[0], 8 * count); }
+    (void *)outputs[0], 8 * count); }
 static void call_tdes_ede2_decrypt_ecb(void) { returned = cukvashe_tdes_ede2_decrypt_ecb((void *)contexts[1],
-    (void *)rooms[0], 8 * count); }
+    (void *)outputs[0], 8 * count); }
 static void call_tdes_ede2_encrypt_ecb_to(void) { returned = cukvashe_tdes_ede2_encrypt_ecb_to((void *)contexts[1],
-    blocks, (void *)rooms[0], 8 * count); }
+    blocks, (void *)outputs[0], 8 * count); }
 static void call_tdes_ede2_decrypt_ecb_to(void) { returned = cukvashe_tdes_ede2_decrypt_ecb_to((void *)contexts[1],
-    blocks, (void *)rooms[0], 8 * count); }
+    blocks, (void *)outputs[0], 8 * count); }
 static void call_tdes_ede3_encrypt_ecb(void) { returned = cukvashe_tdes_ede3_encrypt_ecb((void *)contexts[2],
-    (void *)rooms[0], 8 * count); }
+    (void *)outputs[0], 8 * count); }
 static void call_tdes_ede3_decrypt_ecb(void) { returned = cukvashe_tdes_ede3_decrypt_ecb((void *)contexts[2],
-    (void *)rooms[0], 8 * count); }
+    (void *)outputs[0], 8 * count); }
 static void call_tdes_ede3_encrypt_ecb_to(void) { returned = cukvashe_tdes_ede3_encrypt_ecb_to((void *)contexts[2],
-    blocks, (void *)rooms[0], 8 * count); }
+    blocks, (void *)outputs[0], 8 * count); }
 static void call_tdes_ede3_decrypt_ecb_to(void) { returned = cukvashe_tdes_ede3_decrypt_ecb_to((void *)contexts[2],
-    blocks, (void *)rooms[0], 8 * count); }
-static void call_des_encrypt_cbc(void) { returned = cukvashe_des_encrypt_cbc((void *)contexts[0], (void *)rooms[0],
-    (void *)rooms[1], 8 * count); }
-static void call_des_decrypt_cbc(void) { returned = cukvashe_des_decrypt_cbc((void *)contexts[0], (void *)rooms[0],
-    (void *)rooms[1], 8 * count); }
+    blocks, (void *)outputs[0], 8 * count); }
+static void call_des_encrypt_cbc(void) { returned = cukvashe_des_encrypt_cbc((void *)contexts[0], (void *)outputs[0],
+    (void *)outputs[1], 8 * count); }
+static void call_des_decrypt_cbc(void) { returned = cukvashe_des_decrypt_cbc((void *)contexts[0], (void *)outputs[0],
+    (void *)outputs[1], 8 * count); }
 static void call_des_encrypt_cbc_to(void) { returned = cukvashe_des_encrypt_cbc_to((void *)contexts[0],
-    (void *)rooms[0], blocks, (void *)rooms[1], 8 * count); }
+    (void *)outputs[0], blocks, (void *)outputs[1], 8 * count); }
 static void call_des_decrypt_cbc_to(void) { returned = cukvashe_des_decrypt_cbc_to((void *)contexts[0],
-    (void *)rooms[0], blocks, (void *)rooms[1], 8 * count); }
+    (void *)outputs[0], blocks, (void *)outputs[1], 8 * count); }
 static void call_tdes_ede2_encrypt_cbc(void) { returned = cukvashe_tdes_ede2_encrypt_cbc((void *)contexts[1],
-    (void *)rooms[0], (void *)rooms[1], 8 * count); }
+    (void *)outputs[0], (void *)outputs[1], 8 * count); }
 static void call_tdes_ede2_decrypt_cbc(void) { returned = cukvashe_tdes_ede2_decrypt_cbc((void *)contexts[1],
-    (void *)rooms[0], (void *)rooms[1], 8 * count); }
+    (void *)outputs[0], (void *)outputs[1], 8 * count); }
 static void call_tdes_ede2_encrypt_cbc_to(void) { returned = cukvashe_tdes_ede2_encrypt_cbc_to((void *)contexts[1],
-    (void *)rooms[0], blocks, (void *)rooms[1], 8 * count); }
+    (void *)outputs[0], blocks, (void *)outputs[1], 8 * count); }
 static void call_tdes_ede2_decrypt_cbc_to(void) { returned = cukvashe_tdes_ede2_decrypt_cbc_to((void *)contexts[1],
-    (void *)rooms[0], blocks, (void *)rooms[1], 8 * count); }
+    (void *)outputs[0], blocks, (void *)outputs[1], 8 * count); }
 static void call_tdes_ede3_encrypt_cbc(void) { returned = cukvashe_tdes_ede3_encrypt_cbc((void *)contexts[2],
-    (void *)rooms[0], (void *)rooms[1], 8 * count); }
+    (void *)outputs[0], (void *)outputs[1], 8 * count); }
 static void call_tdes_ede3_decrypt_cbc(void) { returned = cukvashe_tdes_ede3_decrypt_cbc((void *)contexts[2],
-    (void *)rooms[0], (void *)rooms[1], 8 * count); }
+    (void *)outputs[0], (void *)outputs[1], 8 * count); }
 static void call_tdes_ede3_encrypt_cbc_to(void) { returned = cukvashe_tdes_ede3_encrypt_cbc_to((void *)contexts[2],
-    (void *)rooms[0], blocks, (void *)rooms[1], 8 * count); }
+    (void *)outputs[0], blocks, (void *)outputs[1], 8 * count); }
 static void call_tdes_ede3_decrypt_cbc_to(void) { returned = cukvashe_tdes_ede3_decrypt_cbc_to((void *)contexts[2],
-    (void *)rooms[0], blocks, (void *)rooms[1], 8 * count); }
+    (void *)outputs[0], blocks, (void *)outputs[1], 8 * count); }
 static void call_des_encrypt_mode(void) { returned = cukvashe_des_encrypt_mode((void *)contexts[0], CUKVASHE_CTR,
-    blocks, (void *)rooms[0], 8 * count); }
+    blocks, (void *)outputs[0], 8 * count); }
 static void call_des_decrypt_mode(void) { returned = cukvashe_des_decrypt_mode((void *)contexts[0], CUKVASHE_CFB64,
-    blocks, (void *)rooms[0], 8 * count); }
+    blocks, (void *)outputs[0], 8 * count); }
 static void call_tdes_ede2_encrypt_mode(void) { returned = cukvashe_tdes_ede2_encrypt_mode((void *)contexts[1],
-    CUKVASHE_CTR, blocks, (void *)rooms[0], 8 * count); }
+    CUKVASHE_CTR, blocks, (void *)outputs[0], 8 * count); }
 static void call_tdes_ede2_decrypt_mode(void) { returned = cukvashe_tdes_ede2_decrypt_mode((void *)contexts[1],
-    CUKVASHE_CFB64, blocks, (void *)rooms[0], 8 * count); }
+    CUKVASHE_CFB64, blocks, (void *)outputs[0], 8 * count); }
 static void call_tdes_ede3_encrypt_mode(void) { returned = cukvashe_tdes_ede3_encrypt_mode((void *)contexts[2],
-    CUKVASHE_CTR, blocks, (void *)rooms[0], 8 * count); }
+    CUKVASHE_CTR, blocks, (void *)outputs[0], 8 * count); }
 static void call_tdes_ede3_decrypt_mode(void) { returned = cukvashe_tdes_ede3_decrypt_mode((void *)contexts[2],
-    CUKVASHE_CFB64, blocks, (void *)rooms[0], 8 * count); }
-static void call_stream_begin(void) { returned = cukvashe_stream_begin((void *)rooms[0], CUKVASHE_CTR, blocks); }
-static void call_stream_begin_ctr_at(void) { cukvashe_stream_begin_ctr_at((void *)rooms[0], blocks, 1); }
+    CUKVASHE_CFB64, blocks, (void *)outputs[0], 8 * count); }
+static void call_stream_begin(void) { returned = cukvashe_stream_begin((void *)outputs[0], CUKVASHE_CTR, blocks); }
+static void call_stream_begin_ctr_at(void) { cukvashe_stream_begin_ctr_at((void *)outputs[0], blocks, 1); }
 static void call_des_encrypt_stream(void) { returned = cukvashe_des_encrypt_stream((void *)contexts[0], &streams[0],
-    (void *)rooms[0], 8 * count); }
+    (void *)outputs[0], 8 * count); }
 static void call_des_decrypt_stream(void) { returned = cukvashe_des_decrypt_stream((void *)contexts[0], &streams[2],
-    (void *)rooms[0], 8 * count); }
+    (void *)outputs[0], 8 * count); }
 static void call_tdes_ede2_encrypt_stream(void) { returned = cukvashe_tdes_ede2_encrypt_stream((void *)contexts[1],
-    &streams[0], (void *)rooms[0], 8 * count); }
+    &streams[0], (void *)outputs[0], 8 * count); }
 static void call_tdes_ede2_decrypt_stream(void) { returned = cukvashe_tdes_ede2_decrypt_stream((void *)contexts[1],
-    &streams[2], (void *)rooms[0], 8 * count); }
+    &streams[2], (void *)outputs[0], 8 * count); }
 static void call_tdes_ede3_encrypt_stream(void) { returned = cukvashe_tdes_ede3_encrypt_stream((void *)contexts[2],
-    &streams[0], (void *)rooms[0], 8 * count); }
+    &streams[0], (void *)outputs[0], 8 * count); }
 static void call_tdes_ede3_decrypt_stream(void) { returned = cukvashe_tdes_ede3_decrypt_stream((void *)contexts[2],
-    &streams[2], (void *)rooms[0], 8 * count); }
+    &streams[2], (void *)outputs[0], 8 * count); }
 static void call_des_encrypt_stream_bits(void) { returned = cukvashe_des_encrypt_stream_bits((void *)contexts[0],
-    &streams[1], (void *)rooms[0], 8 * count); }
+    &streams[1], (void *)outputs[0], 8 * count); }
 static void call_des_decrypt_stream_bits(void) { returned = cukvashe_des_decrypt_stream_bits((void *)contexts[0],
-    &streams[1], (void *)rooms[0], 8 * count); }
+    &streams[1], (void *)outputs[0], 8 * count); }
 static void call_tdes_ede2_encrypt_stream_bits(void) { returned = cukvashe_tdes_ede2_encrypt_stream_bits((void *)contexts[1],
-    &streams[1], (void *)rooms[0], 8 * count); }
+    &streams[1], (void *)outputs[0], 8 * count); }
 static void call_tdes_ede2_decrypt_stream_bits(void) { returned = cukvashe_tdes_ede2_decrypt_stream_bits((void *)contexts[1],
-    &streams[1], (void *)rooms[0], 8 * count); }
+    &streams[1], (void *)outputs[0], 8 * count); }
 static void call_tdes_ede3_encrypt_stream_bits(void) { returned = cukvashe_tdes_ede3_encrypt_stream_bits((void *)contexts[2],
-    &streams[1], (void *)rooms[0], 8 * count); }
+    &streams[1], (void *)outputs[0], 8 * count); }
 static void call_tdes_ede3_decrypt_stream_bits(void) { returned = cukvashe_tdes_ede3_decrypt_stream_bits((void *)contexts[2],
-    &streams[1], (void *)rooms[0], 8 * count); }
-static void call_stream_position(void) { cukvashe_stream_position(&streams[0], (void *)rooms[0], (void *)rooms[1]); }
-static void call_cms_wrap_key(void) { returned = cukvashe_cms_wrap_key(key, 24, blocks, key, 24, (void *)rooms[0],
-    sizeof blocks, (void *)rooms[1]); }
-static void call_cms_unwrap_key(void) { returned = cukvashe_cms_unwrap_key(key, 24, blocks, 40, (void *)rooms[0],
-    sizeof blocks, (void *)rooms[1]); }
-static void call_tkw_wrap_key(void) { returned = cukvashe_tkw_wrap_key(key, 24, key, 24, (void *)rooms[0],
-    sizeof blocks, (void *)rooms[1]); }
-static void call_tkw_unwrap_key(void) { returned = cukvashe_tkw_unwrap_key(key, 24, blocks, 40, (void *)rooms[0],
-    sizeof blocks, (void *)rooms[1]); }
-static void call_des_encrypt_each(void) { returned = cukvashe_des_encrypt_each(keys, count, (void *)rooms[0],
+    &streams[1], (void *)outputs[0], 8 * count); }
+static void call_stream_position(void) { cukvashe_stream_position(&streams[0], (void *)outputs[0],
+    (void *)outputs[1]); }
+static void call_cms_wrap_key(void) { returned = cukvashe_cms_wrap_key(key, 24, blocks, key, 24, (void *)outputs[0],
+    sizeof blocks, (void *)outputs[1]); }
+static void call_cms_unwrap_key(void) { returned = cukvashe_cms_unwrap_key(key, 24, blocks, 40, (void *)outputs[0],
+    sizeof blocks, (void *)outputs[1]); }
+static void call_tkw_wrap_key(void) { returned = cukvashe_tkw_wrap_key(key, 24, key, 24, (void *)outputs[0],
+    sizeof blocks, (void *)outputs[1]); }
+static void call_tkw_unwrap_key(void) { returned = cukvashe_tkw_unwrap_key(key, 24, blocks, 40, (void *)outputs[0],
+    sizeof blocks, (void *)outputs[1]); }
+static void call_des_encrypt_each(void) { returned = cukvashe_des_encrypt_each(keys, count, (void *)outputs[0],
     8 * count); }
-static void call_des_decrypt_each(void) { returned = cukvashe_des_decrypt_each(keys, count, (void *)rooms[0],
+static void call_des_decrypt_each(void) { returned = cukvashe_des_decrypt_each(keys, count, (void *)outputs[0],
     8 * count); }
 static void call_tdes_ede2_encrypt_each(void) { returned = cukvashe_tdes_ede2_encrypt_each(keys, count,
-    (void *)rooms[0], 8 * count); }
+    (void *)outputs[0], 8 * count); }
 static void call_tdes_ede2_decrypt_each(void) { returned = cukvashe_tdes_ede2_decrypt_each(keys, count,
-    (void *)rooms[0], 8 * count); }
+    (void *)outputs[0], 8 * count); }
 static void call_tdes_ede3_encrypt_each(void) { returned = cukvashe_tdes_ede3_encrypt_each(keys, count,
-    (void *)rooms[0], 8 * count); }
+    (void *)outputs[0], 8 * count); }
 static void call_tdes_ede3_decrypt_each(void) { returned = cukvashe_tdes_ede3_decrypt_each(keys, count,
-    (void *)rooms[0], 8 * count); }
+    (void *)outputs[0], 8 * count); }
 static void call_des_encrypt_cbc_records(void) { returned = cukvashe_des_encrypt_cbc_records((void *)contexts[0],
-    (void *)rooms[0], 8 * count, ones, count, (void *)rooms[1], 8 * count); }
+    (void *)outputs[0], 8 * count, ones, count, (void *)outputs[1], 8 * count); }
 static void call_des_decrypt_cbc_records(void) { returned = cukvashe_des_decrypt_cbc_records((void *)contexts[0],
-    (void *)rooms[0], 8 * count, ones, count, (void *)rooms[1], 8 * count); }
+    (void *)outputs[0], 8 * count, ones, count, (void *)outputs[1], 8 * count); }
 static void call_tdes_ede2_encrypt_cbc_records(void) { returned = cukvashe_tdes_ede2_encrypt_cbc_records((void *)contexts[1],
-    (void *)rooms[0], 8 * count, ones, count, (void *)rooms[1], 8 * count); }
+    (void *)outputs[0], 8 * count, ones, count, (void *)outputs[1], 8 * count); }
 static void call_tdes_ede2_decrypt_cbc_records(void) { returned = cukvashe_tdes_ede2_decrypt_cbc_records((void *)contexts[1],
-    (void *)rooms[0], 8 * count, ones, count, (void *)rooms[1], 8 * count); }
+    (void *)outputs[0], 8 * count, ones, count, (void *)outputs[1], 8 * count); }
 static void call_tdes_ede3_encrypt_cbc_records(void) { returned = cukvashe_tdes_ede3_encrypt_cbc_records((void *)contexts[2],
-    (void *)rooms[0], 8 * count, ones, count, (void *)rooms[1], 8 * count); }
+    (void *)outputs[0], 8 * count, ones, count, (void *)outputs[1], 8 * count); }
 static void call_tdes_ede3_decrypt_cbc_records(void) { returned = cukvashe_tdes_ede3_decrypt_cbc_records((void *)contexts[2],
-    (void *)rooms[0], 8 * count, ones, count, (void *)rooms[1], 8 * count); }
-static void call_pad(void) { returned = cukvashe_pad((void *)rooms[0], 77, sizeof blocks, CUKVASHE_PKCS7,
-    (void *)rooms[1]); }
-static void call_unpad(void) { returned = cukvashe_unpad(blocks, 80, CUKVASHE_PKCS7, (void *)rooms[0]); }
+    (void *)outputs[0], 8 * count, ones, count, (void *)outputs[1], 8 * count); }
+static void call_pad(void) { returned = cukvashe_pad((void *)outputs[0], 77, sizeof blocks, CUKVASHE_PKCS7,
+    (void *)outputs[1]); }
+static void call_unpad(void) { returned = cukvashe_unpad(blocks, 80, CUKVASHE_PKCS7, (void *)outputs[0]); }
 static void call_weak_key_test(void) { returned = cukvashe_weak_key_test(key, 24); }
-static void call_set_odd_parity(void) { cukvashe_set_odd_parity((void *)rooms[0], 24); }
+static void call_set_odd_parity(void) { cukvashe_set_odd_parity((void *)outputs[0], 24); }
 static void call_equal_but_parity(void) { returned = cukvashe_equal_but_parity(key, others, 24); }
 static void call_cbc_mac_des_init(void) { returned = cukvashe_cbc_mac_des_init((void *)contexts[3], key,
     CUKVASHE_CBC_MAC_DES_KEY_SIZE, 1); }
@@ -176,17 +177,17 @@ static void call_cmac_tdes_ede2_update(void) { returned = cukvashe_cmac_tdes_ede
 static void call_cmac_tdes_ede3_update(void) { returned = cukvashe_cmac_tdes_ede3_update((void *)contexts[8], blocks,
     8 * count); }
 static void call_cbc_mac_des_final(void) { returned = cukvashe_cbc_mac_des_final((void *)contexts[3],
-    (void *)rooms[0]); }
+    (void *)outputs[0]); }
 static void call_cbc_mac_tdes_ede2_final(void) { returned = cukvashe_cbc_mac_tdes_ede2_final((void *)contexts[4],
-    (void *)rooms[0]); }
+    (void *)outputs[0]); }
 static void call_cbc_mac_tdes_ede3_final(void) { returned = cukvashe_cbc_mac_tdes_ede3_final((void *)contexts[5],
-    (void *)rooms[0]); }
+    (void *)outputs[0]); }
 static void call_retail_mac_des_final(void) { returned = cukvashe_retail_mac_des_final((void *)contexts[6],
-    (void *)rooms[0]); }
+    (void *)outputs[0]); }
 static void call_cmac_tdes_ede2_final(void) { returned = cukvashe_cmac_tdes_ede2_final((void *)contexts[7],
-    (void *)rooms[0]); }
+    (void *)outputs[0]); }
 static void call_cmac_tdes_ede3_final(void) { returned = cukvashe_cmac_tdes_ede3_final((void *)contexts[8],
-    (void *)rooms[0]); }
+    (void *)outputs[0]); }
 static void call_cbc_mac_des_verify(void) { returned = cukvashe_cbc_mac_des_verify((void *)contexts[3], blocks, 8); }
 static void call_cbc_mac_tdes_ede2_verify(void) { returned = cukvashe_cbc_mac_tdes_ede2_verify((void *)contexts[4],
     blocks, 8); }
@@ -210,125 +211,141 @@ static void call_cmac_tdes_ede2_is_tag(void) { returned = cukvashe_cmac_tdes_ede
 static void call_cmac_tdes_ede3_is_tag(void) { returned = cukvashe_cmac_tdes_ede3_is_tag((void *)contexts[8], blocks,
     8); }
 static void call_cbc_mac_des_macs(void) { returned = cukvashe_cbc_mac_des_macs(key, CUKVASHE_CBC_MAC_DES_KEY_SIZE, 1,
-    messages, (void *)rooms[0], 8 * count, count); }
+    messages, (void *)outputs[0], 8 * count, count); }
 static void call_cbc_mac_des_macs_each(void) { returned = cukvashe_cbc_mac_des_macs_each(keys,
-    CUKVASHE_CBC_MAC_DES_KEY_SIZE * count, 1, messages, (void *)rooms[0], 8 * count, count); }
+    CUKVASHE_CBC_MAC_DES_KEY_SIZE * count, 1, messages, (void *)outputs[0], 8 * count, count); }
 static void call_cbc_mac_tdes_ede2_macs(void) { returned = cukvashe_cbc_mac_tdes_ede2_macs(key,
-    CUKVASHE_CBC_MAC_TDES_EDE2_KEY_SIZE, 1, messages, (void *)rooms[0], 8 * count, count); }
+    CUKVASHE_CBC_MAC_TDES_EDE2_KEY_SIZE, 1, messages, (void *)outputs[0], 8 * count, count); }
 static void call_cbc_mac_tdes_ede2_macs_each(void) { returned = cukvashe_cbc_mac_tdes_ede2_macs_each(keys,
-    CUKVASHE_CBC_MAC_TDES_EDE2_KEY_SIZE * count, 1, messages, (void *)rooms[0], 8 * count, count); }
+    CUKVASHE_CBC_MAC_TDES_EDE2_KEY_SIZE * count, 1, messages, (void *)outputs[0], 8 * count, count); }
 static void call_cbc_mac_tdes_ede3_macs(void) { returned = cukvashe_cbc_mac_tdes_ede3_macs(key,
-    CUKVASHE_CBC_MAC_TDES_EDE3_KEY_SIZE, 1, messages, (void *)rooms[0], 8 * count, count); }
+    CUKVASHE_CBC_MAC_TDES_EDE3_KEY_SIZE, 1, messages, (void *)outputs[0], 8 * count, count); }
 static void call_cbc_mac_tdes_ede3_macs_each(void) { returned = cukvashe_cbc_mac_tdes_ede3_macs_each(keys,
-    CUKVASHE_CBC_MAC_TDES_EDE3_KEY_SIZE * count, 1, messages, (void *)rooms[0], 8 * count, count); }
+    CUKVASHE_CBC_MAC_TDES_EDE3_KEY_SIZE * count, 1, messages, (void *)outputs[0], 8 * count, count); }
 static void call_retail_mac_des_macs(void) { returned = cukvashe_retail_mac_des_macs(key,
-    CUKVASHE_RETAIL_MAC_DES_KEY_SIZE, 1, messages, (void *)rooms[0], 8 * count, count); }
+    CUKVASHE_RETAIL_MAC_DES_KEY_SIZE, 1, messages, (void *)outputs[0], 8 * count, count); }
 static void call_retail_mac_des_macs_each(void) { returned = cukvashe_retail_mac_des_macs_each(keys,
-    CUKVASHE_RETAIL_MAC_DES_KEY_SIZE * count, 1, messages, (void *)rooms[0], 8 * count, count); }
+    CUKVASHE_RETAIL_MAC_DES_KEY_SIZE * count, 1, messages, (void *)outputs[0], 8 * count, count); }
 static void call_cmac_tdes_ede2_macs(void) { returned = cukvashe_cmac_tdes_ede2_macs(key,
-    CUKVASHE_CMAC_TDES_EDE2_KEY_SIZE, messages, (void *)rooms[0], 8 * count, count); }
+    CUKVASHE_CMAC_TDES_EDE2_KEY_SIZE, messages, (void *)outputs[0], 8 * count, count); }
 static void call_cmac_tdes_ede2_macs_each(void) { returned = cukvashe_cmac_tdes_ede2_macs_each(keys,
-    CUKVASHE_CMAC_TDES_EDE2_KEY_SIZE * count, messages, (void *)rooms[0], 8 * count, count); }
+    CUKVASHE_CMAC_TDES_EDE2_KEY_SIZE * count, messages, (void *)outputs[0], 8 * count, count); }
 static void call_cmac_tdes_ede3_macs(void) { returned = cukvashe_cmac_tdes_ede3_macs(key,
-    CUKVASHE_CMAC_TDES_EDE3_KEY_SIZE, messages, (void *)rooms[0], 8 * count, count); }
+    CUKVASHE_CMAC_TDES_EDE3_KEY_SIZE, messages, (void *)outputs[0], 8 * count, count); }
 static void call_cmac_tdes_ede3_macs_each(void) { returned = cukvashe_cmac_tdes_ede3_macs_each(keys,
-    CUKVASHE_CMAC_TDES_EDE3_KEY_SIZE * count, messages, (void *)rooms[0], 8 * count, count); }
+    CUKVASHE_CMAC_TDES_EDE3_KEY_SIZE * count, messages, (void *)outputs[0], 8 * count, count); }
 static void call_compare_tags(void) { returned = cukvashe_compare_tags(blocks, 8 * count, blocks, 8 * count,
-    (void *)rooms[0], count); }
+    (void *)outputs[0], count); }
 static void call_des_check_value(void) { returned = cukvashe_des_check_value(key, CUKVASHE_DES_KEY_SIZE,
-    (void *)rooms[0]); }
+    (void *)outputs[0]); }
 static void call_tdes_ede2_check_value(void) { returned = cukvashe_tdes_ede2_check_value(key,
-    CUKVASHE_TDES_EDE2_KEY_SIZE, (void *)rooms[0]); }
+    CUKVASHE_TDES_EDE2_KEY_SIZE, (void *)outputs[0]); }
 static void call_tdes_ede3_check_value(void) { returned = cukvashe_tdes_ede3_check_value(key,
-    CUKVASHE_TDES_EDE3_KEY_SIZE, (void *)rooms[0]); }
-static void call_key_check_value(void) { returned = cukvashe_key_check_value(key, 24, (void *)rooms[0]); }
-static void call_short_key_check_value(void) { returned = cukvashe_short_key_check_value(key, 24, (void *)rooms[0]); }
+    CUKVASHE_TDES_EDE3_KEY_SIZE, (void *)outputs[0]); }
+static void call_key_check_value(void) { returned = cukvashe_key_check_value(key, 24, (void *)outputs[0]); }
+static void call_short_key_check_value(void) { returned = cukvashe_short_key_check_value(key, 24, (void *)outputs[0]); }
 static void call_des_check_values(void) { returned = cukvashe_des_check_values(keys, CUKVASHE_DES_KEY_SIZE * count,
-    (void *)rooms[0], 3 * count, count); }
+    (void *)outputs[0], 3 * count, count); }
 static void call_tdes_ede2_check_values(void) { returned = cukvashe_tdes_ede2_check_values(keys,
-    CUKVASHE_TDES_EDE2_KEY_SIZE * count, (void *)rooms[0], 3 * count, count); }
+    CUKVASHE_TDES_EDE2_KEY_SIZE * count, (void *)outputs[0], 3 * count, count); }
 static void call_tdes_ede3_check_values(void) { returned = cukvashe_tdes_ede3_check_values(keys,
-    CUKVASHE_TDES_EDE3_KEY_SIZE * count, (void *)rooms[0], 3 * count, count); }
-static void call_combine_8(void) { returned = cukvashe_combine_8(key, others, others, 8, 1, (void *)rooms[0]); }
-static void call_combine_16(void) { returned = cukvashe_combine_16(key, others, others, 16, 1, (void *)rooms[0]); }
-static void call_combine_24(void) { returned = cukvashe_combine_24(key, others, others, 24, 1, (void *)rooms[0]); }
+    CUKVASHE_TDES_EDE3_KEY_SIZE * count, (void *)outputs[0], 3 * count, count); }
+static void call_combine_8(void) { returned = cukvashe_combine_8(key, others, others, 8, 1, (void *)outputs[0]); }
+static void call_combine_16(void) { returned = cukvashe_combine_16(key, others, others, 16, 1, (void *)outputs[0]); }
+static void call_combine_24(void) { returned = cukvashe_combine_24(key, others, others, 24, 1, (void *)outputs[0]); }
 static void call_dukpt_is_usable(void) { returned = cukvashe_dukpt_is_usable(serial); }
-static void call_dukpt_next_serial(void) { returned = cukvashe_dukpt_next_serial(serial, (void *)rooms[0]); }
-static void call_dukpt_initial_key(void) { cukvashe_dukpt_initial_key(key, serial, (void *)rooms[0]); }
-static void call_dukpt_transaction_key(void) { cukvashe_dukpt_transaction_key(key, serial, (void *)rooms[0]); }
+static void call_dukpt_next_serial(void) { returned = cukvashe_dukpt_next_serial(serial, (void *)outputs[0]); }
+static void call_dukpt_initial_key(void) { cukvashe_dukpt_initial_key(key, serial, (void *)outputs[0]); }
+static void call_dukpt_transaction_key(void) { cukvashe_dukpt_transaction_key(key, serial, (void *)outputs[0]); }
 static void call_dukpt_transaction_keys_from_base(void) { returned = cukvashe_dukpt_transaction_keys_from_base(key,
-    blocks, 10 * count, (void *)rooms[0], 16 * count, count); }
-static void call_dukpt_pin_key(void) { cukvashe_dukpt_pin_key(key, (void *)rooms[0]); }
-static void call_dukpt_mac_key(void) { cukvashe_dukpt_mac_key(key, true, (void *)rooms[0]); }
-static void call_dukpt_data_key(void) { cukvashe_dukpt_data_key(key, true, (void *)rooms[0]); }
-static void call_dukpt_data_variant(void) { cukvashe_dukpt_data_variant(key, true, (void *)rooms[0]); }
+    blocks, 10 * count, (void *)outputs[0], 16 * count, count); }
+static void call_dukpt_pin_key(void) { cukvashe_dukpt_pin_key(key, (void *)outputs[0]); }
+static void call_dukpt_mac_key(void) { cukvashe_dukpt_mac_key(key, true, (void *)outputs[0]); }
+static void call_dukpt_data_key(void) { cukvashe_dukpt_data_key(key, true, (void *)outputs[0]); }
+static void call_dukpt_data_variant(void) { cukvashe_dukpt_data_variant(key, true, (void *)outputs[0]); }
 static void call_dukpt_terminal_init(void) { cukvashe_dukpt_terminal_init(&terminal, key, serial); }
 static void call_dukpt_terminal_next_key(void) { returned = cukvashe_dukpt_terminal_next_key(&terminal,
-    (void *)rooms[0], (void *)rooms[1]); }
+    (void *)outputs[0], (void *)outputs[1]); }
 static void call_pin_encode_0(void) { returned = cukvashe_pin_encode_0(pin_digits, 12, "4012345678909", 13,
-    (void *)rooms[0]); }
-static void call_pin_encode_1(void) { returned = cukvashe_pin_encode_1(pin_digits, 12, fill, (void *)rooms[0]); }
-static void call_pin_encode_2(void) { returned = cukvashe_pin_encode_2(pin_digits, 12, (void *)rooms[0]); }
+    (void *)outputs[0]); }
+static void call_pin_encode_1(void) { returned = cukvashe_pin_encode_1(pin_digits, 12, fill, (void *)outputs[0]); }
+static void call_pin_encode_2(void) { returned = cukvashe_pin_encode_2(pin_digits, 12, (void *)outputs[0]); }
 static void call_pin_encode_3(void) { returned = cukvashe_pin_encode_3(pin_digits, 12, "4012345678909", 13, fill,
-    (void *)rooms[0]); }
-static void call_pin_decode_0(void) { returned = cukvashe_pin_decode_0(sent, "4012345678909", 13, (void *)rooms[0]); }
-static void call_pin_decode_1(void) { returned = cukvashe_pin_decode_1(sent + 8, (void *)rooms[0]); }
-static void call_pin_decode_2(void) { returned = cukvashe_pin_decode_2(sent, (void *)rooms[0]); }
-static void call_pin_decode_3(void) { returned = cukvashe_pin_decode_3(sent, "4012345678909", 13, (void *)rooms[0]); }
+    (void *)outputs[0]); }
+static void call_pin_decode_0(void) { returned = cukvashe_pin_decode_0(sent, "4012345678909", 13, (void *)outputs[0]); }
+static void call_pin_decode_1(void) { returned = cukvashe_pin_decode_1(sent + 8, (void *)outputs[0]); }
+static void call_pin_decode_2(void) { returned = cukvashe_pin_decode_2(sent, (void *)outputs[0]); }
+static void call_pin_decode_3(void) { returned = cukvashe_pin_decode_3(sent, "4012345678909", 13, (void *)outputs[0]); }
 static void call_pin_translate_to_0(void) { returned = cukvashe_pin_translate_to_0(&translations[0], sent,
-    (void *)rooms[0]); }
+    (void *)outputs[0]); }
 static void call_pin_translate_to_1(void) { returned = cukvashe_pin_translate_to_1(&translations[1], sent + 8,
-    (void *)rooms[0]); }
+    (void *)outputs[0]); }
 static void call_pin_translate_to_3(void) { returned = cukvashe_pin_translate_to_3(&translations[0], sent,
-    (void *)rooms[0]); }
-static void call_pvv(void) { returned = cukvashe_pvv(key, "4012345678909", 13, 1, pin_digits, 12, (void *)rooms[0]); }
+    (void *)outputs[0]); }
+static void call_pvv(void) { returned = cukvashe_pvv(key, "4012345678909", 13, 1, pin_digits, 12, (void *)outputs[0]); }
 static void call_pvv_verify(void) { returned = cukvashe_pvv_verify(key, "4012345678909", 13, 1, pin_digits, 12,
     pin_digits, 4); }
 static void call_pvv_is_pin(void) { returned = cukvashe_pvv_is_pin(key, "4012345678909", 13, 1, pin_digits, 12,
     pin_digits, 4); }
-static void call_decimal_table_init(void) { returned = cukvashe_decimal_table_init((void *)rooms[0], "0123456789012345",
-    16); }
-static void call_decimal_table_init_any(void) { returned = cukvashe_decimal_table_init_any((void *)rooms[0],
+static void call_decimal_table_init(void) { returned = cukvashe_decimal_table_init((void *)outputs[0],
+    "0123456789012345", 16); }
+static void call_decimal_table_init_any(void) { returned = cukvashe_decimal_table_init_any((void *)outputs[0],
     "0000000000000000", 16); }
-static void call_natural_pin(void) { returned = cukvashe_natural_pin(key, 24, &table, blocks, 12, (void *)rooms[0]); }
+static void call_natural_pin(void) { returned = cukvashe_natural_pin(key, 24, &table, blocks, 12, (void *)outputs[0]); }
 static void call_pin_offset(void) { returned = cukvashe_pin_offset(key, 24, &table, blocks, pin_digits, 12,
-    (void *)rooms[0]); }
+    (void *)outputs[0]); }
 static void call_pin_offset_verify(void) { returned = cukvashe_pin_offset_verify(key, 24, &table, blocks, pin_digits,
     12, pin_digits, 12); }
 static void call_pin_offset_is_pin(void) { returned = cukvashe_pin_offset_is_pin(key, 24, &table, blocks, pin_digits,
     12, pin_digits, 12); }
-static void call_cvv(void) { returned = cukvashe_cvv(key, "4012345678909", 13, "8701", 4, "101", 3, (void *)rooms[0]); }
+static void call_cvv(void) { returned = cukvashe_cvv(key, "4012345678909", 13, "8701", 4, "101", 3,
+    (void *)outputs[0]); }
 static void call_emv_card_key(void) { returned = cukvashe_emv_card_key(key, "4012345678909", 13, "00", 2,
-    (void *)rooms[0]); }
+    (void *)outputs[0]); }
 static void call_emv_card_key_b(void) { returned = cukvashe_emv_card_key_b(key, "6304000000000000001", 19, "00", 2,
-    (void *)rooms[0]); }
-static void call_emv_application_key(void) { cukvashe_emv_application_key(key, blocks, (void *)rooms[0]); }
-static void call_emv_session_key(void) { cukvashe_emv_session_key(key, sent, (void *)rooms[0]); }
+    (void *)outputs[0]); }
+static void call_emv_application_key(void) { cukvashe_emv_application_key(key, blocks, (void *)outputs[0]); }
+static void call_emv_session_key(void) { cukvashe_emv_session_key(key, sent, (void *)outputs[0]); }
 static void call_emv_application_cryptogram(void) { cukvashe_emv_application_cryptogram(key, blocks, sizeof blocks,
-    (void *)rooms[0]); }
-static void call_emv_response_1(void) { cukvashe_emv_response_1(key, blocks, blocks, (void *)rooms[0]); }
+    (void *)outputs[0]); }
+static void call_emv_response_1(void) { cukvashe_emv_response_1(key, blocks, blocks, (void *)outputs[0]); }
 static void call_emv_response_2(void) { returned = cukvashe_emv_response_2(key, blocks, blocks, blocks, 8,
-    (void *)rooms[0]); }
+    (void *)outputs[0]); }
 static void call_key_block_unwrap(void) { returned = cukvashe_key_block_unwrap(key, 24, key_block, key_block_length,
-    (void *)rooms[0], (void *)rooms[1], (void *)rooms[2]); }
+    (void *)outputs[0], (void *)outputs[1], (void *)outputs[2]); }
 static void call_key_block_wrap(void) { returned = cukvashe_key_block_wrap(&parts, key_block, sizeof key_block,
     &key_block_length); }
 static void call_key_block_header(void) { returned = cukvashe_key_block_header(key_block, key_block_length,
-    (void *)rooms[0]); }
+    (void *)outputs[0]); }
 static void call_key_block_context(void) { returned = cukvashe_key_block_context(key_block, key_block_length,
-    (void *)rooms[0]); }
+    (void *)outputs[0]); }
 static void call_key_block_optional_block(void) { returned = cukvashe_key_block_optional_block(key_block,
-    key_block_length, 0, (void *)rooms[0], (void *)rooms[1], (void *)rooms[2]); }
+    key_block_length, 0, (void *)outputs[0], (void *)outputs[1], (void *)outputs[2]); }
 static void call_pbkdf2(void) { returned = cukvashe_pbkdf2(CUKVASHE_SHA256, 2, others, sizeof others, blocks, 8,
-    (void *)rooms[0], 24); }
+    (void *)outputs[0], 24); }
 static void call_bytes_to_key(void) { returned = cukvashe_bytes_to_key(CUKVASHE_SHA256, others, sizeof others, blocks,
-    8, (void *)rooms[0], 24); }
+    8, (void *)outputs[0], 24); }
 static void call_des_open_salted(void) { returned = cukvashe_des_open_salted(CUKVASHE_SHA1, 2, others, sizeof others,
-    salted, sizeof salted, (void *)rooms[0], sizeof salted, (void *)rooms[1]); }
+    salted, sizeof salted, (void *)outputs[0], sizeof salted, (void *)outputs[1]); }
 static void call_tdes_ede2_open_salted(void) { returned = cukvashe_tdes_ede2_open_salted(CUKVASHE_MD5, 0, others,
-    sizeof others, salted, sizeof salted, (void *)rooms[0], sizeof salted, (void *)rooms[1]); }
+    sizeof others, salted, sizeof salted, (void *)outputs[0], sizeof salted, (void *)outputs[1]); }
 static void call_tdes_ede3_open_salted(void) { returned = cukvashe_tdes_ede3_open_salted(CUKVASHE_SHA256, 0, others,
-    sizeof others, salted, sizeof salted, (void *)rooms[0], sizeof salted, (void *)rooms[1]); }
+    sizeof others, salted, sizeof salted, (void *)outputs[0], sizeof salted, (void *)outputs[1]); }
+static void call_mysql_decrypt_values(void) { returned = cukvashe_mysql_decrypt_values(others, sizeof others, column,
+    9 * count, nines, count, (void *)outputs[0], (void *)outputs[1], (void *)outputs[2]); }
+static void call_mysql_decrypt_values_by_file(void) { returned = cukvashe_mysql_decrypt_values_by_file((const uint8_t *)"9 key\n",
+    6, column, 9 * count, nines, count, (void *)outputs[0], (void *)outputs[1], (void *)outputs[2]); }
+static void call_pgcrypto_decrypt_values(void) { returned = cukvashe_pgcrypto_decrypt_values("3des", 4, key, 24, blocks,
+    8, blocks, 8 * count, eights, count, (void *)outputs[0], (void *)outputs[1], (void *)outputs[2]); }
+static void call_mysql_encrypt_values(void) { returned = cukvashe_mysql_encrypt_values(others, sizeof others, 127,
+    blocks, 8 * count, eights, count, (void *)outputs[0], 17 * count); }
+static void call_pgcrypto_encrypt_values(void) { returned = cukvashe_pgcrypto_encrypt_values("3des", 4, key, 24, blocks,
+    8, blocks, 8 * count, eights, count, (void *)outputs[0], 16 * count); }
+static void call_pbe_key(void) { returned = cukvashe_pbe_key("PBEWithMD5AndTripleDES", 22, 2, others, sizeof others,
+    blocks, 8, (void *)outputs[0], 32); }
+static void call_jasypt_decrypt_values(void) { returned = cukvashe_jasypt_decrypt_values("PBEWithMD5AndDES", 16, 2,
+    others, sizeof others, blocks, 8 * count, eights, count, (void *)outputs[0], (void *)outputs[1],
+    (void *)outputs[2]); }
 static void call_des_size(void) { returned = cukvashe_des_size(); }
 static void call_tdes_ede2_size(void) { returned = cukvashe_tdes_ede2_size(); }
 static void call_tdes_ede3_size(void) { returned = cukvashe_tdes_ede3_size(); }
@@ -569,6 +586,13 @@ static const struct call calls[] = {
     {"des_open_salted", call_des_open_salted, 27000, 1, 0, 0},
     {"tdes_ede2_open_salted", call_tdes_ede2_open_salted, 27000, 1, 0, 0},
     {"tdes_ede3_open_salted", call_tdes_ede3_open_salted, 27000, 1, 0, 0},
+    {"mysql_decrypt_values", call_mysql_decrypt_values, 45000, 1, 1, 0},
+    {"mysql_decrypt_values_by_file", call_mysql_decrypt_values_by_file, 45000, 1, 1, 0},
+    {"pgcrypto_decrypt_values", call_pgcrypto_decrypt_values, 45000, 1, 1, 0},
+    {"mysql_encrypt_values", call_mysql_encrypt_values, 45000, 1, 1, 0},
+    {"pgcrypto_encrypt_values", call_pgcrypto_encrypt_values, 45000, 1, 1, 0},
+    {"pbe_key", call_pbe_key, 6000, 1, 0, 0},
+    {"jasypt_decrypt_values", call_jasypt_decrypt_values, 45000, 1, 1, 0},
     {"des_size", call_des_size, 6000, 0, 0, 0},
     {"tdes_ede2_size", call_tdes_ede2_size, 6000, 0, 0, 0},
     {"tdes_ede3_size", call_tdes_ede3_size, 6000, 0, 0, 0},

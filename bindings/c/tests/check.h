@@ -29,8 +29,8 @@ typedef int to_other_cbc(const union context *, uint8_t *iv, const uint8_t *inpu
 typedef int whole_text(const union context *, int mode, const uint8_t *iv, uint8_t *data, size_t length);
 typedef int next_bytes(const union context *, cukvashe_stream *, uint8_t *data, size_t length);
 
-/* The calls of one cipher: those of the header, or those of one width. */
-struct way {
+/* A code path of one cipher: the calls of the header, or those of one width. */
+struct path {
   in_place *encrypt_ecb, *decrypt_ecb;
   to_other *encrypt_ecb_to, *decrypt_ecb_to;
   in_place_cbc *encrypt_cbc, *decrypt_cbc;
@@ -151,7 +151,7 @@ DEFINE_PUBLIC(tdes_ede3)
     return cukvashe_##width##_decrypt_stream(WORDS_OF(c->name), stream, data, length);                                \
   }
 
-#define FORCED_WAY(name, width)                                                                                       \
+#define FORCED_PATH(name, width)                                                                                      \
   , {                                                                                                                 \
     name##_##width##_encrypt_ecb, name##_##width##_decrypt_ecb, name##_##width##_encrypt_ecb_to,                      \
         name##_##width##_decrypt_ecb_to, name##_encrypt_cbc, name##_##width##_decrypt_cbc, name##_encrypt_cbc_to,     \
@@ -161,18 +161,18 @@ DEFINE_PUBLIC(tdes_ede3)
 #define DEFINE_WIDTH(width) DEFINE_FORCED(des, width) DEFINE_FORCED(tdes_ede2, width) DEFINE_FORCED(tdes_ede3, width)
 #if HAS_WIDE
 #define EACH_WIDTH(of_width) of_width(internal) of_width(wide)
-#define WAYS(name) {PUBLIC(name) FORCED_WAY(name, internal) FORCED_WAY(name, wide)}
+#define PATHS(name) {PUBLIC(name) FORCED_PATH(name, internal) FORCED_PATH(name, wide)}
 #else
 #define EACH_WIDTH(of_width) of_width(internal)
-#define WAYS(name) {PUBLIC(name) FORCED_WAY(name, internal)}
+#define PATHS(name) {PUBLIC(name) FORCED_PATH(name, internal)}
 #endif
 
 EACH_WIDTH(DEFINE_WIDTH)
 
-enum { PUBLIC_WAY = 0, MOST_WAYS = 2 + HAS_WIDE };
+enum { PUBLIC_PATH = 0, MOST_PATHS = 2 + HAS_WIDE };
 
-/* How many ways this processor has. */
-static inline int count_of_ways(void) {
+/* How many code paths this processor has. */
+static inline int count_of_paths(void) {
 #if HAS_WIDE
   struct processor words = cukvashe_internal_processor();
   return cukvashe_internal_is_v3(&words) ? 3 : 2;
@@ -181,10 +181,10 @@ static inline int count_of_ways(void) {
 #endif
 }
 #else
-#define WAYS(name) {PUBLIC(name)}
-enum { PUBLIC_WAY = 0, MOST_WAYS = 1 };
+#define PATHS(name) {PUBLIC(name)}
+enum { PUBLIC_PATH = 0, MOST_PATHS = 1 };
 
-static inline int count_of_ways(void) { return 1; }
+static inline int count_of_paths(void) { return 1; }
 #endif
 
 struct cipher {
@@ -194,13 +194,13 @@ struct cipher {
   int (*init_no_tables)(union context *, const uint8_t *key, size_t length);
   int (*check_value)(const uint8_t *key, size_t length, uint8_t *value);
   next_bytes *encrypt_bits, *decrypt_bits;
-  struct way ways[MOST_WAYS];
+  struct path paths[MOST_PATHS];
 };
 
 #define CIPHER(name, key_size)                                                                                        \
   {                                                                                                                   \
     #name, key_size, sizeof(cukvashe_##name), name##_init, name##_init_no_tables, cukvashe_##name##_check_value,      \
-        name##_encrypt_bits, name##_decrypt_bits, WAYS(name)                                                          \
+        name##_encrypt_bits, name##_decrypt_bits, PATHS(name)                                                         \
   }
 
 enum { CIPHERS = 3, DES = 0, EDE2 = 1, EDE3 = 2 };

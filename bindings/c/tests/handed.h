@@ -106,4 +106,9 @@ static void hands_all_on(void) {
   CHECK(cukvashe_bytes_to_key(1, (void *)(base + 1), 3, (void *)(base + 3), 5, (void *)(base + 5), 7) == STATUS);
   WAS_WIPED("unwiped", "bytes_to_key", (uintptr_t)1, (uintptr_t)(void *)(base + 1), (uintptr_t)3,
     (uintptr_t)(void *)(base + 3), (uintptr_t)5, (uintptr_t)(void *)(base + 5), (uintptr_t)7);
+  CHECK(cukvashe_pbe_key((void *)(base + 0), 2, 3, (void *)(base + 3), 5, (void *)(base + 5), 7, (void *)(base + 7),
+    9) == STATUS);
+  WAS_WIPED("unwiped", "pbe_key", (uintptr_t)(void *)(base + 0), (uintptr_t)2, (uintptr_t)3,
+    (uintptr_t)(void *)(base + 3), (uintptr_t)5, (uintptr_t)(void *)(base + 5), (uintptr_t)7,
+    (uintptr_t)(void *)(base + 7), (uintptr_t)9);
 }

@@ -169,4 +169,11 @@ void ignores(void) {
   cukvashe_des_open_salted(0, 0, 0, 0, 0, 0, 0, 0, 0);
   cukvashe_tdes_ede2_open_salted(0, 0, 0, 0, 0, 0, 0, 0, 0);
   cukvashe_tdes_ede3_open_salted(0, 0, 0, 0, 0, 0, 0, 0, 0);
+  cukvashe_mysql_decrypt_values(0, 0, 0, 0, 0, 0, 0, 0, 0);
+  cukvashe_mysql_decrypt_values_by_file(0, 0, 0, 0, 0, 0, 0, 0, 0);
+  cukvashe_pgcrypto_decrypt_values(0, 0, 0, 0, 0, 0, 0, 0, 0, 0, 0, 0, 0);
+  cukvashe_mysql_encrypt_values(0, 0, 0, 0, 0, 0, 0, 0, 0);
+  cukvashe_pgcrypto_encrypt_values(0, 0, 0, 0, 0, 0, 0, 0, 0, 0, 0, 0);
+  cukvashe_pbe_key(0, 0, 0, 0, 0, 0, 0, 0, 0);
+  cukvashe_jasypt_decrypt_values(0, 0, 0, 0, 0, 0, 0, 0, 0, 0, 0, 0);
 }

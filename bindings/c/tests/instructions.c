@@ -29,7 +29,7 @@ static void spoil(int kind, uint8_t block[8]) {
   if (kind == FILL) block[7] ^= 0x08;
 }
 
-/* A PIN block of a PIN of so many digits. */
+/* A PIN block of a PIN of `digits` digits. */
 static void encode(int format, size_t digits, int kind, uint8_t block[8]) {
   static const char pin[] = "924681357024";
   int status;
@@ -49,7 +49,7 @@ static void make_block(int format, size_t digits, int kind, const uint8_t *key, 
   union context context;
   encode(format, digits, kind, block);
   CHECK(cipher->init(&context, key, size) == CUKVASHE_OK);
-  CHECK(cipher->ways[PUBLIC_WAY].encrypt_ecb(&context, block, 8) == CUKVASHE_OK);
+  CHECK(cipher->paths[PUBLIC_PATH].encrypt_ecb(&context, block, 8) == CUKVASHE_OK);
 }
 
 /* A group for each format and size of keys, to format 0, to format 3 and to format 1. */

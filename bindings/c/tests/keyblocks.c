@@ -1,4 +1,5 @@
-/* Key blocks: what is made and read again, known ones with each change, the room for them, and what is left out; known calls are in known.c. */
+/* Key blocks: what is made and read again, known ones with each change, their capacity, and what is left out; known calls are in
+   known.c. */
 #include "digits.h"
 
 typedef cukvashe_key_block_fields fields;
@@ -103,13 +104,13 @@ static const struct parts with_one = {
     "3132333435363738393a3b3c3d3e3f404142434445464748", {'B', "D0", 'T', 'B', "00", 'N'}, "KV0AABCDEF",
     "000102030405060708090a0b0c0d0e0f1011121314151617", {0xa1, 0xa1, 0xa1, 0xa1, 0xa1, 0xa1}, 6};
 
-static int wrap(const struct parts *parts, char *block, size_t room, size_t *length) {
+static int wrap(const struct parts *parts, char *block, size_t capacity, size_t *length) {
   const struct bytes protection = bytes_of(parts->protection), key = bytes_of(parts->key);
   const cukvashe_key_block_parts given = {.protection = protection.at, .protection_length = protection.length, .header = parts->header,
                                           .optional = parts->optional, .optional_length = strlen(parts->optional), .key = key.at,
                                           .key_length = key.length, .padding = parts->padding,
                                           .padding_length = parts->padding_length};
-  return cukvashe_key_block_wrap(&given, block, room, length);
+  return cukvashe_key_block_wrap(&given, block, capacity, length);
 }
 
 /* What is left out of the parts is zero, and refused, but for optional blocks. */
@@ -134,14 +135,14 @@ static void refuses_parts_left_out(void) {
   CHECK(cukvashe_key_block_wrap(&given, block, sizeof block, &length) == CUKVASHE_OK && strcmp(block, known[3].block) == 0);
 }
 
-/* The block, with a zero byte after it and nothing else, in the least room; with a byte less there is none. */
+/* The block, with a zero byte after it and nothing else, in the smallest buffer; in one that is a byte smaller there is none. */
 static void makes(const struct parts *parts, const char *wanted) {
   char block[200];
   size_t length;
   memset(block, PAINTED, sizeof block);
   memset(&length, PAINTED, sizeof length);
-  for (size_t room = 0; room <= strlen(wanted); room++) {
-    CHECK(wrap(parts, block, room, &length) == CUKVASHE_ERR_KEY_BLOCK_LENGTH);
+  for (size_t capacity = 0; capacity <= strlen(wanted); capacity++) {
+    CHECK(wrap(parts, block, capacity, &length) == CUKVASHE_ERR_KEY_BLOCK_LENGTH);
     CHECK(is_kept(block, sizeof block) && is_kept(&length, sizeof length));
   }
   CHECK(wrap(parts, NULL, 0, &length) == CUKVASHE_ERR_KEY_BLOCK_LENGTH && is_kept(&length, sizeof length));

@@ -1,8 +1,8 @@
-/* Key wraps: keys of each length, under protection keys of both, and what is refused: other lengths, too little room, each changed bit and
+/* Key wraps: keys of each length, under protection keys of both, and what is refused: other lengths, small buffers, each changed bit and
    another protection key. Nothing behind a result is written, and zeros stand where a refused key would. Known calls are in known.c. */
 #include "check.h"
 
-enum { MOST = 44, ROOM = 80, PAINT = 0x77 };
+enum { MOST = 44, BUFFER_SIZE = 80, PAINT = 0x77 };
 
 typedef int unwrap(const uint8_t *protection, size_t protection_length, const uint8_t *wrapped, size_t wrapped_length, uint8_t *key,
                    size_t capacity, size_t *key_length);
@@ -33,7 +33,7 @@ static bool has_length(const struct wrap *by, size_t length) { return length >= 
 /* Nothing is changed. */
 static void refused(unwrap *call, const uint8_t *protection, size_t protection_length, const uint8_t *given, size_t length, size_t capacity,
                     int wanted) {
-  uint8_t made[ROOM];
+  uint8_t made[BUFFER_SIZE];
   size_t made_length = PAINT;
   memset(made, PAINT, sizeof made);
   CHECK(call(protection, protection_length, given, length, made, capacity, &made_length) == wanted);
@@ -42,7 +42,7 @@ static void refused(unwrap *call, const uint8_t *protection, size_t protection_l
 
 /* Zeros stand where the key would, and the length stays. */
 static void is_no_key(const struct wrap *by, const uint8_t *protection, size_t protection_length, const uint8_t *wrapped, size_t length) {
-  uint8_t key[ROOM];
+  uint8_t key[BUFFER_SIZE];
   size_t key_length = PAINT;
   memset(key, PAINT, sizeof key);
   CHECK(by->unwrap(protection, protection_length, wrapped, length, key, sizeof key, &key_length) == CUKVASHE_ERR_WRAPPED_KEY);
@@ -50,11 +50,11 @@ static void is_no_key(const struct wrap *by, const uint8_t *protection, size_t p
   CHECK(is_filled(key + length - by->more, sizeof key - length + by->more, PAINT));
 }
 
-/* Every room that is large enough, and every one that is not. */
-static void takes_room(unwrap *call, const uint8_t *protection, size_t protection_length, const uint8_t *given, size_t length,
-                       const uint8_t *wanted, size_t size) {
-  for (size_t capacity = 0; capacity <= ROOM; capacity++) {
-    uint8_t made[ROOM];
+/* Every capacity that is large enough, and every one that is not. */
+static void takes_capacity(unwrap *call, const uint8_t *protection, size_t protection_length, const uint8_t *given, size_t length,
+                           const uint8_t *wanted, size_t size) {
+  for (size_t capacity = 0; capacity <= BUFFER_SIZE; capacity++) {
+    uint8_t made[BUFFER_SIZE];
     size_t made_length = PAINT;
     if (capacity < size) {
       refused(call, protection, protection_length, given, length, capacity, CUKVASHE_ERR_CAPACITY);
@@ -67,14 +67,14 @@ static void takes_room(unwrap *call, const uint8_t *protection, size_t protectio
 }
 
 static void wraps_key(const struct wrap *by, size_t protection_length, size_t length) {
-  uint8_t protection[24], other[24], key[ROOM], wrapped[ROOM];
+  uint8_t protection[24], other[24], key[BUFFER_SIZE], wrapped[BUFFER_SIZE];
   const size_t size = length + by->more;
   size_t made = 0;
   random_bytes(protection, sizeof protection);
   random_bytes(key, sizeof key);
   CHECK(by->wrap(protection, protection_length, key, length, wrapped, sizeof wrapped, &made) == CUKVASHE_OK && made == size);
-  takes_room(by->wrap, protection, protection_length, key, length, wrapped, size);
-  takes_room(by->unwrap, protection, protection_length, wrapped, size, key, length);
+  takes_capacity(by->wrap, protection, protection_length, key, length, wrapped, size);
+  takes_capacity(by->unwrap, protection, protection_length, wrapped, size, key, length);
   for (size_t bit = 0; bit < 8 * size; bit++) {
     wrapped[bit / 8] ^= (uint8_t)(1 << bit % 8);
     is_no_key(by, protection, protection_length, wrapped, size);
@@ -91,8 +91,8 @@ static void takes_lengths(const struct wrap *by) {
   random_bytes(given, sizeof given);
   for (size_t length = 0; length <= MOST; length++)
     if (length != 16 && length != 24) {
-      refused(by->wrap, protection, length, given, 24, ROOM, CUKVASHE_ERR_PROTECTION_KEY_LENGTH);
-      refused(by->unwrap, protection, length, given, 24, ROOM, CUKVASHE_ERR_PROTECTION_KEY_LENGTH);
+      refused(by->wrap, protection, length, given, 24, BUFFER_SIZE, CUKVASHE_ERR_PROTECTION_KEY_LENGTH);
+      refused(by->unwrap, protection, length, given, 24, BUFFER_SIZE, CUKVASHE_ERR_PROTECTION_KEY_LENGTH);
     }
   for (size_t protection_length = 16; protection_length <= 24; protection_length += 8)
     for (size_t length = 0; length <= MOST; length++) {
@@ -100,11 +100,11 @@ static void takes_lengths(const struct wrap *by) {
         wraps_key(by, protection_length, length);
         continue;
       }
-      refused(by->wrap, protection, protection_length, given, length, ROOM, by->other_length);
-      refused(by->unwrap, protection, protection_length, given, length + by->more, ROOM, CUKVASHE_ERR_WRAPPED_LENGTH);
+      refused(by->wrap, protection, protection_length, given, length, BUFFER_SIZE, by->other_length);
+      refused(by->unwrap, protection, protection_length, given, length + by->more, BUFFER_SIZE, CUKVASHE_ERR_WRAPPED_LENGTH);
     }
   for (size_t length = 0; length < 8 + by->more; length++)
-    refused(by->unwrap, protection, 24, given, length, ROOM, CUKVASHE_ERR_WRAPPED_LENGTH);
+    refused(by->unwrap, protection, 24, given, length, BUFFER_SIZE, CUKVASHE_ERR_WRAPPED_LENGTH);
   refused(by->wrap, NULL, 0, NULL, 0, 0, CUKVASHE_ERR_PROTECTION_KEY_LENGTH);
   refused(by->wrap, protection, 16, NULL, 0, 0, by->other_length);
   refused(by->unwrap, protection, 16, NULL, 0, 0, CUKVASHE_ERR_WRAPPED_LENGTH);
@@ -122,6 +122,6 @@ static void refuses_long_keys(void) {
 int main(void) {
   for (size_t i = 0; i < sizeof wraps / sizeof *wraps; i++) takes_lengths(&wraps[i]);
   refuses_long_keys();
-  printf("keywraps: both key wraps, lengths up to %d, capacities up to %d, every changed bit\n", MOST, ROOM);
+  printf("keywraps: both key wraps, lengths up to %d, capacities up to %d, every changed bit\n", MOST, BUFFER_SIZE);
   return 0;
 }

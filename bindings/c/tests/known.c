@@ -2,7 +2,7 @@
    it writes what is known to come of it, and nothing else. */
 #include "digits.h"
 
-enum { WORDS = 9, ROOMS = 3, ROOM = 512 };
+enum { WORDS = 9, OUTPUTS = 3, CAPACITY = 512 };
 
 /* What a call is given: bytes, a text or a table; or a number. */
 static struct word {
@@ -10,7 +10,7 @@ static struct word {
   size_t length;
   int64_t number;
 } given[WORDS];
-static uint64_t rooms[ROOMS][ROOM / 8];
+static uint64_t outputs[OUTPUTS][CAPACITY / 8];
 
 /* A call, what it returns, and the words of what it is given and writes. Each begins with how many bytes there are, where zeros follow;
    then # and a number, = and a text, x and bytes as digits, or t or a and the digits of a table, of any variety. What ends with * is of
@@ -19,7 +19,7 @@ struct known {
   const char *name;
   int (*call)(void);
   int returns;
-  const char *words[WORDS], *written[ROOMS];
+  const char *words[WORDS], *written[OUTPUTS];
   uint64_t lengths;
 };
 #define KNOWN(name) #name, known_##name
@@ -48,7 +48,7 @@ static size_t put_bytes(uint8_t *bytes, const char *word, size_t repeated) {
 
 static struct word word_of(const char *word, size_t repeated) {
   struct word read = {NULL, 0, 0};
-  uint8_t bytes[ROOM];
+  uint8_t bytes[CAPACITY];
   if (*word == '#') {
     read.number = word[1] == '-' ? strtoll(word + 1, NULL, 10) : (int64_t)strtoull(word + 1, NULL, 10);
   } else if (*word == 't' || *word == 'a') {
@@ -64,8 +64,8 @@ static struct word word_of(const char *word, size_t repeated) {
   return read;
 }
 
-static bool is_written(const char *word, const void *room) {
-  uint8_t wanted[ROOM];
+static bool is_written(const char *word, const void *output) {
+  uint8_t wanted[CAPACITY];
   memset(wanted, PAINTED, sizeof wanted);
   if (word && *word == '#') {
     const size_t number = strtoul(word + 1, NULL, 10);
@@ -73,25 +73,25 @@ static bool is_written(const char *word, const void *room) {
   } else if (word) {
     put_bytes(wanted, word, 0);
   }
-  return memcmp(room, wanted, sizeof wanted) == 0;
+  return memcmp(output, wanted, sizeof wanted) == 0;
 }
 
 /* Whether zeros stand where a refused key would. They go, so that nothing else may be written. */
 static bool takes_zeros(const char *name) {
-  static const uint8_t zeros[ROOM];
+  static const uint8_t zeros[CAPACITY];
   const size_t size = given[1].length - (strcmp(name, "cms_unwrap_key") == 0 ? 16 : 4);
-  const bool are_zeros = memcmp(rooms[0], zeros, size) == 0;
-  memset(rooms[0], PAINTED, size);
+  const bool are_zeros = memcmp(outputs[0], zeros, size) == 0;
+  memset(outputs[0], PAINTED, size);
   return are_zeros;
 }
 
 static void makes(const struct known *known, size_t repeated) {
   bool is_right;
-  memset(rooms, PAINTED, sizeof rooms);
+  memset(outputs, PAINTED, sizeof outputs);
   for (int i = 0; i < WORDS && known->words[i]; i++) given[i] = word_of(known->words[i], repeated);
   is_right = known->call() == known->returns;
   if (known->returns == CUKVASHE_ERR_WRAPPED_KEY) is_right = is_right && takes_zeros(known->name);
-  for (int i = 0; i < ROOMS; i++) is_right = is_right && is_written(known->written[i], rooms[i]);
+  for (int i = 0; i < OUTPUTS; i++) is_right = is_right && is_written(known->written[i], outputs[i]);
   for (int i = 0; i < WORDS && known->words[i]; i++) free(given[i].at);
   if (is_right) return;
   fprintf(stderr, "known.h: not what comes of cukvashe_%s", known->name);

@@ -2,138 +2,143 @@
 static int known_weak_key_test(void) { return cukvashe_weak_key_test(given[0].at, given[0].length); }
 static int known_equal_but_parity(void) { return cukvashe_equal_but_parity(given[0].at, given[1].at, given[2].number); }
 static int known_des_check_value(void) { return cukvashe_des_check_value(given[0].at, given[0].length,
-    (void *)rooms[0]); }
+    (void *)outputs[0]); }
 static int known_tdes_ede2_check_value(void) { return cukvashe_tdes_ede2_check_value(given[0].at, given[0].length,
-    (void *)rooms[0]); }
+    (void *)outputs[0]); }
 static int known_tdes_ede3_check_value(void) { return cukvashe_tdes_ede3_check_value(given[0].at, given[0].length,
-    (void *)rooms[0]); }
+    (void *)outputs[0]); }
 static int known_key_check_value(void) { return cukvashe_key_check_value(given[0].at, given[0].length,
-    (void *)rooms[0]); }
+    (void *)outputs[0]); }
 static int known_short_key_check_value(void) { return cukvashe_short_key_check_value(given[0].at, given[0].length,
-    (void *)rooms[0]); }
+    (void *)outputs[0]); }
 static int known_combine_8(void) { return cukvashe_combine_8(given[0].at, given[1].at, given[2].at, given[2].length,
-    given[3].number, (void *)rooms[0]); }
+    given[3].number, (void *)outputs[0]); }
 static int known_combine_16(void) { return cukvashe_combine_16(given[0].at, given[1].at, given[2].at, given[2].length,
-    given[3].number, (void *)rooms[0]); }
+    given[3].number, (void *)outputs[0]); }
 static int known_combine_24(void) { return cukvashe_combine_24(given[0].at, given[1].at, given[2].at, given[2].length,
-    given[3].number, (void *)rooms[0]); }
+    given[3].number, (void *)outputs[0]); }
 static int known_dukpt_initial_key(void) { cukvashe_dukpt_initial_key(given[0].at, given[1].at,
-    (void *)rooms[0]); return CUKVASHE_OK; }
+    (void *)outputs[0]); return CUKVASHE_OK; }
 static int known_dukpt_transaction_key(void) { cukvashe_dukpt_transaction_key(given[0].at, given[1].at,
-    (void *)rooms[0]); return CUKVASHE_OK; }
-static int known_dukpt_pin_key(void) { cukvashe_dukpt_pin_key(given[0].at, (void *)rooms[0]); return CUKVASHE_OK; }
+    (void *)outputs[0]); return CUKVASHE_OK; }
+static int known_dukpt_pin_key(void) { cukvashe_dukpt_pin_key(given[0].at, (void *)outputs[0]); return CUKVASHE_OK; }
 static int known_dukpt_mac_key(void) { cukvashe_dukpt_mac_key(given[0].at, given[1].number,
-    (void *)rooms[0]); return CUKVASHE_OK; }
+    (void *)outputs[0]); return CUKVASHE_OK; }
 static int known_dukpt_data_variant(void) { cukvashe_dukpt_data_variant(given[0].at, given[1].number,
-    (void *)rooms[0]); return CUKVASHE_OK; }
+    (void *)outputs[0]); return CUKVASHE_OK; }
 static int known_dukpt_data_key(void) { cukvashe_dukpt_data_key(given[0].at, given[1].number,
-    (void *)rooms[0]); return CUKVASHE_OK; }
-static int known_dukpt_next_serial(void) { return cukvashe_dukpt_next_serial(given[0].at, (void *)rooms[0]); }
+    (void *)outputs[0]); return CUKVASHE_OK; }
+static int known_dukpt_next_serial(void) { return cukvashe_dukpt_next_serial(given[0].at, (void *)outputs[0]); }
 static int known_dukpt_is_usable(void) { return cukvashe_dukpt_is_usable(given[0].at); }
 static int known_pin_encode_0(void) { return cukvashe_pin_encode_0(given[0].at, given[0].length, given[1].at,
-    given[1].length, (void *)rooms[0]); }
+    given[1].length, (void *)outputs[0]); }
 static int known_pin_decode_0(void) { return cukvashe_pin_decode_0(given[0].at, given[1].at, given[1].length,
-    (void *)rooms[0]); }
+    (void *)outputs[0]); }
 static int known_pin_decode_3(void) { return cukvashe_pin_decode_3(given[0].at, given[1].at, given[1].length,
-    (void *)rooms[0]); }
+    (void *)outputs[0]); }
 static int known_pin_encode_3(void) { return cukvashe_pin_encode_3(given[0].at, given[0].length, given[1].at,
-    given[1].length, given[2].at, (void *)rooms[0]); }
+    given[1].length, given[2].at, (void *)outputs[0]); }
 static int known_pin_encode_1(void) { return cukvashe_pin_encode_1(given[0].at, given[0].length, given[1].at,
-    (void *)rooms[0]); }
-static int known_pin_decode_1(void) { return cukvashe_pin_decode_1(given[0].at, (void *)rooms[0]); }
-static int known_pin_encode_2(void) { return cukvashe_pin_encode_2(given[0].at, given[0].length, (void *)rooms[0]); }
-static int known_pin_decode_2(void) { return cukvashe_pin_decode_2(given[0].at, (void *)rooms[0]); }
+    (void *)outputs[0]); }
+static int known_pin_decode_1(void) { return cukvashe_pin_decode_1(given[0].at, (void *)outputs[0]); }
+static int known_pin_encode_2(void) { return cukvashe_pin_encode_2(given[0].at, given[0].length, (void *)outputs[0]); }
+static int known_pin_decode_2(void) { return cukvashe_pin_decode_2(given[0].at, (void *)outputs[0]); }
 static int known_emv_card_key(void) { return cukvashe_emv_card_key(given[0].at, given[1].at, given[1].length,
-    given[2].at, given[2].length, (void *)rooms[0]); }
+    given[2].at, given[2].length, (void *)outputs[0]); }
 static int known_emv_card_key_b(void) { return cukvashe_emv_card_key_b(given[0].at, given[1].at, given[1].length,
-    given[2].at, given[2].length, (void *)rooms[0]); }
+    given[2].at, given[2].length, (void *)outputs[0]); }
 static int known_pin_translate_to_0(void) { return cukvashe_pin_translate_to_0(&(cukvashe_pin_translation){.incoming_key = given[0].at,
     .incoming_key_length = given[0].length, .incoming_format = given[1].number, .outgoing_key = given[2].at,
     .outgoing_key_length = given[2].length, .account = given[3].at, .account_length = given[3].length,
-    .fill = given[4].at}, given[5].at, (void *)rooms[0]); }
+    .fill = given[4].at}, given[5].at, (void *)outputs[0]); }
 static int known_pin_translate_to_3(void) { return cukvashe_pin_translate_to_3(&(cukvashe_pin_translation){.incoming_key = given[0].at,
     .incoming_key_length = given[0].length, .incoming_format = given[1].number, .outgoing_key = given[2].at,
     .outgoing_key_length = given[2].length, .account = given[3].at, .account_length = given[3].length,
-    .fill = given[4].at}, given[5].at, (void *)rooms[0]); }
+    .fill = given[4].at}, given[5].at, (void *)outputs[0]); }
 static int known_cvv(void) { return cukvashe_cvv(given[0].at, given[1].at, given[1].length, given[2].at,
-    given[2].length, given[3].at, given[3].length, (void *)rooms[0]); }
+    given[2].length, given[3].at, given[3].length, (void *)outputs[0]); }
 static int known_pvv(void) { return cukvashe_pvv(given[0].at, given[1].at, given[1].length, given[2].number,
-    given[3].at, given[3].length, (void *)rooms[0]); }
+    given[3].at, given[3].length, (void *)outputs[0]); }
 static int known_pvv_verify(void) { return both(cukvashe_pvv_verify(given[0].at, given[1].at, given[1].length,
     given[2].number, given[3].at, given[3].length, given[4].at, given[4].length), cukvashe_pvv_is_pin(given[0].at,
     given[1].at, given[1].length, given[2].number, given[3].at, given[3].length, given[4].at, given[4].length)); }
 static int known_natural_pin(void) { return cukvashe_natural_pin(given[0].at, given[0].length, given[1].at, given[2].at,
-    given[3].number, (void *)rooms[0]); }
+    given[3].number, (void *)outputs[0]); }
 static int known_pin_offset(void) { return cukvashe_pin_offset(given[0].at, given[0].length, given[1].at, given[2].at,
-    given[3].at, given[3].length, (void *)rooms[0]); }
+    given[3].at, given[3].length, (void *)outputs[0]); }
 static int known_pin_offset_verify(void) { return both(cukvashe_pin_offset_verify(given[0].at, given[0].length,
     given[1].at, given[2].at, given[3].at, given[3].length, given[4].at, given[4].length),
     cukvashe_pin_offset_is_pin(given[0].at, given[0].length, given[1].at, given[2].at, given[3].at, given[3].length,
     given[4].at, given[4].length)); }
-static int known_decimal_table_init(void) { return cukvashe_decimal_table_init((void *)rooms[0], given[0].at,
+static int known_decimal_table_init(void) { return cukvashe_decimal_table_init((void *)outputs[0], given[0].at,
     given[0].length); }
-static int known_decimal_table_init_any(void) { return cukvashe_decimal_table_init_any((void *)rooms[0], given[0].at,
+static int known_decimal_table_init_any(void) { return cukvashe_decimal_table_init_any((void *)outputs[0], given[0].at,
     given[0].length); }
 static int known_pin_translate_to_1(void) { return cukvashe_pin_translate_to_1(&(cukvashe_pin_translation){.incoming_key = given[0].at,
     .incoming_key_length = given[0].length, .incoming_format = given[1].number, .outgoing_key = given[2].at,
     .outgoing_key_length = given[2].length, .account = given[3].at, .account_length = given[3].length,
-    .fill = given[4].at}, given[5].at, (void *)rooms[0]); }
+    .fill = given[4].at}, given[5].at, (void *)outputs[0]); }
 static int known_emv_application_key(void) { cukvashe_emv_application_key(given[0].at, given[1].at,
-    (void *)rooms[0]); return CUKVASHE_OK; }
+    (void *)outputs[0]); return CUKVASHE_OK; }
 static int known_emv_session_key(void) { cukvashe_emv_session_key(given[0].at, given[1].at,
-    (void *)rooms[0]); return CUKVASHE_OK; }
+    (void *)outputs[0]); return CUKVASHE_OK; }
 static int known_emv_application_cryptogram(void) { cukvashe_emv_application_cryptogram(given[0].at, given[1].at,
-    given[1].length, (void *)rooms[0]); return CUKVASHE_OK; }
+    given[1].length, (void *)outputs[0]); return CUKVASHE_OK; }
 static int known_emv_response_1(void) { cukvashe_emv_response_1(given[0].at, given[1].at, given[2].at,
-    (void *)rooms[0]); return CUKVASHE_OK; }
+    (void *)outputs[0]); return CUKVASHE_OK; }
 static int known_emv_response_2(void) { return cukvashe_emv_response_2(given[0].at, given[1].at, given[2].at,
-    given[3].at, given[3].length, (void *)rooms[0]); }
+    given[3].at, given[3].length, (void *)outputs[0]); }
 static int known_key_block_unwrap(void) { return cukvashe_key_block_unwrap(given[0].at, given[0].length, given[1].at,
-    given[1].length, (void *)rooms[0], (void *)rooms[1], (void *)rooms[2]); }
+    given[1].length, (void *)outputs[0], (void *)outputs[1], (void *)outputs[2]); }
 static int known_key_block_header(void) { return cukvashe_key_block_header(given[0].at, given[0].length,
-    (void *)rooms[0]); }
+    (void *)outputs[0]); }
 static int known_key_block_optional_block(void) { return cukvashe_key_block_optional_block(given[0].at, given[0].length,
-    given[1].number, (void *)rooms[0], (void *)rooms[1], (void *)rooms[2]); }
+    given[1].number, (void *)outputs[0], (void *)outputs[1], (void *)outputs[2]); }
 static int known_key_block_context(void) { return cukvashe_key_block_context(given[0].at, given[0].length,
-    (void *)rooms[0]); }
+    (void *)outputs[0]); }
 static int known_key_block_wrap(void) { return cukvashe_key_block_wrap(&(cukvashe_key_block_parts){.protection = given[0].at,
     .protection_length = given[0].length, .header = *(const cukvashe_key_block_fields *)given[1].at,
     .optional = given[2].at, .optional_length = given[2].length, .key = given[3].at, .key_length = given[3].length,
-    .padding = given[4].at, .padding_length = given[4].length}, (void *)rooms[0], given[5].number, (void *)rooms[1]); }
+    .padding = given[4].at, .padding_length = given[4].length}, (void *)outputs[0], given[5].number,
+    (void *)outputs[1]); }
 static int known_cms_wrap_key(void) { return cukvashe_cms_wrap_key(given[0].at, given[0].length, given[1].at,
-    given[2].at, given[2].length, (void *)rooms[0], given[3].number, (void *)rooms[1]); }
+    given[2].at, given[2].length, (void *)outputs[0], given[3].number, (void *)outputs[1]); }
 static int known_cms_unwrap_key(void) { return cukvashe_cms_unwrap_key(given[0].at, given[0].length, given[1].at,
-    given[1].length, (void *)rooms[0], given[2].number, (void *)rooms[1]); }
+    given[1].length, (void *)outputs[0], given[2].number, (void *)outputs[1]); }
 static int known_tkw_wrap_key(void) { return cukvashe_tkw_wrap_key(given[0].at, given[0].length, given[1].at,
-    given[1].length, (void *)rooms[0], given[2].number, (void *)rooms[1]); }
+    given[1].length, (void *)outputs[0], given[2].number, (void *)outputs[1]); }
 static int known_tkw_unwrap_key(void) { return cukvashe_tkw_unwrap_key(given[0].at, given[0].length, given[1].at,
-    given[1].length, (void *)rooms[0], given[2].number, (void *)rooms[1]); }
+    given[1].length, (void *)outputs[0], given[2].number, (void *)outputs[1]); }
 static int known_pbkdf2(void) { return cukvashe_pbkdf2(given[0].number, given[1].number, given[2].at, given[2].length,
-    given[3].at, given[3].length, (void *)rooms[0], given[4].number); }
+    given[3].at, given[3].length, (void *)outputs[0], given[4].number); }
 static int known_bytes_to_key(void) { return cukvashe_bytes_to_key(given[0].number, given[1].at, given[1].length,
-    given[2].at, given[2].length, (void *)rooms[0], given[3].number); }
+    given[2].at, given[2].length, (void *)outputs[0], given[3].number); }
 static int known_tdes_ede3_open_salted(void) { return cukvashe_tdes_ede3_open_salted(given[0].number, given[1].number,
-    given[2].at, given[2].length, given[3].at, given[3].length, (void *)rooms[0], given[4].number, (void *)rooms[1]); }
+    given[2].at, given[2].length, given[3].at, given[3].length, (void *)outputs[0], given[4].number,
+    (void *)outputs[1]); }
+static int known_pbe_key(void) { return cukvashe_pbe_key(given[0].at, given[0].length, given[1].number, given[2].at,
+    given[2].length, given[3].at, given[3].length, (void *)outputs[0], given[4].number); }
 static int known_des_open_salted(void) { return cukvashe_des_open_salted(given[0].number, given[1].number, given[2].at,
-    given[2].length, given[3].at, given[3].length, (void *)rooms[0], given[4].number, (void *)rooms[1]); }
+    given[2].length, given[3].at, given[3].length, (void *)outputs[0], given[4].number, (void *)outputs[1]); }
 static int known_tdes_ede2_open_salted(void) { return cukvashe_tdes_ede2_open_salted(given[0].number, given[1].number,
-    given[2].at, given[2].length, given[3].at, given[3].length, (void *)rooms[0], given[4].number, (void *)rooms[1]); }
-static int known_des_init(void) { return cukvashe_des_init((void *)rooms[0], given[0].at, given[0].length); }
-static int known_cbc_mac_des_init(void) { return cukvashe_cbc_mac_des_init((void *)rooms[0], given[0].at,
+    given[2].at, given[2].length, given[3].at, given[3].length, (void *)outputs[0], given[4].number,
+    (void *)outputs[1]); }
+static int known_des_init(void) { return cukvashe_des_init((void *)outputs[0], given[0].at, given[0].length); }
+static int known_cbc_mac_des_init(void) { return cukvashe_cbc_mac_des_init((void *)outputs[0], given[0].at,
     given[0].length, given[1].number); }
-static int known_tdes_ede2_init(void) { return cukvashe_tdes_ede2_init((void *)rooms[0], given[0].at,
+static int known_tdes_ede2_init(void) { return cukvashe_tdes_ede2_init((void *)outputs[0], given[0].at,
     given[0].length); }
-static int known_cbc_mac_tdes_ede2_init(void) { return cukvashe_cbc_mac_tdes_ede2_init((void *)rooms[0], given[0].at,
+static int known_cbc_mac_tdes_ede2_init(void) { return cukvashe_cbc_mac_tdes_ede2_init((void *)outputs[0], given[0].at,
     given[0].length, given[1].number); }
-static int known_retail_mac_des_init(void) { return cukvashe_retail_mac_des_init((void *)rooms[0], given[0].at,
+static int known_retail_mac_des_init(void) { return cukvashe_retail_mac_des_init((void *)outputs[0], given[0].at,
     given[0].length, given[1].number); }
-static int known_cmac_tdes_ede2_init(void) { return cukvashe_cmac_tdes_ede2_init((void *)rooms[0], given[0].at,
+static int known_cmac_tdes_ede2_init(void) { return cukvashe_cmac_tdes_ede2_init((void *)outputs[0], given[0].at,
     given[0].length); }
-static int known_tdes_ede3_init(void) { return cukvashe_tdes_ede3_init((void *)rooms[0], given[0].at,
+static int known_tdes_ede3_init(void) { return cukvashe_tdes_ede3_init((void *)outputs[0], given[0].at,
     given[0].length); }
-static int known_cbc_mac_tdes_ede3_init(void) { return cukvashe_cbc_mac_tdes_ede3_init((void *)rooms[0], given[0].at,
+static int known_cbc_mac_tdes_ede3_init(void) { return cukvashe_cbc_mac_tdes_ede3_init((void *)outputs[0], given[0].at,
     given[0].length, given[1].number); }
-static int known_cmac_tdes_ede3_init(void) { return cukvashe_cmac_tdes_ede3_init((void *)rooms[0], given[0].at,
+static int known_cmac_tdes_ede3_init(void) { return cukvashe_cmac_tdes_ede3_init((void *)outputs[0], given[0].at,
     given[0].length); }
 static const struct known rows[] = {
   {KNOWN(weak_key_test), CUKVASHE_ERR_WEAK_KEY, {"x0101010101010101"}, {0}, 0x1},
@@ -1781,6 +1786,60 @@ static const struct known rows[] = {
   {KNOWN(bytes_to_key), CUKVASHE_ERR_SALT_LENGTH, {"#21", "x736563726574", "x5a*", "#24"}, {0}, 0x3fffffefe},
   {KNOWN(bytes_to_key), CUKVASHE_ERR_SALT_LENGTH, {"#22", "x736563726574", "x5a*", "#24"}, {0}, 0x3fffffefe},
   {KNOWN(bytes_to_key), CUKVASHE_ERR_SALT_LENGTH, {"#23", "x736563726574", "x5a*", "#24"}, {0}, 0x3fffffefe},
+  {KNOWN(pbe_key), CUKVASHE_OK, {"=PBEWithMD5AndDES", "#1000", "x736563726574", "x0123456789abcdef", "#16"},
+    {"x4e73f383dd5ad02303b64e72566b2ee3"}, 0x1},
+  {KNOWN(pbe_key), CUKVASHE_OK, {"=pbeWithMD5AndDES-CBC", "#1000", "x736563726574", "x0123456789abcdef", "#16"},
+    {"x4e73f383dd5ad02303b64e72566b2ee3"}, 0x1},
+  {KNOWN(pbe_key), CUKVASHE_OK, {"=PBEWITHMD5ANDDES", "#1000", "x736563726574", "x0123456789abcdef", "#16"},
+    {"x4e73f383dd5ad02303b64e72566b2ee3"}, 0x1},
+  {KNOWN(pbe_key), CUKVASHE_OK, {"=PBEWithSHA1AndDES", "#1000", "x736563726574", "x0123456789abcdef", "#16"},
+    {"xa4a5961f19bc0ba2a4cacef9a07a1e51"}, 0x1},
+  {KNOWN(pbe_key), CUKVASHE_OK, {"=pbeWithSHA1AndDES-CBC", "#1000", "x736563726574", "x0123456789abcdef", "#16"},
+    {"xa4a5961f19bc0ba2a4cacef9a07a1e51"}, 0x1},
+  {KNOWN(pbe_key), CUKVASHE_OK, {"=PBEWithSHA1AndDESede", "#1000", "x736563726574", "x0123456789abcdef", "#32"},
+    {"x7df9f9ed6abdcb95c8629a7def72a1eff5cffaa09c8c5206f0b04cc60afeda1f"}, 0x1},
+  {KNOWN(pbe_key), CUKVASHE_OK, {"=pbeWithSHAAnd3-KeyTripleDES-CBC", "#1000", "x736563726574", "x0123456789abcdef",
+    "#32"}, {"x7df9f9ed6abdcb95c8629a7def72a1eff5cffaa09c8c5206f0b04cc60afeda1f"}, 0x1},
+  {KNOWN(pbe_key), CUKVASHE_OK, {"=pbeWithSHAAnd2-KeyTripleDES-CBC", "#1000", "x736563726574", "x0123456789abcdef",
+    "#24"}, {"x7df9f9ed6abdcb95c8629a7def72a1eff0b04cc60afeda1f"}, 0x1},
+  {KNOWN(pbe_key), CUKVASHE_OK, {"=PBEWithMD5AndDES", "#1", "x736563726574", "x73616c74206f6620616e79206c656e677468",
+    "#16"}, {"xe12fcf59000515f36dfc18b7072885de"}, 0x1},
+  {KNOWN(pbe_key), CUKVASHE_OK, {"=PBEWithMD5AndTripleDES", "#1000", "x736563726574", "x0123456789abcdef", "#32"},
+    {"xa726b1ef6e1d969b26686110f40b0835d3b230179b6f41bf55a612d726d9a8bb"}, 0x1},
+  {KNOWN(pbe_key), CUKVASHE_OK, {"=PBEWithMD5AndTripleDES", "#20", "x736563726574", "x0102030401020304", "#32"},
+    {"xdb78088dd4814fb52aeba4fdf62e1ba57e8e366b0cd1277124e24591bcab667e"}, 0x1},
+  {KNOWN(pbe_key), CUKVASHE_ERR_ALGORITHM, {"=", "#1000", "x736563726574", "x0123456789abcdef", "#16"}, {0}, 0x1},
+  {KNOWN(pbe_key), CUKVASHE_ERR_ALGORITHM, {"=PBES2", "#1000", "x736563726574", "x0123456789abcdef", "#16"}, {0}, 0x1},
+  {KNOWN(pbe_key), CUKVASHE_ERR_ALGORITHM, {"=PBEWithMD5AndRC2", "#1000", "x736563726574", "x0123456789abcdef", "#16"},
+    {0}, 0x1},
+  {KNOWN(pbe_key), CUKVASHE_ERR_ALGORITHM, {"=PBEWithMD5AndDES ", "#1000", "x736563726574", "x0123456789abcdef", "#16"},
+    {0}, 0x1},
+  {KNOWN(pbe_key), CUKVASHE_ERR_ITERATIONS, {"=PBEWithMD5AndDES", "#0", "x736563726574", "x0123456789abcdef", "#16"},
+    {0}, 0x1},
+  {KNOWN(pbe_key), CUKVASHE_ERR_ITERATIONS, {"=PBEWithMD5AndDES", "#4294967296", "x736563726574", "x0123456789abcdef",
+    "#16"}, {0}, 0x1},
+  {KNOWN(pbe_key), CUKVASHE_ERR_ITERATIONS, {"=PBEWithMD5AndDES", "#4294967297", "x736563726574", "x0123456789abcdef",
+    "#16"}, {0}, 0x1},
+  {KNOWN(pbe_key), CUKVASHE_ERR_SALT_LENGTH, {"=PBEWithMD5AndTripleDES", "#1000", "x736563726574", "x5a*", "#32"}, {0},
+    0x3fffffeff},
+  {KNOWN(pbe_key), CUKVASHE_ERR_KEY_LENGTH, {"=PBEWithMD5AndDES", "#1000", "x736563726574", "x0123456789abcdef", "#1"},
+    {0}, 0x1},
+  {KNOWN(pbe_key), CUKVASHE_ERR_KEY_LENGTH, {"=PBEWithMD5AndDES", "#1000", "x736563726574", "x0123456789abcdef", "#15"},
+    {0}, 0x1},
+  {KNOWN(pbe_key), CUKVASHE_ERR_KEY_LENGTH, {"=PBEWithMD5AndDES", "#1000", "x736563726574", "x0123456789abcdef", "#17"},
+    {0}, 0x1},
+  {KNOWN(pbe_key), CUKVASHE_ERR_KEY_LENGTH, {"=PBEWithMD5AndDES", "#1000", "x736563726574", "x0123456789abcdef", "#24"},
+    {0}, 0x1},
+  {KNOWN(pbe_key), CUKVASHE_ERR_KEY_LENGTH, {"=PBEWithMD5AndDES", "#1000", "x736563726574", "x0123456789abcdef", "#32"},
+    {0}, 0x1},
+  {KNOWN(pbe_key), CUKVASHE_ERR_KEY_LENGTH, {"=PBEWithSHA1AndDESede", "#1000", "x736563726574", "x0123456789abcdef",
+    "#16"}, {0}, 0x1},
+  {KNOWN(pbe_key), CUKVASHE_ERR_KEY_LENGTH, {"=PBEWithSHA1AndDESede", "#1000", "x736563726574", "x0123456789abcdef",
+    "#24"}, {0}, 0x1},
+  {KNOWN(pbe_key), CUKVASHE_ERR_KEY_LENGTH, {"=PBEWithSHA1AndDESede", "#1000", "x736563726574", "x0123456789abcdef",
+    "#31"}, {0}, 0x1},
+  {KNOWN(pbe_key), CUKVASHE_ERR_KEY_LENGTH, {"=PBEWithSHA1AndDESede", "#1000", "x736563726574", "x0123456789abcdef",
+    "#33"}, {0}, 0x1},
   {KNOWN(tdes_ede3_open_salted), CUKVASHE_OK, {"#23", "#0", "x736563726574",
     "x53616c7465645f5fe927a7d874ff28cd93ad37243eb1e04e969de009cb5daeb794437e9ef739ae56dc0b84dd9380ace766ec9187d68c226b",
     "#32"}, {"x4e6f77206973207468652074696d6520666f7220616c6c20676f6f64206d656e", "#32"}, 0x1},

@@ -2,7 +2,7 @@
    blocks. It compiles as C and as C++. */
 #include "cases.h"
 
-/* A buffer, with room before and after its bytes that must stay. */
+/* A buffer, with bytes before and after its own that must stay. */
 struct buffer {
   uint8_t before[16], bytes[8 * LONGEST + 16];
 };
@@ -52,22 +52,22 @@ static void is_cbc(in_place_cbc *in, to_other_cbc *to, const union context *cont
   CHECK(is(&here, from, length) && is(&there, answer, length) && memcmp(iv, next, 8) == 0);
 }
 
-static void is_list(const struct way *way, const union context *context, const uint8_t *plain, const uint8_t *answer,
+static void is_list(const struct path *path, const union context *context, const uint8_t *plain, const uint8_t *answer,
                     size_t length) {
-  is_ecb(way->encrypt_ecb, way->encrypt_ecb_to, context, plain, answer, length);
-  is_ecb(way->decrypt_ecb, way->decrypt_ecb_to, context, answer, plain, length);
+  is_ecb(path->encrypt_ecb, path->encrypt_ecb_to, context, plain, answer, length);
+  is_ecb(path->decrypt_ecb, path->decrypt_ecb_to, context, answer, plain, length);
 }
 
-static void is_chain(const struct way *way, const union context *context, const uint8_t iv[8], const uint8_t *plain,
+static void is_chain(const struct path *path, const union context *context, const uint8_t iv[8], const uint8_t *plain,
                      const uint8_t *answer, size_t length) {
   const uint8_t *next = length > 0 ? answer + length - 8 : iv;
-  is_cbc(way->encrypt_cbc, way->encrypt_cbc_to, context, iv, next, plain, answer, length);
-  is_cbc(way->decrypt_cbc, way->decrypt_cbc_to, context, iv, next, answer, plain, length);
+  is_cbc(path->encrypt_cbc, path->encrypt_cbc_to, context, iv, next, plain, answer, length);
+  is_cbc(path->decrypt_cbc, path->decrypt_cbc_to, context, iv, next, answer, plain, length);
 }
 
 /* The blocks of a case over and over, `count` in all. Chained they are what those plaintexts have for answers that are the case's
    plaintexts, each xor the answer before it. */
-static void lists_of(const struct known_case *known, const struct way *way, const union context *context, size_t count) {
+static void lists_of(const struct known_case *known, const struct path *path, const union context *context, size_t count) {
   static uint8_t plain[8 * LONGEST], answer[8 * LONGEST], chained[8 * LONGEST];
   uint8_t iv[8];
   random_bytes(iv, sizeof iv);
@@ -77,55 +77,55 @@ static void lists_of(const struct known_case *known, const struct way *way, cons
     answer[i] = known->answer[at];
     chained[i] = (uint8_t)(plain[i] ^ (i < 8 ? iv[i] : answer[i - 8]));
   }
-  is_list(way, context, plain, answer, 8 * count);
-  is_chain(way, context, iv, chained, answer, 8 * count);
+  is_list(path, context, plain, answer, 8 * count);
+  is_chain(path, context, iv, chained, answer, 8 * count);
 }
 
 /* The first block of a case among others, at four places. */
-static void is_among_others(const struct known_case *known, const struct way *way, const union context *context) {
+static void is_among_others(const struct known_case *known, const struct path *path, const union context *context) {
   static size_t place = 0;
   const size_t at = place++ % 64, places[4] = {at, 64 + at, 127 - at, 255 - at};
   uint8_t batch[8 * 256], old[8 * 256];
   random_bytes(batch, sizeof batch);
   for (int i = 0; i < 4; i++) memcpy(batch + 8 * places[i], known->plain, 8);
   memcpy(old, batch, sizeof old);
-  CHECK(way->encrypt_ecb(context, batch, sizeof batch) == CUKVASHE_OK);
+  CHECK(path->encrypt_ecb(context, batch, sizeof batch) == CUKVASHE_OK);
   for (int i = 0; i < 4; i++) CHECK(memcmp(batch + 8 * places[i], known->answer, 8) == 0);
-  CHECK(way->decrypt_ecb(context, batch, sizeof batch) == CUKVASHE_OK && memcmp(batch, old, sizeof old) == 0);
+  CHECK(path->decrypt_ecb(context, batch, sizeof batch) == CUKVASHE_OK && memcmp(batch, old, sizeof old) == 0);
 }
 
 /* A case by the header's calls from one buffer to another, where both are one. */
-static void is_in_one_buffer(const struct known_case *known, const struct way *way, const union context *context) {
+static void is_in_one_buffer(const struct known_case *known, const struct path *path, const union context *context) {
   const size_t length = 8 * known->count;
   uint8_t iv[8];
   put(&here, known->plain, length);
   memcpy(iv, known->vector, 8);
   if (known->is_chain) {
-    CHECK(way->encrypt_cbc_to(context, iv, here.bytes, here.bytes, length) == CUKVASHE_OK && is(&here, known->answer, length));
+    CHECK(path->encrypt_cbc_to(context, iv, here.bytes, here.bytes, length) == CUKVASHE_OK && is(&here, known->answer, length));
     memcpy(iv, known->vector, 8);
-    CHECK(way->decrypt_cbc_to(context, iv, here.bytes, here.bytes, length) == CUKVASHE_OK && is(&here, known->plain, length));
+    CHECK(path->decrypt_cbc_to(context, iv, here.bytes, here.bytes, length) == CUKVASHE_OK && is(&here, known->plain, length));
   } else {
-    CHECK(way->encrypt_ecb_to(context, here.bytes, here.bytes, length) == CUKVASHE_OK && is(&here, known->answer, length));
-    CHECK(way->decrypt_ecb_to(context, here.bytes, here.bytes, length) == CUKVASHE_OK && is(&here, known->plain, length));
+    CHECK(path->encrypt_ecb_to(context, here.bytes, here.bytes, length) == CUKVASHE_OK && is(&here, known->answer, length));
+    CHECK(path->decrypt_ecb_to(context, here.bytes, here.bytes, length) == CUKVASHE_OK && is(&here, known->plain, length));
   }
 }
 
-/* A case by each way, in lists of each length; the chains of the file as they are. A context is its bytes. */
+/* A case by each code path, in lists of each length; the chains of the file as they are. A context is its bytes. */
 static void is_answered(const struct known_case *known) {
   const struct cipher *cipher = &ciphers[known->cipher];
   union context made, context;
   CHECK(cipher->init(&made, known->key, cipher->key_size) == CUKVASHE_OK);
   memcpy(&context, &made, cipher->context_size);
   memset(&made, PAINT, sizeof made);
-  is_in_one_buffer(known, &cipher->ways[PUBLIC_WAY], &context);
-  for (int n = 0; n < count_of_ways(); n++) {
-    const struct way *way = &cipher->ways[n];
+  is_in_one_buffer(known, &cipher->paths[PUBLIC_PATH], &context);
+  for (int n = 0; n < count_of_paths(); n++) {
+    const struct path *path = &cipher->paths[n];
     if (known->is_chain) {
-      is_chain(way, &context, known->vector, known->plain, known->answer, 8 * known->count);
+      is_chain(path, &context, known->vector, known->plain, known->answer, 8 * known->count);
       continue;
     }
-    for (int i = 0; i < COUNTS; i++) lists_of(known, way, &context, counts[i]);
-    is_among_others(known, way, &context);
+    for (int i = 0; i < COUNTS; i++) lists_of(known, path, &context, counts[i]);
+    is_among_others(known, path, &context);
   }
 }
 
@@ -165,11 +165,11 @@ static void chains_text(int n) {
   put_words(answer, chained[n], 3);
   put_word(iv, 0x1234567890abcdef);
   CHECK(cipher->init(&context, key, cipher->key_size) == CUKVASHE_OK);
-  for (int way = 0; way < count_of_ways(); way++)
+  for (int path = 0; path < count_of_paths(); path++)
     for (size_t count = 0; count <= 3; count++) {
-      is_chain(&cipher->ways[way], &context, iv, plain, answer, 8 * count);
+      is_chain(&cipher->paths[path], &context, iv, plain, answer, 8 * count);
       memcpy(left, count > 0 ? answer + 8 * count - 8 : iv, 8);
-      is_chain(&cipher->ways[way], &context, left, plain + 8 * count, answer + 8 * count, 24 - 8 * count);
+      is_chain(&cipher->paths[path], &context, left, plain + 8 * count, answer + 8 * count, 24 - 8 * count);
     }
 }
 
@@ -191,14 +191,14 @@ static void answers_different_blocks(void) {
   for (size_t i = 0; i < sizeof list; i++) list[i] = (uint8_t)(i / 8);
   put_words(key, parts, 3);
   CHECK(cipher->init(&context, key, cipher->key_size) == CUKVASHE_OK);
-  for (int n = 0; n < count_of_ways(); n++) {
-    const struct way *way = &cipher->ways[n];
-    CHECK(way->encrypt_ecb_to(&context, list, blocks, sizeof blocks) == CUKVASHE_OK && are_at_places(blocks, encrypted));
-    CHECK(way->decrypt_ecb(&context, blocks, sizeof blocks) == CUKVASHE_OK && memcmp(blocks, list, sizeof list) == 0);
+  for (int n = 0; n < count_of_paths(); n++) {
+    const struct path *path = &cipher->paths[n];
+    CHECK(path->encrypt_ecb_to(&context, list, blocks, sizeof blocks) == CUKVASHE_OK && are_at_places(blocks, encrypted));
+    CHECK(path->decrypt_ecb(&context, blocks, sizeof blocks) == CUKVASHE_OK && memcmp(blocks, list, sizeof list) == 0);
     put_word(iv, 0x1234567890abcdef);
-    CHECK(way->decrypt_cbc(&context, iv, blocks, sizeof blocks) == CUKVASHE_OK && are_at_places(blocks, read));
+    CHECK(path->decrypt_cbc(&context, iv, blocks, sizeof blocks) == CUKVASHE_OK && are_at_places(blocks, read));
     put_word(iv, 0x1234567890abcdef);
-    CHECK(way->decrypt_cbc_to(&context, iv, list, blocks, sizeof blocks) == CUKVASHE_OK && are_at_places(blocks, read));
+    CHECK(path->decrypt_cbc_to(&context, iv, list, blocks, sizeof blocks) == CUKVASHE_OK && are_at_places(blocks, read));
   }
 }
 
@@ -207,7 +207,7 @@ int main(int count, char **words) {
   int cases = each_case(words[1], answers_case);
   answers_different_blocks();
   for (int cipher = 0; cipher < CIPHERS; cipher++) chains_text(cipher);
-  printf("known answers: %d of the file, each in lists and chains of %d lengths, by %d of %d ways\n", cases, (int)COUNTS,
-         count_of_ways(), (int)MOST_WAYS);
+  printf("known answers: %d of the file, each in lists and chains of %d lengths, by %d of %d code paths\n", cases, (int)COUNTS,
+         count_of_paths(), (int)MOST_PATHS);
   return 0;
 }

@@ -20,18 +20,18 @@ static const struct lists lists[CIPHERS] = {
 };
 
 /* What is written stands after `MORE` bytes and before as many, which stay. */
-static uint8_t keys[24 * LONGEST], plain[8 * LONGEST], answers[8 * LONGEST], room[MORE + 16 * LONGEST + MORE];
+static uint8_t keys[24 * LONGEST], plain[8 * LONGEST], answers[8 * LONGEST], buffer[MORE + 16 * LONGEST + MORE];
 
 static uint8_t *put(const uint8_t *bytes, size_t length) {
-  memset(room, PAINT, sizeof room);
-  if (length > 0) memcpy(room + MORE, bytes, length);
-  return room + MORE;
+  memset(buffer, PAINT, sizeof buffer);
+  if (length > 0) memcpy(buffer + MORE, bytes, length);
+  return buffer + MORE;
 }
 
 static int is(const uint8_t *wanted, size_t length) {
-  for (size_t i = 0; i < sizeof room; i++)
-    if ((i < MORE || i >= MORE + length) && room[i] != PAINT) return 0;
-  return memcmp(room + MORE, wanted, length) == 0;
+  for (size_t i = 0; i < sizeof buffer; i++)
+    if ((i < MORE || i >= MORE + length) && buffer[i] != PAINT) return 0;
+  return memcmp(buffer + MORE, wanted, length) == 0;
 }
 
 /* Each block, by a context of its key. */
@@ -42,7 +42,7 @@ static void put_answers(const struct cipher *cipher, size_t count) {
   memcpy(answers, plain, sizeof answers);
   for (size_t i = 0; i < count; i++) {
     CHECK(cipher->init(&context, keys + cipher->key_size * i, cipher->key_size) == CUKVASHE_OK);
-    CHECK(cipher->ways[PUBLIC_WAY].encrypt_ecb(&context, answers + 8 * i, 8) == CUKVASHE_OK);
+    CHECK(cipher->paths[PUBLIC_PATH].encrypt_ecb(&context, answers + 8 * i, 8) == CUKVASHE_OK);
   }
 }
 
@@ -127,7 +127,7 @@ static void answers_transactions(size_t count) {
     cukvashe_dukpt_transaction_key(initial, serials + 10 * i, wanted + 16 * i);
   }
   put(wanted, 0);
-  CHECK(cukvashe_dukpt_transaction_keys_from_base(base, serials, 10 * count, room + MORE, 16 * count, count) == CUKVASHE_OK);
+  CHECK(cukvashe_dukpt_transaction_keys_from_base(base, serials, 10 * count, buffer + MORE, 16 * count, count) == CUKVASHE_OK);
   CHECK(is(wanted, 16 * count));
 }
 
@@ -164,10 +164,10 @@ static uint8_t vectors[8 * LONGEST], next[8 * LONGEST], left[8 * LONGEST];
 
 #define RECORDS(name)                                                                                                 \
   static int name##_encrypt_records(size_t size, const size_t *counts, size_t count, size_t length) {                 \
-    return cukvashe_##name##_encrypt_cbc_records(&chaining.name, left, size, counts, count, room + MORE, length);     \
+    return cukvashe_##name##_encrypt_cbc_records(&chaining.name, left, size, counts, count, buffer + MORE, length);   \
   }                                                                                                                   \
   static int name##_decrypt_records(size_t size, const size_t *counts, size_t count, size_t length) {                 \
-    return cukvashe_##name##_decrypt_cbc_records(&chaining.name, left, size, counts, count, room + MORE, length);     \
+    return cukvashe_##name##_decrypt_cbc_records(&chaining.name, left, size, counts, count, buffer + MORE, length);   \
   }
 
 static union context chaining;
@@ -194,7 +194,7 @@ static void put_records(const struct cipher *cipher, size_t count) {
   memcpy(answers, plain, sizeof answers);
   memcpy(next, vectors, sizeof next);
   for (size_t i = 0; i < count; at += 8 * sizes[i++])
-    CHECK(cipher->ways[PUBLIC_WAY].encrypt_cbc(&chaining, next + 8 * i, answers + at, 8 * sizes[i]) == CUKVASHE_OK);
+    CHECK(cipher->paths[PUBLIC_PATH].encrypt_cbc(&chaining, next + 8 * i, answers + at, 8 * sizes[i]) == CUKVASHE_OK);
 }
 
 static void answers_records(int n, size_t count) {
@@ -371,11 +371,11 @@ static void answers_by_width(int width, int n, size_t count) {
   CHECK(each_by[width][1](size, keys, size * count, put(answers, 8 * count), count) == CUKVASHE_OK && is(plain, 8 * count));
 }
 
-/* The records of `sizes`, in `blocks` blocks, one way or the other. */
-static int recorded(int width, int n, int way, size_t count, size_t blocks) {
+/* The records of `sizes`, in `blocks` blocks, encrypted or decrypted. */
+static int recorded(int width, int n, int decrypts, size_t count, size_t blocks) {
   const uint64_t *context = chaining.tdes_ede3.words; /* the longest, which begins where the others do */
   memcpy(left, vectors, sizeof left);
-  return records_by[width][way](context, ciphers[n].context_size / 8, left, count, sizes, count, room + MORE, blocks, 8 * blocks);
+  return records_by[width][decrypts](context, ciphers[n].context_size / 8, left, count, sizes, count, buffer + MORE, blocks, 8 * blocks);
 }
 
 static void records_by_width(int width, int n, size_t count) {
@@ -429,7 +429,7 @@ static void refuses_counts_of_tags(int width, size_t first, size_t second) {
   for (int n = 0; n < MACS; n++)
     for (int each = 0; each < 2; each++) {
       CHECK(tagged(width, n, each, 1, first, first, put(plain, 0), second) == CUKVASHE_ERR_COUNTS && is(plain, 0));
-      if (each) CHECK(tagged(width, n, each, 1, first, second, room, second) == CUKVASHE_ERR_COUNTS && is(plain, 0));
+      if (each) CHECK(tagged(width, n, each, 1, first, second, buffer, second) == CUKVASHE_ERR_COUNTS && is(plain, 0));
     }
 }
 
@@ -446,7 +446,7 @@ static void refuses_counts_of_answers(size_t first, size_t second) {
 
 static void refuses_counts(size_t first, size_t second) {
   refuses_counts_of_answers(first, second);
-  for (int width = 0; width < count_of_ways() - 1; width++) {
+  for (int width = 0; width < count_of_paths() - 1; width++) {
     for (int n = 0; n < CIPHERS; n++) {
       const size_t size = ciphers[n].key_size;
       for (int call = 0; call < 2; call++) {
@@ -464,13 +464,13 @@ static void refuses_counts(size_t first, size_t second) {
 
 static void by_hidden_calls(void) {
   for (int n = 0; n < CIPHERS; n++)
-    for (int width = 0; width < count_of_ways() - 1; width++)
+    for (int width = 0; width < count_of_paths() - 1; width++)
       for (int i = 0; i < COUNTS; i++) {
         answers_by_width(width, n, counts[i]);
         values_by_width(width, n, counts[i]);
         records_by_width(width, n, counts[i]);
       }
-  for (int width = 0; width < count_of_ways() - 1; width++)
+  for (int width = 0; width < count_of_paths() - 1; width++)
     for (int i = 0; i < COUNTS; i++) {
       transactions_by_width(width, counts[i]);
       tags_by_width(width, counts[i]);
@@ -502,7 +502,8 @@ int main(void) {
   answers_known_transactions();
   nothing_of_nothing();
   by_hidden_calls();
-  printf("lists: keys for each block, check values, transactions, records, MACs and their verification, in lists of %d lengths, by %d ways\n", (int)COUNTS,
-         count_of_ways());
+  printf("lists: keys for each block, check values, transactions, records, MACs and their verification, in lists of %d lengths, by %d code "
+         "paths\n",
+         (int)COUNTS, count_of_paths());
   return 0;
 }

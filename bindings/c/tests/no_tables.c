@@ -21,11 +21,11 @@ static void put(void) {
 
 static const int modes[] = {CUKVASHE_CTR, CUKVASHE_OFB, CUKVASHE_CFB8, CUKVASHE_CFB64};
 
-static void lists_alike(const struct way *way, const union context *with_tables, const union context *no_tables, size_t length) {
-  in_place *const in[] = {way->encrypt_ecb, way->decrypt_ecb};
-  to_other *const to[] = {way->encrypt_ecb_to, way->decrypt_ecb_to};
-  in_place_cbc *const in_cbc[] = {way->encrypt_cbc, way->decrypt_cbc};
-  to_other_cbc *const to_cbc[] = {way->encrypt_cbc_to, way->decrypt_cbc_to};
+static void lists_alike(const struct path *path, const union context *with_tables, const union context *no_tables, size_t length) {
+  in_place *const in[] = {path->encrypt_ecb, path->decrypt_ecb};
+  to_other *const to[] = {path->encrypt_ecb_to, path->decrypt_ecb_to};
+  in_place_cbc *const in_cbc[] = {path->encrypt_cbc, path->decrypt_cbc};
+  to_other_cbc *const to_cbc[] = {path->encrypt_cbc_to, path->decrypt_cbc_to};
   for (int n = 0; n < 2; n++) {
     put();
     CHECK(in[n](with_tables, with_tables_bytes, length) == CUKVASHE_OK && in[n](no_tables, no_tables_bytes, length) == CUKVASHE_OK && same(length));
@@ -42,7 +42,7 @@ static void lists_alike(const struct way *way, const union context *with_tables,
     CHECK(in[n](no_tables, no_tables_bytes, length + 1) == CUKVASHE_ERR_BLOCKS && same(0));
     CHECK(in_cbc[n](no_tables, no_tables_iv, no_tables_bytes, length + 1) == CUKVASHE_ERR_BLOCKS && same(0));
     for (int mode = 0; mode < 4; mode++) {
-      whole_text *const in_mode = n == 0 ? way->encrypt_mode : way->decrypt_mode;
+      whole_text *const in_mode = n == 0 ? path->encrypt_mode : path->decrypt_mode;
       const size_t bytes = length - length / 16;
       put();
       CHECK(in_mode(with_tables, modes[mode], with_tables_iv, with_tables_bytes, bytes) == CUKVASHE_OK);
@@ -63,10 +63,10 @@ static void ciphers_alike(const struct cipher *cipher) {
   CHECK(cipher->init(&with_tables, key, cipher->key_size) == CUKVASHE_OK);
   CHECK(cipher->init_no_tables(&no_tables, key, cipher->key_size) == CUKVASHE_OK);
   CHECK(memcmp(&with_tables, &no_tables, sizeof no_tables) != 0);
-  for (int n = 0; n < count_of_ways(); n++) {
-    for (size_t i = 0; i < sizeof few / sizeof *few; i++) lists_alike(&cipher->ways[n], &with_tables, &no_tables, 8 * few[i]);
+  for (int n = 0; n < count_of_paths(); n++) {
+    for (size_t i = 0; i < sizeof few / sizeof *few; i++) lists_alike(&cipher->paths[n], &with_tables, &no_tables, 8 * few[i]);
     for (int i = 0; i < COUNTS; i++)
-      if (counts[i] < LONGEST) lists_alike(&cipher->ways[n], &with_tables, &no_tables, 8 * counts[i]);
+      if (counts[i] < LONGEST) lists_alike(&cipher->paths[n], &with_tables, &no_tables, 8 * counts[i]);
   }
 }
 
@@ -98,6 +98,6 @@ int main(void) {
   for (int n = 0; n < MACS; n++)
     for (size_t length = 0; length < 100; length++)
       for (int method = 1; method <= 2; method++) messages_alike(&macs[n], method, length);
-  printf("contexts without tables: each call as by those with tables, by %d of %d ways\n", count_of_ways(), (int)MOST_WAYS);
+  printf("contexts without tables: each call as by those with tables, by %d of %d code paths\n", count_of_paths(), (int)MOST_PATHS);
   return 0;
 }

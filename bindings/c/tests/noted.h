@@ -14,6 +14,15 @@ int cukvashe_internal_encrypt_cbc_to(const uint64_t *context, size_t context_cou
   return noted("internal encrypt_cbc_to", ARGUMENTS((uintptr_t)context, (uintptr_t)context_count, (uintptr_t)iv,
     (uintptr_t)input, (uintptr_t)input_count, (uintptr_t)output, (uintptr_t)output_count, (uintptr_t)size));
 }
+int cukvashe_internal_jasypt_decrypt_values(const uint8_t *algorithm, size_t algorithm_count, size_t iterations,
+    const uint8_t *password, size_t password_count, const uint8_t *values, size_t values_count, const size_t *lengths,
+    size_t lengths_count, uint8_t *texts, size_t texts_count, size_t *text_lengths, size_t text_lengths_count,
+    int *statuses, size_t statuses_count) {
+  return noted("internal jasypt_decrypt_values", ARGUMENTS((uintptr_t)algorithm, (uintptr_t)algorithm_count,
+    (uintptr_t)iterations, (uintptr_t)password, (uintptr_t)password_count, (uintptr_t)values, (uintptr_t)values_count,
+    (uintptr_t)lengths, (uintptr_t)lengths_count, (uintptr_t)texts, (uintptr_t)texts_count, (uintptr_t)text_lengths,
+    (uintptr_t)text_lengths_count, (uintptr_t)statuses, (uintptr_t)statuses_count));
+}
 bool cukvashe_internal_equal_but_parity(const uint8_t *first, size_t first_count, const uint8_t *second,
     size_t second_count) {
   return noted("internal equal_but_parity", ARGUMENTS((uintptr_t)first, (uintptr_t)first_count, (uintptr_t)second,
@@ -48,6 +57,45 @@ int cukvashe_internal_decrypt_cbc_to(const uint64_t *context, size_t context_cou
     size_t input_count, uint8_t *output, size_t output_count, size_t size) {
   return noted("internal decrypt_cbc_to", ARGUMENTS((uintptr_t)context, (uintptr_t)context_count, (uintptr_t)iv,
     (uintptr_t)input, (uintptr_t)input_count, (uintptr_t)output, (uintptr_t)output_count, (uintptr_t)size));
+}
+int cukvashe_internal_mysql_decrypt_values(const uint8_t *password, size_t password_count, const uint8_t *values,
+    size_t values_count, const size_t *lengths, size_t lengths_count, uint8_t *texts, size_t texts_count,
+    size_t *text_lengths, size_t text_lengths_count, int *statuses, size_t statuses_count) {
+  return noted("internal mysql_decrypt_values", ARGUMENTS((uintptr_t)password, (uintptr_t)password_count,
+    (uintptr_t)values, (uintptr_t)values_count, (uintptr_t)lengths, (uintptr_t)lengths_count, (uintptr_t)texts,
+    (uintptr_t)texts_count, (uintptr_t)text_lengths, (uintptr_t)text_lengths_count, (uintptr_t)statuses,
+    (uintptr_t)statuses_count));
+}
+int cukvashe_internal_mysql_decrypt_values_by_file(const uint8_t *keys, size_t keys_count, const uint8_t *values,
+    size_t values_count, const size_t *lengths, size_t lengths_count, uint8_t *texts, size_t texts_count,
+    size_t *text_lengths, size_t text_lengths_count, int *statuses, size_t statuses_count) {
+  return noted("internal mysql_decrypt_values_by_file", ARGUMENTS((uintptr_t)keys, (uintptr_t)keys_count,
+    (uintptr_t)values, (uintptr_t)values_count, (uintptr_t)lengths, (uintptr_t)lengths_count, (uintptr_t)texts,
+    (uintptr_t)texts_count, (uintptr_t)text_lengths, (uintptr_t)text_lengths_count, (uintptr_t)statuses,
+    (uintptr_t)statuses_count));
+}
+int cukvashe_internal_pgcrypto_decrypt_values(const uint8_t *algorithm, size_t algorithm_count, const uint8_t *key,
+    size_t key_count, const uint8_t *iv, size_t iv_count, const uint8_t *values, size_t values_count,
+    const size_t *lengths, size_t lengths_count, uint8_t *texts, size_t texts_count, size_t *text_lengths,
+    size_t text_lengths_count, int *statuses, size_t statuses_count) {
+  return noted("internal pgcrypto_decrypt_values", ARGUMENTS((uintptr_t)algorithm, (uintptr_t)algorithm_count,
+    (uintptr_t)key, (uintptr_t)key_count, (uintptr_t)iv, (uintptr_t)iv_count, (uintptr_t)values,
+    (uintptr_t)values_count, (uintptr_t)lengths, (uintptr_t)lengths_count, (uintptr_t)texts, (uintptr_t)texts_count,
+    (uintptr_t)text_lengths, (uintptr_t)text_lengths_count, (uintptr_t)statuses, (uintptr_t)statuses_count));
+}
+int cukvashe_internal_mysql_encrypt_values(const uint8_t *password, size_t password_count, size_t number,
+    const uint8_t *texts, size_t texts_count, const size_t *lengths, size_t lengths_count, uint8_t *values,
+    size_t values_count) {
+  return noted("internal mysql_encrypt_values", ARGUMENTS((uintptr_t)password, (uintptr_t)password_count,
+    (uintptr_t)number, (uintptr_t)texts, (uintptr_t)texts_count, (uintptr_t)lengths, (uintptr_t)lengths_count,
+    (uintptr_t)values, (uintptr_t)values_count));
+}
+int cukvashe_internal_pgcrypto_encrypt_values(const uint8_t *algorithm, size_t algorithm_count, const uint8_t *key,
+    size_t key_count, const uint8_t *iv, size_t iv_count, const uint8_t *texts, size_t texts_count,
+    const size_t *lengths, size_t lengths_count, uint8_t *values, size_t values_count) {
+  return noted("internal pgcrypto_encrypt_values", ARGUMENTS((uintptr_t)algorithm, (uintptr_t)algorithm_count,
+    (uintptr_t)key, (uintptr_t)key_count, (uintptr_t)iv, (uintptr_t)iv_count, (uintptr_t)texts, (uintptr_t)texts_count,
+    (uintptr_t)lengths, (uintptr_t)lengths_count, (uintptr_t)values, (uintptr_t)values_count));
 }
 int cukvashe_internal_encrypt_each(size_t key_size, const uint8_t *keys, size_t keys_count, uint8_t *blocks,
     size_t blocks_count) {
@@ -199,6 +247,43 @@ int cukvashe_wide_decrypt_cbc_to(const uint64_t *context, size_t context_count, 
     size_t input_count, uint8_t *output, size_t output_count, size_t size) {
   return noted("wide decrypt_cbc_to", ARGUMENTS((uintptr_t)context, (uintptr_t)context_count, (uintptr_t)iv,
     (uintptr_t)input, (uintptr_t)input_count, (uintptr_t)output, (uintptr_t)output_count, (uintptr_t)size));
+}
+int cukvashe_wide_mysql_decrypt_values(const uint8_t *password, size_t password_count, const uint8_t *values,
+    size_t values_count, const size_t *lengths, size_t lengths_count, uint8_t *texts, size_t texts_count,
+    size_t *text_lengths, size_t text_lengths_count, int *statuses, size_t statuses_count) {
+  return noted("wide mysql_decrypt_values", ARGUMENTS((uintptr_t)password, (uintptr_t)password_count, (uintptr_t)values,
+    (uintptr_t)values_count, (uintptr_t)lengths, (uintptr_t)lengths_count, (uintptr_t)texts, (uintptr_t)texts_count,
+    (uintptr_t)text_lengths, (uintptr_t)text_lengths_count, (uintptr_t)statuses, (uintptr_t)statuses_count));
+}
+int cukvashe_wide_mysql_decrypt_values_by_file(const uint8_t *keys, size_t keys_count, const uint8_t *values,
+    size_t values_count, const size_t *lengths, size_t lengths_count, uint8_t *texts, size_t texts_count,
+    size_t *text_lengths, size_t text_lengths_count, int *statuses, size_t statuses_count) {
+  return noted("wide mysql_decrypt_values_by_file", ARGUMENTS((uintptr_t)keys, (uintptr_t)keys_count, (uintptr_t)values,
+    (uintptr_t)values_count, (uintptr_t)lengths, (uintptr_t)lengths_count, (uintptr_t)texts, (uintptr_t)texts_count,
+    (uintptr_t)text_lengths, (uintptr_t)text_lengths_count, (uintptr_t)statuses, (uintptr_t)statuses_count));
+}
+int cukvashe_wide_pgcrypto_decrypt_values(const uint8_t *algorithm, size_t algorithm_count, const uint8_t *key,
+    size_t key_count, const uint8_t *iv, size_t iv_count, const uint8_t *values, size_t values_count,
+    const size_t *lengths, size_t lengths_count, uint8_t *texts, size_t texts_count, size_t *text_lengths,
+    size_t text_lengths_count, int *statuses, size_t statuses_count) {
+  return noted("wide pgcrypto_decrypt_values", ARGUMENTS((uintptr_t)algorithm, (uintptr_t)algorithm_count,
+    (uintptr_t)key, (uintptr_t)key_count, (uintptr_t)iv, (uintptr_t)iv_count, (uintptr_t)values,
+    (uintptr_t)values_count, (uintptr_t)lengths, (uintptr_t)lengths_count, (uintptr_t)texts, (uintptr_t)texts_count,
+    (uintptr_t)text_lengths, (uintptr_t)text_lengths_count, (uintptr_t)statuses, (uintptr_t)statuses_count));
+}
+int cukvashe_wide_mysql_encrypt_values(const uint8_t *password, size_t password_count, size_t number,
+    const uint8_t *texts, size_t texts_count, const size_t *lengths, size_t lengths_count, uint8_t *values,
+    size_t values_count) {
+  return noted("wide mysql_encrypt_values", ARGUMENTS((uintptr_t)password, (uintptr_t)password_count, (uintptr_t)number,
+    (uintptr_t)texts, (uintptr_t)texts_count, (uintptr_t)lengths, (uintptr_t)lengths_count, (uintptr_t)values,
+    (uintptr_t)values_count));
+}
+int cukvashe_wide_pgcrypto_encrypt_values(const uint8_t *algorithm, size_t algorithm_count, const uint8_t *key,
+    size_t key_count, const uint8_t *iv, size_t iv_count, const uint8_t *texts, size_t texts_count,
+    const size_t *lengths, size_t lengths_count, uint8_t *values, size_t values_count) {
+  return noted("wide pgcrypto_encrypt_values", ARGUMENTS((uintptr_t)algorithm, (uintptr_t)algorithm_count,
+    (uintptr_t)key, (uintptr_t)key_count, (uintptr_t)iv, (uintptr_t)iv_count, (uintptr_t)texts, (uintptr_t)texts_count,
+    (uintptr_t)lengths, (uintptr_t)lengths_count, (uintptr_t)values, (uintptr_t)values_count));
 }
 int cukvashe_wide_encrypt_each(size_t key_size, const uint8_t *keys, size_t keys_count, uint8_t *blocks,
     size_t blocks_count) {
@@ -456,4 +541,10 @@ int cukvashe_unwiped_bytes_to_key(int hash, const uint8_t *password, size_t pass
     size_t salt_length, uint8_t *key, size_t key_length) {
   return noted("unwiped bytes_to_key", ARGUMENTS((uintptr_t)hash, (uintptr_t)password, (uintptr_t)password_length,
     (uintptr_t)salt, (uintptr_t)salt_length, (uintptr_t)key, (uintptr_t)key_length));
+}
+int cukvashe_unwiped_pbe_key(const char *algorithm, size_t algorithm_length, size_t iterations, const uint8_t *password,
+    size_t password_length, const uint8_t *salt, size_t salt_length, uint8_t *key, size_t key_length) {
+  return noted("unwiped pbe_key", ARGUMENTS((uintptr_t)algorithm, (uintptr_t)algorithm_length, (uintptr_t)iterations,
+    (uintptr_t)password, (uintptr_t)password_length, (uintptr_t)salt, (uintptr_t)salt_length, (uintptr_t)key,
+    (uintptr_t)key_length));
 }

@@ -2,7 +2,7 @@
 #include "check.h"
 #include <limits.h>
 
-enum { MOST = 24, ROOM = 40, PAINT = 0x77 };
+enum { MOST = 24, BUFFER_SIZE = 40, PAINT = 0x77 };
 
 static const int methods[2] = {CUKVASHE_PKCS7, CUKVASHE_ISO7816};
 
@@ -13,9 +13,9 @@ static uint8_t padding_byte(int method, size_t padding, size_t place) {
   return place == 0 ? 0x80 : 0;
 }
 
-/* Nothing but the padding is written, and nothing at all where there is no room for it. */
+/* Nothing but the padding is written, and nothing at all if the buffer is too small for it. */
 static void pads(int method, size_t length, size_t capacity) {
-  uint8_t buffer[ROOM], old[ROOM];
+  uint8_t buffer[BUFFER_SIZE], old[BUFFER_SIZE];
   const size_t padding = 8 - length % 8, end = length + padding;
   size_t padded = PAINT;
   random_bytes(old, sizeof old);
@@ -58,7 +58,7 @@ static void is_unpadded(const uint8_t *buffer, size_t length, int method) {
 
 /* What was padded is unpadded; with any other byte at any place of the last block it is what the rule says. */
 static void unpads(int method, size_t length) {
-  uint8_t buffer[ROOM];
+  uint8_t buffer[BUFFER_SIZE];
   size_t padded, unpadded = PAINT;
   random_bytes(buffer, sizeof buffer);
   CHECK(cukvashe_pad(buffer, length, sizeof buffer, method, &padded) == CUKVASHE_OK);
@@ -77,7 +77,7 @@ static void unpads(int method, size_t length) {
 static void refuses(void) {
   static const int others[] = {0, CUKVASHE_MAC_PADDING_1, CUKVASHE_MAC_PADDING_2, 3, 10, 13, 267, -1, INT_MAX, INT_MIN, INT_MIN + CUKVASHE_PKCS7};
   static const uint8_t zeros[8] = {0};
-  uint8_t buffer[ROOM];
+  uint8_t buffer[BUFFER_SIZE];
   size_t padded = PAINT;
   memset(buffer, 1, sizeof buffer);
   for (int i = 0; i < 2; i++) {
@@ -87,8 +87,8 @@ static void refuses(void) {
     refused(NULL, 0, methods[i], CUKVASHE_ERR_PADDING);
     refused(zeros, 8, methods[i], CUKVASHE_ERR_PADDING);
     CHECK(cukvashe_pad(NULL, 0, 0, methods[i], &padded) == CUKVASHE_ERR_CAPACITY && padded == PAINT);
-    CHECK(cukvashe_pad(buffer, SIZE_MAX, ROOM, methods[i], &padded) == CUKVASHE_ERR_CAPACITY && padded == PAINT);
-    CHECK(cukvashe_pad(buffer, SIZE_MAX - 7, ROOM, methods[i], &padded) == CUKVASHE_ERR_CAPACITY && padded == PAINT);
+    CHECK(cukvashe_pad(buffer, SIZE_MAX, BUFFER_SIZE, methods[i], &padded) == CUKVASHE_ERR_CAPACITY && padded == PAINT);
+    CHECK(cukvashe_pad(buffer, SIZE_MAX - 7, BUFFER_SIZE, methods[i], &padded) == CUKVASHE_ERR_CAPACITY && padded == PAINT);
   }
   refused(buffer, 8, CUKVASHE_ISO7816, CUKVASHE_ERR_PADDING);
   memset(buffer, 0x80, sizeof buffer);
@@ -97,7 +97,7 @@ static void refuses(void) {
     refused(buffer, 8, others[i], CUKVASHE_ERR_PADDING_METHOD);
     refused(buffer, 7, others[i], CUKVASHE_ERR_PADDING_METHOD);
     refused(NULL, 0, others[i], CUKVASHE_ERR_PADDING_METHOD);
-    CHECK(cukvashe_pad(buffer, 3, ROOM, others[i], &padded) == CUKVASHE_ERR_PADDING_METHOD && padded == PAINT);
+    CHECK(cukvashe_pad(buffer, 3, BUFFER_SIZE, others[i], &padded) == CUKVASHE_ERR_PADDING_METHOD && padded == PAINT);
     CHECK(cukvashe_pad(buffer, 3, 3, others[i], &padded) == CUKVASHE_ERR_PADDING_METHOD && padded == PAINT);
   }
   for (size_t i = 0; i < sizeof buffer; i++) CHECK(buffer[i] == 0x80);
@@ -106,10 +106,10 @@ static void refuses(void) {
 int main(void) {
   for (int i = 0; i < 2; i++)
     for (size_t length = 0; length <= MOST; length++) {
-      for (size_t capacity = 0; capacity <= ROOM; capacity++) pads(methods[i], length, capacity);
+      for (size_t capacity = 0; capacity <= BUFFER_SIZE; capacity++) pads(methods[i], length, capacity);
       unpads(methods[i], length);
     }
   refuses();
-  printf("padding: both methods, lengths up to %d, capacities up to %d, every byte of the last block\n", MOST, ROOM);
+  printf("padding: both methods, lengths up to %d, capacities up to %d, every byte of the last block\n", MOST, BUFFER_SIZE);
   return 0;
 }

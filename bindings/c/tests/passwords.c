@@ -1,11 +1,11 @@
-/* What `openssl enc` wrote, with room for it, and each fault by the least wrong input; known calls are in known.c. With names of files,
-   `passwords CIPHER HASH ITERATIONS PASSWORD FILE PLAIN`, it opens the file, and compares. */
+/* What `openssl enc` wrote, into buffers of its size, and each fault by the least wrong input; known calls are in known.c. With names of
+   files, `passwords CIPHER HASH ITERATIONS PASSWORD FILE PLAIN`, it opens the file, and compares. */
 #include "digits.h"
 
 static const char salt_digits[] = "0123456789abcdef";
 
 typedef int open_salted(int hash, size_t iterations, const uint8_t *password, size_t password_length, const uint8_t *bytes,
-                        size_t length, uint8_t *plain, size_t room, size_t *plain_length);
+                        size_t length, uint8_t *plain, size_t capacity, size_t *plain_length);
 
 /* Files of `openssl enc -CIPHER -S 0123456789ABCDEF -pass pass:secret`, whose beginning Salted__ and the salt is put before them where
    OpenSSL leaves it out, of the first bytes of the text. */
@@ -47,24 +47,24 @@ static size_t put_file(int i, uint8_t file[MOST]) {
   return 16 + strlen(files[i].encrypted) / 2;
 }
 
-/* What is opened with so much room, and nothing after it. */
-static int opens(int i, const uint8_t *file, size_t length, size_t room) {
+/* The plaintext is written into a buffer of this capacity, and nothing after it. */
+static int opens(int i, const uint8_t *file, size_t length, size_t capacity) {
   uint8_t plain[MOST];
   size_t plain_length = 0;
   memset(plain, PAINTED, sizeof plain);
-  return files[i].open(files[i].hash, files[i].iterations, (const uint8_t *)"secret", 6, file, length, plain, room, &plain_length) ==
+  return files[i].open(files[i].hash, files[i].iterations, (const uint8_t *)"secret", 6, file, length, plain, capacity, &plain_length) ==
              CUKVASHE_OK &&
          plain_length == files[i].length && memcmp(plain, text, plain_length) == 0 &&
          is_kept(plain + plain_length, sizeof plain - plain_length);
 }
 
-static void refuses(int i, int hash, size_t iterations, const char *password, const uint8_t *file, size_t length, size_t room,
+static void refuses(int i, int hash, size_t iterations, const char *password, const uint8_t *file, size_t length, size_t capacity,
                     int status) {
   uint8_t plain[MOST];
   size_t plain_length;
   memset(plain, PAINTED, sizeof plain);
   memset(&plain_length, PAINTED, sizeof plain_length);
-  CHECK(files[i].open(hash, iterations, (const uint8_t *)password, strlen(password), file, length, plain, room, &plain_length) ==
+  CHECK(files[i].open(hash, iterations, (const uint8_t *)password, strlen(password), file, length, plain, capacity, &plain_length) ==
         status);
   CHECK(is_kept(plain, sizeof plain) && is_kept(&plain_length, sizeof plain_length));
 }
@@ -147,23 +147,23 @@ static void takes_salts(void) {
     CHECK(cukvashe_pbkdf2(CUKVASHE_SHA1, 1, salt, 6, salt, length, key, 32) == CUKVASHE_OK);
 }
 
-static size_t read_file(const char *name, uint8_t *bytes, size_t room) {
+static size_t read_file(const char *name, uint8_t *bytes, size_t capacity) {
   FILE *file = fopen(name, "rb");
   CHECK(file != NULL);
-  const size_t length = fread(bytes, 1, room, file);
-  CHECK(length < room && fclose(file) == 0);
+  const size_t length = fread(bytes, 1, capacity, file);
+  CHECK(length < capacity && fclose(file) == 0);
   return length;
 }
 
 /* Opens a file of `openssl enc`. */
 static void opens_file(char **words) {
-  enum { ROOM = 1 << 20 };
-  static uint8_t file[ROOM], plain[ROOM], wanted[ROOM];
+  enum { CAPACITY = 1 << 20 };
+  static uint8_t file[CAPACITY], plain[CAPACITY], wanted[CAPACITY];
   open_salted *const open = strcmp(words[0], "des-cbc") == 0       ? cukvashe_des_open_salted
                             : strcmp(words[0], "des-ede-cbc") == 0 ? cukvashe_tdes_ede2_open_salted
                                                                    : cukvashe_tdes_ede3_open_salted;
   const int hash = strcmp(words[1], "md5") == 0 ? CUKVASHE_MD5 : strcmp(words[1], "sha1") == 0 ? CUKVASHE_SHA1 : CUKVASHE_SHA256;
-  const size_t length = read_file(words[4], file, ROOM), wanted_length = read_file(words[5], wanted, ROOM);
+  const size_t length = read_file(words[4], file, CAPACITY), wanted_length = read_file(words[5], wanted, CAPACITY);
   size_t plain_length;
   CHECK(open(hash, strtoul(words[2], NULL, 10), (const uint8_t *)words[3], strlen(words[3]), file, length, plain, length - 16,
              &plain_length) == CUKVASHE_OK);

@@ -6,8 +6,8 @@
 
 enum { MOST = 33, PAINT = 0x77 };
 
-/* The statuses that a call returned. */
-enum { LAST = CUKVASHE_ERR_WRAPPED_KEY };
+/* The statuses that a call returned, or gave a value of a column. */
+enum { LAST = CUKVASHE_ERR_KEY_NUMBER };
 
 static int was_returned[LAST + 1];
 
@@ -43,14 +43,14 @@ static void refuses_keys(const struct cipher *cipher) {
 
 enum { BYTES = 8 * 600 + 8 };
 
-/* One length by each call of a way: at an error nothing is changed, and else all of it and nothing after it. */
-static void takes_length(const struct way *way, const union context *context, size_t length, int wanted) {
+/* One length by each call of a code path: at an error nothing is changed, and else all of it and nothing after it. */
+static void takes_length(const struct path *path, const union context *context, size_t length, int wanted) {
   static uint8_t old[BYTES], data[BYTES];
   const size_t changed = wanted == CUKVASHE_OK ? length : 0;
-  in_place *const in[] = {way->encrypt_ecb, way->decrypt_ecb};
-  to_other *const to[] = {way->encrypt_ecb_to, way->decrypt_ecb_to};
-  in_place_cbc *const in_cbc[] = {way->encrypt_cbc, way->decrypt_cbc};
-  to_other_cbc *const to_cbc[] = {way->encrypt_cbc_to, way->decrypt_cbc_to};
+  in_place *const in[] = {path->encrypt_ecb, path->decrypt_ecb};
+  to_other *const to[] = {path->encrypt_ecb_to, path->decrypt_ecb_to};
+  in_place_cbc *const in_cbc[] = {path->encrypt_cbc, path->decrypt_cbc};
+  to_other_cbc *const to_cbc[] = {path->encrypt_cbc_to, path->decrypt_cbc_to};
   random_bytes(old, sizeof old);
   for (int call = 0; call < 8; call++) {
     uint8_t iv[8];
@@ -70,15 +70,15 @@ static void takes_length(const struct way *way, const union context *context, si
   }
 }
 
-static void takes_null(const struct way *way, const union context *context) {
+static void takes_null(const struct path *path, const union context *context) {
   uint8_t iv[8];
   memset(iv, PAINT, sizeof iv);
-  CHECK(way->encrypt_ecb(context, NULL, 0) == CUKVASHE_OK && way->decrypt_ecb(context, NULL, 0) == CUKVASHE_OK);
-  CHECK(way->encrypt_ecb_to(context, NULL, NULL, 0) == CUKVASHE_OK);
-  CHECK(way->decrypt_ecb_to(context, NULL, NULL, 0) == CUKVASHE_OK);
-  CHECK(way->encrypt_cbc(context, iv, NULL, 0) == CUKVASHE_OK && way->decrypt_cbc(context, iv, NULL, 0) == CUKVASHE_OK);
-  CHECK(way->encrypt_cbc_to(context, iv, NULL, NULL, 0) == CUKVASHE_OK);
-  CHECK(way->decrypt_cbc_to(context, iv, NULL, NULL, 0) == CUKVASHE_OK);
+  CHECK(path->encrypt_ecb(context, NULL, 0) == CUKVASHE_OK && path->decrypt_ecb(context, NULL, 0) == CUKVASHE_OK);
+  CHECK(path->encrypt_ecb_to(context, NULL, NULL, 0) == CUKVASHE_OK);
+  CHECK(path->decrypt_ecb_to(context, NULL, NULL, 0) == CUKVASHE_OK);
+  CHECK(path->encrypt_cbc(context, iv, NULL, 0) == CUKVASHE_OK && path->decrypt_cbc(context, iv, NULL, 0) == CUKVASHE_OK);
+  CHECK(path->encrypt_cbc_to(context, iv, NULL, NULL, 0) == CUKVASHE_OK);
+  CHECK(path->decrypt_cbc_to(context, iv, NULL, NULL, 0) == CUKVASHE_OK);
   CHECK(is_painted(iv, sizeof iv));
 }
 
@@ -88,12 +88,12 @@ static void takes_lengths(const struct cipher *cipher) {
   union context context;
   random_bytes(key, sizeof key);
   CHECK(cipher->init(&context, key, cipher->key_size) == CUKVASHE_OK);
-  for (int n = 0; n < count_of_ways(); n++) {
-    const struct way *way = &cipher->ways[n];
+  for (int n = 0; n < count_of_paths(); n++) {
+    const struct path *path = &cipher->paths[n];
     for (size_t i = 0; i < sizeof blocks / sizeof *blocks; i++)
       for (size_t more = 0; more < 8; more++)
-        takes_length(way, &context, 8 * blocks[i] + more, more == 0 ? CUKVASHE_OK : CUKVASHE_ERR_BLOCKS);
-    takes_null(way, &context);
+        takes_length(path, &context, 8 * blocks[i] + more, more == 0 ? CUKVASHE_OK : CUKVASHE_ERR_BLOCKS);
+    takes_null(path, &context);
   }
 }
 
@@ -241,7 +241,7 @@ static records *const of_records[CIPHERS][2] = {{des_encrypt_records, des_decryp
                                                 {tdes_ede2_encrypt_records, tdes_ede2_decrypt_records},
                                                 {tdes_ede3_encrypt_records, tdes_ede3_decrypt_records}};
 
-/* Room for a context of any type: the ciphers, and then the MACs. */
+/* Space for a context of any type: the ciphers, and then the MACs. */
 union memory {
   union context cipher;
   union mac_context mac;
@@ -275,9 +275,9 @@ static void make(union memory *memory, int type, int has_no_tables) {
 static void refuses_by_cipher(int n, const union memory *memory) {
   static const size_t lengths[] = {0, 8, 15, 8 * 40, 8 * 300}, counts[] = {1, 0, 1};
   uint8_t vectors[8 * 3], bytes[8 * 3];
-  for (int way = 0; way < count_of_ways(); way++)
+  for (int path = 0; path < count_of_paths(); path++)
     for (size_t i = 0; i < sizeof lengths / sizeof *lengths; i++)
-      takes_length(&ciphers[n].ways[way], &memory->cipher, lengths[i], CUKVASHE_ERR_CONTEXT);
+      takes_length(&ciphers[n].paths[path], &memory->cipher, lengths[i], CUKVASHE_ERR_CONTEXT);
   memset(vectors, PAINT, sizeof vectors);
   memset(bytes, PAINT, sizeof bytes);
   for (int call = 0; call < 2; call++)
@@ -410,6 +410,23 @@ static void returns_statuses_of_key_wraps(void) {
   CHECK(seen(cukvashe_cms_unwrap_key(key, 16, wrapped, 24, made, 8, &length)) == CUKVASHE_ERR_WRAPPED_KEY);
 }
 
+/* Those of columns. */
+static void returns_statuses_of_columns(void) {
+  static const uint8_t value[8] = {0};
+  static const size_t length = 8;
+  uint8_t text[8];
+  size_t text_length;
+  int of_value;
+  CHECK(seen(cukvashe_mysql_decrypt_values(value, 8, value, 8, &length, 1, text, &text_length, &of_value)) == CUKVASHE_ERR_VALUES);
+  CHECK(seen(of_value) == CUKVASHE_ERR_NOT_ENCRYPTED);
+  CHECK(seen(cukvashe_pgcrypto_decrypt_values("aes", 3, value, 8, value, 8, value, 8, &length, 1, text, &text_length, &of_value)) ==
+        CUKVASHE_ERR_ALGORITHM);
+  CHECK(seen(cukvashe_jasypt_decrypt_values("PBEWithMD5AndDES", 16, 1, value, 8, value, 8, &length, 1, text, &text_length, &of_value)) ==
+        CUKVASHE_ERR_VALUES);
+  CHECK(seen(of_value) == CUKVASHE_ERR_BASE64);
+  CHECK(seen(cukvashe_mysql_encrypt_values(value, 8, 10, value, 8, &length, 1, text, 8)) == CUKVASHE_ERR_KEY_NUMBER);
+}
+
 /* Those of key blocks. */
 static void returns_statuses_of_key_blocks(void) {
   static const uint8_t key[16] = {0};
@@ -456,7 +473,7 @@ static const char *const words[] = {
     "no next key serial number", "first digit of the PIN block", "PIN does not have 4 to 12 digits", "character of the PIN",
     "account number does not have 8 to 19 digits", "character of the account number", "fill digit",
     "expiry date does not have four digits", "character of the expiry date", "service code does not have three digits",
-    "character of the service code", "do not end with the padding", "has no room",
+    "character of the service code", "do not end with the padding", "too small for all",
     "numbers of elements do not agree", "index of the key pair", "table does not have sixteen digits", "character of the decimalization",
     "fewer than eight different digits", "PIN is wrong", "no translation of PIN blocks", "PIN block is not one of its format",
     "sequence number does not have two digits", "character of the sequence number", "more than 8 bytes",
@@ -464,7 +481,8 @@ static const char *const words[] = {
     "optional blocks can't be read", "encrypted key data do not have", "0 to 9 or A to F", "MAC is not that of the key block",
     "padding of the key", "no optional block at this place", "hash function is not one", "number of iterations", "do not begin with Salted__",
     "end within the salt, or it does not have 0 or 8 bytes", "context is not one", "mode is not one", "stream is not one",
-    "wrapped key does not have a length", "no key that was wrapped",
+    "wrapped key does not have a length", "no key that was wrapped", "none that MySQL encrypted", "some values can't be read",
+    "algorithm is not one", "is not Base64", "not one of a key",
 };
 
 /* Every status was returned by some call, and has a sentence of its own; other numbers have one sentence. */
@@ -519,7 +537,9 @@ static void has_numbers(void) {
       CUKVASHE_ERR_OPTIONAL_BLOCK, CUKVASHE_ERR_KEY_DATA_LENGTH, CUKVASHE_ERR_KEY_BLOCK_DIGIT,
       CUKVASHE_ERR_KEY_BLOCK_MAC, CUKVASHE_ERR_PADDING_LENGTH, CUKVASHE_ERR_NO_OPTIONAL_BLOCK, CUKVASHE_ERR_HASH,
       CUKVASHE_ERR_ITERATIONS, CUKVASHE_ERR_NOT_SALTED, CUKVASHE_ERR_SALT_LENGTH, CUKVASHE_ERR_CONTEXT,
-      CUKVASHE_ERR_MODE, CUKVASHE_ERR_STREAM, CUKVASHE_ERR_WRAPPED_LENGTH, CUKVASHE_ERR_WRAPPED_KEY};
+      CUKVASHE_ERR_MODE, CUKVASHE_ERR_STREAM, CUKVASHE_ERR_WRAPPED_LENGTH, CUKVASHE_ERR_WRAPPED_KEY,
+      CUKVASHE_ERR_NOT_ENCRYPTED, CUKVASHE_ERR_VALUES, CUKVASHE_ERR_ALGORITHM, CUKVASHE_ERR_BASE64,
+      CUKVASHE_ERR_KEY_NUMBER};
   CHECK(sizeof statuses / sizeof *statuses == LAST + 1);
   for (int i = 0; i <= LAST; i++) CHECK(statuses[i] == i);
   CHECK(CUKVASHE_BLOCK_SIZE == 8 && CUKVASHE_TAG_SIZE == 8);
@@ -574,6 +594,7 @@ int main(void) {
   returns_statuses_of_key_blocks();
   returns_statuses_of_streams();
   returns_statuses_of_key_wraps();
+  returns_statuses_of_columns();
   returns_statuses_of_passwords();
   has_sentences();
   has_numbers();

@@ -6,9 +6,9 @@
 
 enum { LIST = 300 };
 
-/* What calls take. Rooms are what they write. */
+/* What calls take, and the buffers that they write: `outputs`. */
 static uint8_t key[24], keys[24 * LIST], others[100], blocks[8 * LIST], salted[8 * LIST] = "Salted__";
-static uint64_t contexts[9][64], rooms[3][24 * LIST / 8];
+static uint64_t contexts[9][64], outputs[3][24 * LIST / 8];
 static const char pin_digits[] = "123456789012";
 static uint8_t sent[16]; /* PIN blocks of formats 0 and 1 that are encrypted under the key, so that they are translated */
 static const uint8_t serial[10] = {0xff, 0xff, 0x98, 0x76, 0x54, 0x32, 0x10, 0xef, 0xf8};
@@ -24,7 +24,8 @@ static const cukvashe_pin_translation translations[] = {
     {key, 24, 0, key, 24, "4012345678909", 13, fill},
     {key, 24, 1, key, 24, NULL, 0, NULL},
 };
-static size_t ones[LIST], key_block_length, count;
+static uint8_t column[9 * LIST]; /* values of MySQL, of one block each, under key 9 */
+static size_t ones[LIST], eights[LIST], nines[LIST], key_block_length, count;
 
 /* What a call returns. */
 static volatile int returned;
@@ -35,6 +36,9 @@ static void make_samples(void) {
   random_bytes(others, sizeof others);
   for (size_t i = 0; i < LIST; i++) {
     ones[i] = 1;
+    eights[i] = 8;
+    nines[i] = 9;
+    column[9 * i] = 128 + 9;
     messages[i].bytes = blocks;
     messages[i].length = 20;
   }

@@ -21,19 +21,19 @@ static void hide(void *bytes, size_t count) {
   (void)VALGRIND_MAKE_MEM_UNDEFINED(bytes, count);
 }
 
-static void lists_by(const struct way *way, const union context *context) {
+static void lists_by(const struct path *path, const union context *context) {
   for (size_t i = 0; i < sizeof whole / sizeof *whole; i++) {
     size_t length = 8 * whole[i];
     hide(data, sizeof data);
     hide(iv, sizeof iv);
-    CHECK(way->encrypt_ecb(context, data, length) == CUKVASHE_OK);
-    CHECK(way->decrypt_ecb(context, data, length) == CUKVASHE_OK);
-    CHECK(way->encrypt_ecb_to(context, data, other, length) == CUKVASHE_OK);
-    CHECK(way->decrypt_ecb_to(context, other, data, length) == CUKVASHE_OK);
-    CHECK(way->decrypt_cbc(context, iv, data, length) == CUKVASHE_OK);
-    CHECK(way->decrypt_cbc_to(context, iv, data, other, length) == CUKVASHE_OK);
-    CHECK(way->encrypt_mode(context, CUKVASHE_CTR, iv, data, length) == CUKVASHE_OK);
-    CHECK(way->decrypt_mode(context, CUKVASHE_CFB64, iv, data, length) == CUKVASHE_OK);
+    CHECK(path->encrypt_ecb(context, data, length) == CUKVASHE_OK);
+    CHECK(path->decrypt_ecb(context, data, length) == CUKVASHE_OK);
+    CHECK(path->encrypt_ecb_to(context, data, other, length) == CUKVASHE_OK);
+    CHECK(path->decrypt_ecb_to(context, other, data, length) == CUKVASHE_OK);
+    CHECK(path->decrypt_cbc(context, iv, data, length) == CUKVASHE_OK);
+    CHECK(path->decrypt_cbc_to(context, iv, data, other, length) == CUKVASHE_OK);
+    CHECK(path->encrypt_mode(context, CUKVASHE_CTR, iv, data, length) == CUKVASHE_OK);
+    CHECK(path->decrypt_mode(context, CUKVASHE_CFB64, iv, data, length) == CUKVASHE_OK);
   }
 }
 
@@ -41,7 +41,7 @@ static void calls_of(const struct cipher *cipher) {
   union context context;
   hide(key, sizeof key);
   CHECK(cipher->init(&context, key, cipher->key_size) == CUKVASHE_OK);
-  for (int way = 0; way < count_of_ways(); way++) lists_by(&cipher->ways[way], &context);
+  for (int path = 0; path < count_of_paths(); path++) lists_by(&cipher->paths[path], &context);
 }
 
 /* Whether a status that came of hidden bytes is this one: only here may a branch depend on it. */
@@ -72,15 +72,15 @@ static void verifies(const struct mac *mac) {
 }
 
 /* Bytes in pieces by each mode, and some bits. What mode it is, and how many bytes, is no secret. */
-static void streams_without_tables(const struct cipher *cipher, const struct way *way, const union context *context, size_t length) {
+static void streams_without_tables(const struct cipher *cipher, const struct path *path, const union context *context, size_t length) {
   static const int modes[] = {CUKVASHE_CTR, CUKVASHE_OFB, CUKVASHE_CFB1, CUKVASHE_CFB8, CUKVASHE_CFB1 + 5, CUKVASHE_CFB64};
   for (size_t i = 0; i < sizeof modes / sizeof *modes; i++) {
     cukvashe_stream stream;
     CHECK(cukvashe_stream_begin(&stream, modes[i], iv) == CUKVASHE_OK);
-    CHECK(way->encrypt_stream(context, &stream, data, length) == CUKVASHE_OK);
-    CHECK(way->decrypt_stream(context, &stream, data, length) == CUKVASHE_OK);
-    CHECK(way->encrypt_mode(context, modes[i], iv, data, length) == CUKVASHE_OK);
-    CHECK(way->decrypt_mode(context, modes[i], iv, data, length) == CUKVASHE_OK);
+    CHECK(path->encrypt_stream(context, &stream, data, length) == CUKVASHE_OK);
+    CHECK(path->decrypt_stream(context, &stream, data, length) == CUKVASHE_OK);
+    CHECK(path->encrypt_mode(context, modes[i], iv, data, length) == CUKVASHE_OK);
+    CHECK(path->decrypt_mode(context, modes[i], iv, data, length) == CUKVASHE_OK);
     if (modes[i] != CUKVASHE_CFB1) continue;
     CHECK(cipher->encrypt_bits(context, &stream, data, 13) == CUKVASHE_OK);
     CHECK(cipher->decrypt_bits(context, &stream, data, 13) == CUKVASHE_OK);
@@ -93,21 +93,21 @@ static void calls_without_tables_of(const struct cipher *cipher) {
   union context context;
   hide(key, sizeof key);
   CHECK(cipher->init_no_tables(&context, key, cipher->key_size) == CUKVASHE_OK);
-  for (int n = 0; n < count_of_ways(); n++) {
-    const struct way *way = &cipher->ways[n];
+  for (int n = 0; n < count_of_paths(); n++) {
+    const struct path *path = &cipher->paths[n];
     for (size_t i = 0; i < sizeof few / sizeof *few; i++) {
       size_t length = 8 * few[i];
       hide(data, sizeof data);
       hide(iv, sizeof iv);
-      CHECK(way->encrypt_ecb(&context, data, length) == CUKVASHE_OK);
-      CHECK(way->decrypt_ecb(&context, data, length) == CUKVASHE_OK);
-      CHECK(way->encrypt_ecb_to(&context, data, other, length) == CUKVASHE_OK);
-      CHECK(way->decrypt_ecb_to(&context, other, data, length) == CUKVASHE_OK);
-      CHECK(way->encrypt_cbc(&context, iv, data, length) == CUKVASHE_OK);
-      CHECK(way->decrypt_cbc(&context, iv, data, length) == CUKVASHE_OK);
-      CHECK(way->encrypt_cbc_to(&context, iv, data, other, length) == CUKVASHE_OK);
-      CHECK(way->decrypt_cbc_to(&context, iv, data, other, length) == CUKVASHE_OK);
-      streams_without_tables(cipher, way, &context, length - 3);
+      CHECK(path->encrypt_ecb(&context, data, length) == CUKVASHE_OK);
+      CHECK(path->decrypt_ecb(&context, data, length) == CUKVASHE_OK);
+      CHECK(path->encrypt_ecb_to(&context, data, other, length) == CUKVASHE_OK);
+      CHECK(path->decrypt_ecb_to(&context, other, data, length) == CUKVASHE_OK);
+      CHECK(path->encrypt_cbc(&context, iv, data, length) == CUKVASHE_OK);
+      CHECK(path->decrypt_cbc(&context, iv, data, length) == CUKVASHE_OK);
+      CHECK(path->encrypt_cbc_to(&context, iv, data, other, length) == CUKVASHE_OK);
+      CHECK(path->decrypt_cbc_to(&context, iv, data, other, length) == CUKVASHE_OK);
+      streams_without_tables(cipher, path, &context, length - 3);
     }
   }
 }
@@ -143,7 +143,7 @@ static void others(void) {
   cukvashe_dukpt_data_variant(key, true, other);
 }
 
-/* Records, both ways, under a context that INIT makes. */
+/* Records, encrypted and decrypted, under a context that INIT makes. */
 #define RECORDS(NAME, INIT, KEY_SIZE)                                                                                      \
   do {                                                                                                                     \
     cukvashe_##NAME context;                                                                                               \
@@ -281,11 +281,57 @@ static void keys_of_passwords(void) {
     CHECK(cukvashe_pbkdf2(CUKVASHE_SHA256, 2, data, lengths[i], salt, 8, other, 33) == CUKVASHE_OK);
     for (int hash = CUKVASHE_MD5; hash <= CUKVASHE_SHA256; hash++)
       CHECK(cukvashe_bytes_to_key(hash, data, lengths[i], salt, 8, other, 32) == CUKVASHE_OK);
+    CHECK(cukvashe_pbe_key("PBEWithMD5AndDES", 16, 2, data, lengths[i], salt, 8, other, 16) == CUKVASHE_OK);
+    CHECK(cukvashe_pbe_key("PBEWithSHA1AndDES", 17, 2, data, lengths[i], salt, 8, other, 16) == CUKVASHE_OK);
+    CHECK(cukvashe_pbe_key("PBEWithMD5AndTripleDES", 22, 2, data, lengths[i], salt, 8, other, 32) == CUKVASHE_OK);
   }
 }
 
+/* Hidden values of columns under hidden keys, alone and together, and one that is longer than what is read together. Without padding no
+   branch depends on the texts. How long values are is no secret. */
+static void columns(void) {
+  static const char *const algorithms[] = {"des/pad:none", "des-ecb/pad:none", "3des/pad:none", "3des-ecb/pad:none"};
+  static const size_t lengths[] = {8, 0, 24, 8 * 41, 16, 8 * 1100, 40};
+  static uint8_t values[8 * 1200], texts[8 * 1200];
+  enum { VALUES = sizeof lengths / sizeof *lengths };
+  size_t text_lengths[VALUES];
+  int statuses[VALUES];
+  for (size_t i = 0; i < sizeof algorithms / sizeof *algorithms; i++)
+    for (size_t count = 0; count <= VALUES; count++) {
+      size_t length = 0;
+      for (size_t k = 0; k < count; k++) length += lengths[k];
+      hide(key, sizeof key);
+      hide(iv, sizeof iv);
+      hide(values, sizeof values);
+      CHECK(cukvashe_pgcrypto_decrypt_values(algorithms[i], strlen(algorithms[i]), key, sizeof key, iv, sizeof iv, values, length, lengths,
+                                             count, texts, text_lengths, statuses) == CUKVASHE_OK);
+      hide(texts, sizeof texts);
+      CHECK(cukvashe_pgcrypto_encrypt_values(algorithms[i], strlen(algorithms[i]), key, sizeof key, iv, sizeof iv, texts, length, lengths,
+                                             count, values, length) == CUKVASHE_OK);
+    }
+}
+
+/* Hidden texts that are padded under hidden keys. */
+static void padded_columns(void) {
+  static const size_t lengths[] = {7, 0, 8, 8 * 1100, 20};
+  static uint8_t texts[8 * 1200], values[8 * 1200];
+  enum { TEXTS = sizeof lengths / sizeof *lengths };
+  size_t length = 0, mysql = 0, pgcrypto = 0;
+  for (size_t k = 0; k < TEXTS; k++) {
+    length += lengths[k];
+    mysql += lengths[k] == 0 ? 0 : (lengths[k] / 8 + 1) * 8 + 1;
+    pgcrypto += (lengths[k] / 8 + 1) * 8;
+  }
+  hide(key, sizeof key);
+  hide(iv, sizeof iv);
+  hide(texts, sizeof texts);
+  CHECK(cukvashe_mysql_encrypt_values(key, sizeof key, 9, texts, length, lengths, TEXTS, values, mysql) == CUKVASHE_OK);
+  CHECK(cukvashe_pgcrypto_encrypt_values("3des", 4, key, sizeof key, iv, sizeof iv, texts, length, lengths, TEXTS, values, pgcrypto) ==
+        CUKVASHE_OK);
+}
+
 /* A key in a key block, under a hidden protection key. The block is no secret. */
-static size_t make_block(int i, uint8_t protection[24], char *block, size_t room) {
+static size_t make_block(int i, uint8_t protection[24], char *block, size_t capacity) {
   const size_t size = 8 + 8 * (size_t)(i / 4);
   const cukvashe_key_block_parts parts = {.protection = protection, .protection_length = i / 2 % 2 ? 16 : 24,
                                           .header = {i % 2 ? 'B' : 'C', "P0", 'T', 'E', "00", 'E'}, .key = key, .key_length = size,
@@ -294,8 +340,8 @@ static size_t make_block(int i, uint8_t protection[24], char *block, size_t room
   hide(protection, 24);
   hide(key, sizeof key);
   hide(data, 22);
-  CHECK(cukvashe_key_block_wrap(&parts, block, room, &length) == CUKVASHE_OK);
-  (void)VALGRIND_MAKE_MEM_DEFINED(block, room);
+  CHECK(cukvashe_key_block_wrap(&parts, block, capacity, &length) == CUKVASHE_OK);
+  (void)VALGRIND_MAKE_MEM_DEFINED(block, capacity);
   return length;
 }
 
@@ -395,8 +441,8 @@ struct derivation {
 
 enum { PASSWORD = 10 };
 
-/* In `data` a file of openssl enc, of so many blocks, under the password of PASSWORD bytes at `key`. It ends with so many bytes of padding; 0
-   is no padding. How many bytes it has. */
+/* Writes to `data` a file of openssl enc, of `blocks` blocks, under the password of PASSWORD bytes at `key`. It ends with `padding` bytes
+   of padding; 0 is no padding. Returns its length. */
 static size_t make_file(int cipher, const struct derivation *by, size_t blocks, uint8_t padding) {
   const size_t size = ciphers[cipher].key_size, length = 8 * blocks;
   union context context;
@@ -409,7 +455,7 @@ static size_t make_file(int cipher, const struct derivation *by, size_t blocks, 
   else
     CHECK(cukvashe_pbkdf2(by->hash, by->iterations, key, PASSWORD, data + 8, 8, both, size + 8) == CUKVASHE_OK);
   CHECK(ciphers[cipher].init_no_tables(&context, both, size) == CUKVASHE_OK);
-  CHECK(ciphers[cipher].ways[0].encrypt_cbc(&context, both + size, data + 16, length) == CUKVASHE_OK);
+  CHECK(ciphers[cipher].paths[0].encrypt_cbc(&context, both + size, data + 16, length) == CUKVASHE_OK);
   return 16 + length;
 }
 
@@ -448,7 +494,7 @@ static void opened_file(void) {
   printf("no report but of the padding\n");
 }
 
-/* The reports of one encoding of a PIN of so many digits, all hidden. At that place, if the PIN has it, a letter stands. */
+/* The reports of one encoding of a PIN of `digits` digits, all hidden. At the place `letter`, if the PIN has it, a letter stands. */
 static unsigned reports_of_pin(size_t digits, size_t letter) {
   char pin[] = "924681357024";
   if (letter < digits) pin[letter] = 'x';
@@ -469,8 +515,8 @@ static void pin_of_a_card(void) {
   printf("no report of the place of a letter\n");
 }
 
-/* In `block` a PIN block of format 0, 1 or 3 under the key of 16 bytes at `key`: of a PIN of so many digits, or with a wrong first digit or
-   of another format. */
+/* Writes to `block` a PIN block of format 0, 1 or 3 under the key of 16 bytes at `key`: of a PIN of `digits` digits, or with a wrong first
+   digit or of another format. */
 static void make_pin_block(int format, size_t digits, const char *account, bool is_right, uint8_t block[8]) {
   static const char pin[] = "924681357024";
   static const uint8_t fill[10] = {10, 11, 12, 13, 14, 15, 10, 11, 12, 13};
@@ -547,7 +593,7 @@ static unsigned reports_of_value(unsigned wrong) {
   return reports;
 }
 
-/* The reports of one verification by an offset, of a PIN of so many digits, with hidden validation data; here the PIN is wrong. */
+/* The reports of one verification by an offset, of a PIN of `digits` digits, with hidden validation data; here the PIN is wrong. */
 static unsigned reports_of_offset(size_t size, size_t digits, unsigned wrong) {
   char pin[] = "924681357024", offset[CUKVASHE_PIN_SIZE];
   cukvashe_decimal_table table;
@@ -628,6 +674,8 @@ int main(int count, char **words) {
     keys_in_key_blocks();
     wrapped_keys();
     keys_of_passwords();
+    columns();
+    padded_columns();
     lists_of_keys();
   } else if (strcmp(words[1], "short") == 0) {
     list_of(18);
@@ -655,7 +703,7 @@ int main(int count, char **words) {
     CHECK(strcmp(words[1], "planted") == 0);
     planted();
   }
-  printf("secret indexes: %s, run by valgrind: %s, by %d of %d ways\n", words[1], RUNNING_ON_VALGRIND ? "yes" : "no",
-         count_of_ways(), (int)MOST_WAYS);
+  printf("secret indexes: %s, run by valgrind: %s, by %d of %d code paths\n", words[1], RUNNING_ON_VALGRIND ? "yes" : "no",
+         count_of_paths(), (int)MOST_PATHS);
   return 0;
 }

@@ -116,7 +116,7 @@ static void measure_file(const struct call *call) {
     } while (returned != wanted[i]);
 }
 
-/* Lists that go by every way. */
+/* Lists that take every code path. */
 static void measure_lists(const struct call *call) {
   static const size_t sizes[] = {1, 3, 32, 128, 129, LIST};
   for (size_t i = 0; i < sizeof sizes / sizeof *sizes; i++) {
@@ -140,30 +140,31 @@ static void measure_all(const char *init, bool with_contexts) {
 
 #ifdef FORCED
 static union context forced;
-static const struct way *way;
+static const struct path *path;
 
-static void run_way(void) {
-  uint8_t *iv = (uint8_t *)rooms[1], *to = (uint8_t *)rooms[0];
-  returned = way->encrypt_ecb(&forced, to, 8 * count) + way->decrypt_ecb(&forced, to, 8 * count) +
-             way->encrypt_ecb_to(&forced, blocks, to, 8 * count) + way->decrypt_ecb_to(&forced, blocks, to, 8 * count) +
-             way->decrypt_cbc(&forced, iv, to, 8 * count) + way->decrypt_cbc_to(&forced, iv, blocks, to, 8 * count);
+static void run_path(void) {
+  uint8_t *iv = (uint8_t *)outputs[1], *to = (uint8_t *)outputs[0];
+  returned = path->encrypt_ecb(&forced, to, 8 * count) + path->decrypt_ecb(&forced, to, 8 * count) +
+             path->encrypt_ecb_to(&forced, blocks, to, 8 * count) + path->decrypt_ecb_to(&forced, blocks, to, 8 * count) +
+             path->decrypt_cbc(&forced, iv, to, 8 * count) + path->decrypt_cbc_to(&forced, iv, blocks, to, 8 * count);
 }
 
 /* The exports of both widths, whatever the length. */
-static void measure_ways(void) {
-  static const struct call of_way = {"a call of one width", run_way, 27000, false, true, true};
+static void measure_paths(void) {
+  static const struct call of_path = {"a call of one width", run_path, 27000, false, true, true};
   for (int cipher = 0; cipher < CIPHERS; cipher++)
     for (int no_tables = 0; no_tables < 2; no_tables++) {
       CHECK((no_tables ? ciphers[cipher].init_no_tables : ciphers[cipher].init)(&forced, key, ciphers[cipher].key_size) == CUKVASHE_OK);
-      for (int i = 0; i < count_of_ways(); i++) {
-        way = &ciphers[cipher].ways[i];
-        measure_lists(&of_way);
+      for (int i = 0; i < count_of_paths(); i++) {
+        path = &ciphers[cipher].paths[i];
+        measure_lists(&of_path);
       }
     }
 }
 
 static void unwiped(void) {
-  returned = cukvashe_unwiped_key_block_unwrap(key, 24, key_block, key_block_length, (void *)rooms[0], (void *)rooms[1], (void *)rooms[2]);
+  returned = cukvashe_unwiped_key_block_unwrap(key, 24, key_block, key_block_length, (void *)outputs[0], (void *)outputs[1],
+                                               (void *)outputs[2]);
 }
 
 /* Without the C that wipes, the test must see a whole key. */
@@ -173,17 +174,17 @@ static void sees_a_key(void) {
   CHECK(returned == CUKVASHE_OK && bytes_left > 0 && parts_left > sizeof key - PART);
 }
 #else
-static void measure_ways(void) {}
+static void measure_paths(void) {}
 static void sees_a_key(void) {}
 #endif
 
 /* Key blocks of no optional blocks, of the most, and of the most characters. */
-static void make_key_block(int way) {
+static void make_key_block(int kind) {
   static const size_t lengths[] = {0, 4 * 98, sizeof optional};
-  parts.optional_length = lengths[way];
+  parts.optional_length = lengths[kind];
   memset(optional, 'x', sizeof optional);
   for (int i = 0; i < 98; i++) memcpy(optional + 4 * i, "KS04", 4);
-  if (way == 2) memcpy(optional, "KS000226A0", 10); /* 9,888 in digits of four bits */
+  if (kind == 2) memcpy(optional, "KS000226A0", 10); /* 9,888 in digits of four bits */
   call_key_block_wrap();
   CHECK(returned == CUKVASHE_OK);
 }
@@ -197,10 +198,10 @@ int main(void) {
   none = used_by(&no_call);
   make_key_block(0);
   if (WIPES) sees_a_key();
-  measure_ways();
-  for (int way = 1; way < 3; way++) {
-    make_key_block(way);
-    measure_all(way == 1 ? "_init" : "_init_no_tables", true);
+  measure_paths();
+  for (int kind = 1; kind < 3; kind++) {
+    make_key_block(kind);
+    measure_all(kind == 1 ? "_init" : "_init_no_tables", true);
     measure_all("_init", false);
   }
   CHECK(most > 40000);

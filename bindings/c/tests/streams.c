@@ -1,4 +1,5 @@
-/* The modes without padding, by each cipher and way: known answers in one call and in pieces, bits, parts of CTR, and what is refused. */
+/* The modes without padding, by each cipher and code path: known answers in one call and in pieces, bits, parts of CTR, and what is
+   refused. */
 #include "check.h"
 
 static const uint8_t text[] = "Now is the time for all ", iv[] = {0x12, 0x34, 0x56, 0x78, 0x90, 0xab, 0xcd, 0xef};
@@ -36,32 +37,32 @@ static void read_digits(uint8_t *bytes, const char *digits) {
   }
 }
 
-/* By one call, and cut at each place into two pieces, both ways. A cut text is the beginning. */
-static void is_known(const struct way *way, const union context *context, int mode, const uint8_t *wanted) {
+/* By one call, and cut at each place into two pieces, encrypted and decrypted. A cut text is the beginning. */
+static void is_known(const struct path *path, const union context *context, int mode, const uint8_t *wanted) {
   cukvashe_stream stream;
   for (size_t length = 0; length <= SIZE; length++) {
     memcpy(data, text, SIZE);
-    CHECK(way->encrypt_mode(context, mode, iv, data, length) == CUKVASHE_OK);
+    CHECK(path->encrypt_mode(context, mode, iv, data, length) == CUKVASHE_OK);
     CHECK(memcmp(data, wanted, length) == 0 && memcmp(data + length, text + length, SIZE - length) == 0);
-    CHECK(way->decrypt_mode(context, mode, iv, data, length) == CUKVASHE_OK && memcmp(data, text, SIZE) == 0);
+    CHECK(path->decrypt_mode(context, mode, iv, data, length) == CUKVASHE_OK && memcmp(data, text, SIZE) == 0);
     CHECK(cukvashe_stream_begin(&stream, mode, iv) == CUKVASHE_OK);
-    CHECK(way->encrypt_stream(context, &stream, data, length) == CUKVASHE_OK);
-    CHECK(way->encrypt_stream(context, &stream, data + length, SIZE - length) == CUKVASHE_OK);
+    CHECK(path->encrypt_stream(context, &stream, data, length) == CUKVASHE_OK);
+    CHECK(path->encrypt_stream(context, &stream, data + length, SIZE - length) == CUKVASHE_OK);
     CHECK(memcmp(data, wanted, SIZE) == 0);
     CHECK(cukvashe_stream_begin(&stream, mode, iv) == CUKVASHE_OK);
-    CHECK(way->decrypt_stream(context, &stream, data, length) == CUKVASHE_OK);
-    CHECK(way->decrypt_stream(context, &stream, data + length, SIZE - length) == CUKVASHE_OK);
+    CHECK(path->decrypt_stream(context, &stream, data, length) == CUKVASHE_OK);
+    CHECK(path->decrypt_stream(context, &stream, data + length, SIZE - length) == CUKVASHE_OK);
     CHECK(memcmp(data, text, SIZE) == 0);
   }
 }
 
 /* In CTR from each block on, without what stands before it. */
-static void is_read_in_parts(const struct way *way, const union context *context, const uint8_t *wanted) {
+static void is_read_in_parts(const struct path *path, const union context *context, const uint8_t *wanted) {
   cukvashe_stream stream;
   for (size_t block = 0; 8 * block < SIZE; block++) {
     memcpy(data, wanted, SIZE);
     cukvashe_stream_begin_ctr_at(&stream, iv, block);
-    CHECK(way->decrypt_stream(context, &stream, data + 8 * block, SIZE - 8 * block) == CUKVASHE_OK);
+    CHECK(path->decrypt_stream(context, &stream, data + 8 * block, SIZE - 8 * block) == CUKVASHE_OK);
     CHECK(memcmp(data, wanted, 8 * block) == 0 && memcmp(data + 8 * block, text + 8 * block, SIZE - 8 * block) == 0);
   }
 }
@@ -73,7 +74,7 @@ static int is_joined(const uint8_t *bytes, const uint8_t *first, const uint8_t *
   return 1;
 }
 
-/* So many bits of CFB1, and the next bytes after whole ones. */
+/* Some bits of CFB1, and the next bytes after whole ones. */
 static void are_known_bits(const struct cipher *cipher, const union context *context, const uint8_t *wanted) {
   cukvashe_stream stream;
   for (size_t bits = 0; bits <= 8 * SIZE; bits++) {
@@ -85,7 +86,7 @@ static void are_known_bits(const struct cipher *cipher, const union context *con
     CHECK(cipher->decrypt_bits(context, &stream, data, bits) == CUKVASHE_OK && memcmp(data, text, SIZE) == 0);
     if (bits % 8 != 0) continue;
     memcpy(data, wanted, SIZE);
-    CHECK(cipher->ways[PUBLIC_WAY].decrypt_stream(context, &stream, data + whole, SIZE - whole) == CUKVASHE_OK);
+    CHECK(cipher->paths[PUBLIC_PATH].decrypt_stream(context, &stream, data + whole, SIZE - whole) == CUKVASHE_OK);
     CHECK(is_joined(data, wanted, text, bits));
   }
 }
@@ -108,9 +109,9 @@ static void is_answer(const struct answer *known) {
   CHECK(cipher->init(&context[0], key, cipher->key_size) == CUKVASHE_OK);
   CHECK(cipher->init_no_tables(&context[1], key, cipher->key_size) == CUKVASHE_OK);
   for (int n = 0; n < 2; n++) {
-    for (int way = 0; way < count_of_ways(); way++) {
-      is_known(&cipher->ways[way], &context[n], known->mode, wanted);
-      if (known->mode == CUKVASHE_CTR) is_read_in_parts(&cipher->ways[way], &context[n], wanted);
+    for (int path = 0; path < count_of_paths(); path++) {
+      is_known(&cipher->paths[path], &context[n], known->mode, wanted);
+      if (known->mode == CUKVASHE_CTR) is_read_in_parts(&cipher->paths[path], &context[n], wanted);
     }
     if (known->mode == CUKVASHE_CFB1) {
       are_known_bits(cipher, &context[n], wanted);
@@ -127,23 +128,23 @@ static void wraps(void) {
   uint8_t blocks[16] = {0}, wanted[16] = {0};
   CHECK(cipher->init(&context, key, cipher->key_size) == CUKVASHE_OK);
   memcpy(wanted, last, sizeof last);
-  CHECK(cipher->ways[PUBLIC_WAY].encrypt_ecb(&context, wanted, sizeof wanted) == CUKVASHE_OK);
-  CHECK(cipher->ways[PUBLIC_WAY].encrypt_mode(&context, CUKVASHE_CTR, last, blocks, sizeof blocks) == CUKVASHE_OK);
+  CHECK(cipher->paths[PUBLIC_PATH].encrypt_ecb(&context, wanted, sizeof wanted) == CUKVASHE_OK);
+  CHECK(cipher->paths[PUBLIC_PATH].encrypt_mode(&context, CUKVASHE_CTR, last, blocks, sizeof blocks) == CUKVASHE_OK);
   CHECK(memcmp(blocks, wanted, sizeof blocks) == 0);
   cukvashe_stream stream;
   cukvashe_stream_begin_ctr_at(&stream, last, UINT64_MAX);
   memset(blocks, 0, sizeof blocks);
-  CHECK(cipher->ways[PUBLIC_WAY].encrypt_stream(&context, &stream, blocks + 8, 8) == CUKVASHE_OK);
+  CHECK(cipher->paths[PUBLIC_PATH].encrypt_stream(&context, &stream, blocks + 8, 8) == CUKVASHE_OK);
   memcpy(wanted, last, sizeof last);
   wanted[7] = 0xfe;
-  CHECK(cipher->ways[PUBLIC_WAY].encrypt_mode(&context, CUKVASHE_CTR, wanted, blocks, 8) == CUKVASHE_OK);
+  CHECK(cipher->paths[PUBLIC_PATH].encrypt_mode(&context, CUKVASHE_CTR, wanted, blocks, 8) == CUKVASHE_OK);
   CHECK(memcmp(blocks, blocks + 8, 8) == 0);
 }
 
 /* Where a stream stands: the bytes before the last segment and how many bytes of the block are used. */
 static void stands(void) {
   static const int modes[] = {CUKVASHE_CTR, CUKVASHE_OFB, CUKVASHE_CFB8, CUKVASHE_CFB64};
-  const struct way *way = &ciphers[DES].ways[PUBLIC_WAY];
+  const struct path *path = &ciphers[DES].paths[PUBLIC_PATH];
   union context context;
   CHECK(ciphers[DES].init(&context, key, 8) == CUKVASHE_OK);
   for (size_t n = 0; n < sizeof modes / sizeof *modes; n++) {
@@ -153,13 +154,13 @@ static void stands(void) {
       size_t used;
       CHECK(cukvashe_stream_begin(&stream, modes[n], iv) == CUKVASHE_OK);
       memcpy(data, text, SIZE);
-      CHECK(way->encrypt_stream(&context, &stream, data, length) == CUKVASHE_OK);
+      CHECK(path->encrypt_stream(&context, &stream, data, length) == CUKVASHE_OK);
       cukvashe_stream_position(&stream, at, &used);
       CHECK(used == (modes[n] == CUKVASHE_CFB8 ? 0 : length % 8));
       if (used != 0) continue;
       memcpy(rest, data, SIZE);
-      CHECK(way->encrypt_stream(&context, &stream, data + length, SIZE - length) == CUKVASHE_OK);
-      CHECK(way->encrypt_mode(&context, modes[n], at, rest + length, SIZE - length) == CUKVASHE_OK);
+      CHECK(path->encrypt_stream(&context, &stream, data + length, SIZE - length) == CUKVASHE_OK);
+      CHECK(path->encrypt_mode(&context, modes[n], at, rest + length, SIZE - length) == CUKVASHE_OK);
       CHECK(memcmp(data, rest, SIZE) == 0);
     }
   }
@@ -178,18 +179,18 @@ static void refuses(const struct cipher *cipher) {
   memcpy(data, text, SIZE);
   for (size_t n = 0; n < sizeof others / sizeof *others; n++) {
     CHECK(cukvashe_stream_begin(&stream, others[n], iv) == CUKVASHE_ERR_MODE && memcmp(&stream, &before, sizeof stream) == 0);
-    for (int way = 0; way < count_of_ways(); way++) {
-      CHECK(cipher->ways[way].encrypt_mode(&context, others[n], iv, data, SIZE) == CUKVASHE_ERR_MODE);
-      CHECK(cipher->ways[way].decrypt_mode(&context, others[n], iv, data, SIZE) == CUKVASHE_ERR_MODE);
-      CHECK(cipher->ways[way].encrypt_mode(&unmade, others[n], iv, data, SIZE) == CUKVASHE_ERR_CONTEXT);
+    for (int path = 0; path < count_of_paths(); path++) {
+      CHECK(cipher->paths[path].encrypt_mode(&context, others[n], iv, data, SIZE) == CUKVASHE_ERR_MODE);
+      CHECK(cipher->paths[path].decrypt_mode(&context, others[n], iv, data, SIZE) == CUKVASHE_ERR_MODE);
+      CHECK(cipher->paths[path].encrypt_mode(&unmade, others[n], iv, data, SIZE) == CUKVASHE_ERR_CONTEXT);
     }
   }
   CHECK(cipher->encrypt_bits(&context, &stream, data, 3) == CUKVASHE_ERR_MODE);
   CHECK(cipher->decrypt_bits(&context, &stream, data, 3) == CUKVASHE_ERR_MODE);
   CHECK(cipher->encrypt_bits(&unmade, &stream, data, 3) == CUKVASHE_ERR_CONTEXT);
-  for (int way = 0; way < count_of_ways(); way++) {
-    CHECK(cipher->ways[way].encrypt_stream(&unmade, &stream, data, SIZE) == CUKVASHE_ERR_CONTEXT);
-    CHECK(cipher->ways[way].decrypt_mode(&unmade, CUKVASHE_CTR, iv, data, SIZE) == CUKVASHE_ERR_CONTEXT);
+  for (int path = 0; path < count_of_paths(); path++) {
+    CHECK(cipher->paths[path].encrypt_stream(&unmade, &stream, data, SIZE) == CUKVASHE_ERR_CONTEXT);
+    CHECK(cipher->paths[path].decrypt_mode(&unmade, CUKVASHE_CTR, iv, data, SIZE) == CUKVASHE_ERR_CONTEXT);
   }
   CHECK(memcmp(&stream, &before, sizeof stream) == 0);
   /* Any other word in the mark, the mode or the number of bytes. */
@@ -197,8 +198,8 @@ static void refuses(const struct cipher *cipher) {
     stream = word < 0 ? none : before;
     if (word >= 0) stream.words[2 + word] ^= (uint64_t)1 << 40;
     const cukvashe_stream changed = stream;
-    CHECK(cipher->ways[PUBLIC_WAY].encrypt_stream(&context, &stream, data, SIZE) == CUKVASHE_ERR_STREAM);
-    CHECK(cipher->ways[PUBLIC_WAY].decrypt_stream(&context, &stream, data, SIZE) == CUKVASHE_ERR_STREAM);
+    CHECK(cipher->paths[PUBLIC_PATH].encrypt_stream(&context, &stream, data, SIZE) == CUKVASHE_ERR_STREAM);
+    CHECK(cipher->paths[PUBLIC_PATH].decrypt_stream(&context, &stream, data, SIZE) == CUKVASHE_ERR_STREAM);
     CHECK(cipher->encrypt_bits(&context, &stream, data, 3) == CUKVASHE_ERR_STREAM);
     CHECK(cipher->decrypt_bits(&context, &stream, data, 3) == CUKVASHE_ERR_STREAM);
     CHECK(memcmp(&stream, &changed, sizeof stream) == 0);
@@ -211,7 +212,7 @@ int main(void) {
   wraps();
   stands();
   for (int n = 0; n < CIPHERS; n++) refuses(&ciphers[n]);
-  printf("streams: %zu known answers in pieces, bits and parts, where streams stand, and what is refused, by %d of %d ways\n",
-         sizeof answers / sizeof *answers, count_of_ways(), (int)MOST_WAYS);
+  printf("streams: %zu known answers in pieces, bits and parts, where streams stand, and what is refused, by %d of %d code paths\n",
+         sizeof answers / sizeof *answers, count_of_paths(), (int)MOST_PATHS);
   return 0;
 }

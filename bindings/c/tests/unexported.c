@@ -18,6 +18,7 @@ void many_des(const uint8_t *key, const uint8_t *iv, uint8_t *blocks, size_t cou
 void many_tdes_ede3(const uint8_t *key, const uint8_t *iv, uint8_t *blocks, size_t count);
 void modes_des(const uint8_t *key, const uint8_t *iv, uint8_t *bytes, size_t length);
 void modes_tdes_ede3(const uint8_t *key, const uint8_t *iv, uint8_t *bytes, size_t length);
+void streams_tdes_ede3(const uint8_t *key, const uint8_t *iv, uint8_t *bytes, size_t length);
 
 int main(int arguments, char **words) {
   static uint8_t key[24], vector[8], blocks[8 * LONGEST];
@@ -42,6 +43,7 @@ int main(int arguments, char **words) {
   for (size_t length = 0; length <= 100; length += 5) {
     modes_des(key, vector, blocks, length);
     modes_tdes_ede3(key, vector, blocks, length);
+    streams_tdes_ede3(key, vector, blocks, length);
   }
   if (strcmp(words[1], "control") == 0 && blocks[0] > key[0]) puts("more");
   printf("secret indexes: calls that the header does not have, %s, run by valgrind: %s\n", words[1], RUNNING_ON_VALGRIND ? "yes" : "no");

@@ -1,11 +1,11 @@
 /*
  * The ciphers beside OpenSSL's own: the same calls of EVP to both, and the same statuses, errors, bytes and parameters.
  *
- *   beside FOLDER CONFIGURATION SEED CALLS    so many random calls, in messages of up to 24, and what stands below
+ *   beside FOLDER CONFIGURATION SEED CALLS    CALLS random calls, in messages of up to 24, and what stands below
  */
 #include "common.h"
 
-enum { ROOM = 8192 };
+enum { CAPACITY = 8192 };
 
 static OSSL_LIB_CTX *libraries[2];
 static size_t calls, refusals;
@@ -22,7 +22,7 @@ struct pair {
   bool is_stream, has_begun, has_ended;
 };
 
-static uint8_t input[2][ROOM], output[2][2 * ROOM];
+static uint8_t input[2][CAPACITY], output[2][2 * CAPACITY];
 
 static void make(struct pair *pair, const char *name) {
   at_work = name;
@@ -181,7 +181,7 @@ static void update_by_nothing(struct pair *pair) {
   if (agree(pair)) CHECK(pair->length[OURS] == pair->length[THEIRS]);
 }
 
-/* EVP_Cipher, over whole blocks but for streams, in place, which leaves what is held. Its status is a length. */
+/* EVP_Cipher, over whole blocks but for streams, in place, which leaves the pending bytes. Its status is a length. */
 static void run_alone(struct pair *pair) {
   const size_t length = pair->is_stream ? some_length_for(pair) : 8 * below(300);
   random_bytes(output[OURS], length);
@@ -291,7 +291,7 @@ static void get_params(struct pair *pair) {
   if (agree(pair)) CHECK(memcmp(pointers[OURS], pointers[THEIRS], 8) == 0);
 }
 
-/* Parameters without the room that they need, or of another type. */
+/* Parameters without the space that they need, or of another type. */
 static void get_wrong_params(struct pair *pair) {
   static const char *const keys[] = {OSSL_CIPHER_PARAM_IV, OSSL_CIPHER_PARAM_UPDATED_IV, OSSL_CIPHER_PARAM_NUM,
                                      OSSL_CIPHER_PARAM_KEYLEN};
@@ -316,7 +316,7 @@ static void make_keys(struct pair *pair) {
   for (int i = 0; i < 24; i++) CHECK(i < pair->key_length ? __builtin_parity(keys[OURS][i]) == 1 : keys[OURS][i] == 0);
 }
 
-/* Of a wrong padding what is held after it is each one's own: it ends the message. */
+/* Of a wrong padding what is pending after it is each one's own: it ends the message. */
 static void end(struct pair *pair) {
   memset(output, 7, sizeof output);
   EACH(who) ASK(who, EVP_CipherFinal_ex(pair->context[who], output[who], &pair->length[who]));

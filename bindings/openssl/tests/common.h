@@ -72,7 +72,7 @@ static inline size_t blocks_of_eight(const char *name) {
 OSSL_provider_init_fn OSSL_provider_init;
 #endif
 
-/* An OpenSSL with nothing but the provider, as a configuration wants it. BUILTIN: the provider is a part of the program. */
+/* An OpenSSL with nothing but the provider, as a configuration asks for it. BUILTIN: the provider is a part of the program. */
 static inline OSSL_LIB_CTX *ours_by(const char *folder, const char *configuration) {
   OSSL_LIB_CTX *library = OSSL_LIB_CTX_new();
   CHECK(library != NULL && OSSL_PROVIDER_set_default_search_path(library, folder) == 1);

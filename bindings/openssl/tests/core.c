@@ -1,6 +1,6 @@
 /*
  * The provider under a core of the test's own, which sees what libcrypto hides: memory that is refused, and what is given
- * back and wiped; errors; lengths and rooms that EVP never gives; and words of the configuration. And over a library that
+ * back and wiped; errors; lengths and capacities that EVP never gives; and words of the configuration. And over a library that
  * is wrong in one call, since the linker takes the calls here for those that the provider tests. No libcrypto is linked.
  */
 #include "../internal.h"
@@ -364,7 +364,7 @@ static void refuses_lengths_of_keys_and_vectors(void) {
 }
 
 /* Of a call that was refused nothing is left: the next one answers as if it had not been. */
-static void refuses_room(OSSL_FUNC_cipher_encrypt_init_fn *init) {
+static void refuses_capacities(OSSL_FUNC_cipher_encrypt_init_fn *init) {
   static uint8_t input[64], output[64], wanted[64];
   for (size_t length = 0; length <= 40; length++) {
     void *context = begun(init), *other = begun(init);
@@ -372,13 +372,13 @@ static void refuses_room(OSSL_FUNC_cipher_encrypt_init_fn *init) {
     memset(wanted, 0, sizeof wanted);
     memset(output, 0, sizeof output);
     CHECK(update(other, wanted, &made_at_once, sizeof wanted, input, length) == 1);
-    for (size_t room = 0; room < made_at_once; room++)
-      CHECK(update(context, output, &made, room, input, length) == 0 && was_refused(PROV_R_OUTPUT_BUFFER_TOO_SMALL, ""));
+    for (size_t capacity = 0; capacity < made_at_once; capacity++)
+      CHECK(update(context, output, &made, capacity, input, length) == 0 && was_refused(PROV_R_OUTPUT_BUFFER_TOO_SMALL, ""));
     CHECK(update(context, output, &made, made_at_once, input, length) == 1 && made == made_at_once);
     CHECK(memcmp(output, wanted, sizeof output) == 0);
     if (init == encrypt_init) {
-      for (size_t room = 0; room < BLOCK; room++)
-        CHECK(final(context, output, &last, room) == 0 && was_refused(PROV_R_OUTPUT_BUFFER_TOO_SMALL, ""));
+      for (size_t capacity = 0; capacity < BLOCK; capacity++)
+        CHECK(final(context, output, &last, capacity) == 0 && was_refused(PROV_R_OUTPUT_BUFFER_TOO_SMALL, ""));
       CHECK(final(context, output, &last, BLOCK) == 1 && last == BLOCK);
       CHECK(final(other, wanted, &last, BLOCK) == 1 && memcmp(output, wanted, sizeof output) == 0);
     }
@@ -400,8 +400,8 @@ static void refuses_lengths(void) {
   free_context(context);
 }
 
-/* A stream gives as many bytes as it takes, and asks for no more room. */
-static void refuses_room_of_streams(void) {
+/* A stream gives as many bytes as it takes, and asks for no more space. */
+static void refuses_capacities_of_streams(void) {
   static uint8_t input[64], output[64], wanted[64];
   for (size_t length = 1; length <= 40; length++) {
     void *context = begun(decrypt_init), *other = begun(decrypt_init);
@@ -409,9 +409,9 @@ static void refuses_room_of_streams(void) {
     memset(wanted, 0, sizeof wanted);
     memset(output, 0, sizeof output);
     CHECK(run_alone(other, wanted, &made, length, input, length) == 1 && made == length);
-    for (size_t room = 0; room < length; room++) {
-      CHECK(update(context, output, &made, room, input, length) == 0 && was_refused(PROV_R_OUTPUT_BUFFER_TOO_SMALL, ""));
-      CHECK(run_alone(context, output, &made, room, input, length) == 0 && was_refused(PROV_R_OUTPUT_BUFFER_TOO_SMALL, ""));
+    for (size_t capacity = 0; capacity < length; capacity++) {
+      CHECK(update(context, output, &made, capacity, input, length) == 0 && was_refused(PROV_R_OUTPUT_BUFFER_TOO_SMALL, ""));
+      CHECK(run_alone(context, output, &made, capacity, input, length) == 0 && was_refused(PROV_R_OUTPUT_BUFFER_TOO_SMALL, ""));
     }
     CHECK(update(context, output, &made, length, input, length) == 1 && made == length);
     CHECK(memcmp(output, wanted, sizeof output) == 0 && final(context, output, &made, 0) == 1 && made == 0);
@@ -424,9 +424,9 @@ static void refuses_to_wrap(void) {
   static uint8_t input[40], output[40];
   void *context = begun(encrypt_init);
   size_t made;
-  for (size_t room = 0; room < 24; room++) {
-    CHECK(update(context, output, &made, room, input, 24) == 0 && was_refused(PROV_R_OUTPUT_BUFFER_TOO_SMALL, ""));
-    CHECK(run_alone(context, output, &made, room, input, 24) == 0 && was_refused(PROV_R_OUTPUT_BUFFER_TOO_SMALL, ""));
+  for (size_t capacity = 0; capacity < 24; capacity++) {
+    CHECK(update(context, output, &made, capacity, input, 24) == 0 && was_refused(PROV_R_OUTPUT_BUFFER_TOO_SMALL, ""));
+    CHECK(run_alone(context, output, &made, capacity, input, 24) == 0 && was_refused(PROV_R_OUTPUT_BUFFER_TOO_SMALL, ""));
   }
   for (size_t below = 1; below <= 64; below++)
     CHECK(update(context, output, &made, SIZE_MAX, input, (size_t)0 - below) == 0 &&
@@ -464,10 +464,10 @@ static void puts_a_random_key_into_bytes_alone(void) {
                                    OSSL_PARAM_OCTET_STRING};
   void *context = new_context(provider);
   for (size_t i = 0; i < sizeof types / sizeof *types; i++)
-    for (size_t room = 0; room <= 40; room++) {
+    for (size_t capacity = 0; capacity <= 40; capacity++) {
       uint8_t made[40] = {0};
-      OSSL_PARAM params[] = {OSSL_PARAM_DEFN(OSSL_CIPHER_PARAM_RANDOM_KEY, types[i], made, room), OSSL_PARAM_END};
-      if (types[i] == OSSL_PARAM_OCTET_STRING && (room == 0 || room >= key_length)) {
+      OSSL_PARAM params[] = {OSSL_PARAM_DEFN(OSSL_CIPHER_PARAM_RANDOM_KEY, types[i], made, capacity), OSSL_PARAM_END};
+      if (types[i] == OSSL_PARAM_OCTET_STRING && (capacity == 0 || capacity >= key_length)) {
         CHECK(get_ctx_params(context, params) == 1 && params[0].return_size == key_length);
         CHECK(!is_zeros(made, key_length) && is_zeros(made + key_length, sizeof made - key_length));
         for (size_t byte = 0; byte < key_length; byte++) CHECK(__builtin_parity(made[byte]) == 1);
@@ -553,10 +553,10 @@ static void try_ciphers(void) {
       refuses_lengths();
     if (mode == EVP_CIPH_CBC_MODE || mode == EVP_CIPH_ECB_MODE) {
       leaves_no_text();
-      refuses_room(encrypt_init);
-      refuses_room(decrypt_init);
+      refuses_capacities(encrypt_init);
+      refuses_capacities(decrypt_init);
     }
-    if (block_size == 1) refuses_room_of_streams();
+    if (block_size == 1) refuses_capacities_of_streams();
     refuses_records_of_tls();
     puts_a_random_key_into_bytes_alone();
     lives_with_refused_memory();
@@ -606,8 +606,8 @@ static void try_mac(void) {
   OSSL_FUNC_mac_final_fn *end = (OSSL_FUNC_mac_final_fn *)function_of(list, OSSL_FUNC_MAC_FINAL);
   void *context = new_mac(provider), *other;
   CHECK(context != NULL && init(context, mac_key, sizeof mac_key, params) == 1 && add(context, vector, 11) == 1);
-  for (size_t room = 0; room < sizeof tag; room++)
-    CHECK(end(context, tag, &length, room) == 0 && length == 77 && was_refused(PROV_R_OUTPUT_BUFFER_TOO_SMALL, ""));
+  for (size_t capacity = 0; capacity < sizeof tag; capacity++)
+    CHECK(end(context, tag, &length, capacity) == 0 && length == 77 && was_refused(PROV_R_OUTPUT_BUFFER_TOO_SMALL, ""));
   refused_request = requests;
   CHECK(new_mac(provider) == NULL);
   refused_request = requests;

@@ -17,9 +17,9 @@ struct tried {
 struct tried rattle_alloc(size_t size, size_t alignment);
 struct tried rattle_realloc(void *memory, size_t kept, size_t size, size_t alignment);
 void rattle_dealloc(void *memory);
-ptrdiff_t rattle_arg(size_t place, unsigned char *buffer, size_t room);
-ptrdiff_t rattle_env(const char *name, unsigned char *buffer, size_t room);
-ptrdiff_t rattle_env_at(size_t place, unsigned char *buffer, size_t room);
+ptrdiff_t rattle_arg(size_t place, unsigned char *buffer, size_t capacity);
+ptrdiff_t rattle_env(const char *name, unsigned char *buffer, size_t capacity);
+ptrdiff_t rattle_env_at(size_t place, unsigned char *buffer, size_t capacity);
 int32_t rattle_errno(void);
 void rattle_set_errno(int32_t error);
 int cukvashe_main(void);
@@ -66,18 +66,18 @@ static void takes_memory_back(void) {
   }
 }
 
-/* The argument at a place and the variable LONG, each of LONG bytes, into buffers that fit, that do not, and that have no room. */
-static void copies(ptrdiff_t (*copy)(unsigned char *buffer, size_t room)) {
+/* The argument at a place and the variable LONG, each of LONG bytes, into buffers that fit, that do not, and that are empty. */
+static void copies(ptrdiff_t (*copy)(unsigned char *buffer, size_t capacity)) {
   unsigned char buffer[LONG + 2];
-  for (size_t room = 0; room <= LONG + 1; room++) {
+  for (size_t capacity = 0; capacity <= LONG + 1; capacity++) {
     memset(buffer, '-', sizeof buffer);
-    CHECK(copy(buffer, room) == (room < LONG ? -2 : LONG));
-    for (size_t at = 0; at < sizeof buffer; at++) CHECK(buffer[at] == (at < room && at < LONG ? 'x' : '-'));
+    CHECK(copy(buffer, capacity) == (capacity < LONG ? -2 : LONG));
+    for (size_t at = 0; at < sizeof buffer; at++) CHECK(buffer[at] == (at < capacity && at < LONG ? 'x' : '-'));
   }
 }
 
-static ptrdiff_t argument(unsigned char *buffer, size_t room) { return rattle_arg(1, buffer, room); }
-static ptrdiff_t variable(unsigned char *buffer, size_t room) { return rattle_env("LONG", buffer, room); }
+static ptrdiff_t argument(unsigned char *buffer, size_t capacity) { return rattle_arg(1, buffer, capacity); }
+static ptrdiff_t variable(unsigned char *buffer, size_t capacity) { return rattle_env("LONG", buffer, capacity); }
 
 static void tells_what_is_not_there(void) {
   unsigned char buffer[8] = "-------";

@@ -52,6 +52,10 @@ The key of a transaction encrypts nothing itself, so each is made the PIN key of
 `decrypt_cbc_records(cipher, blocks, vectors=vectors, counts=counts)` and its inverse take a column of records, `macs` and
 `macs_each` many messages, and `wrong_tags` gives the places of the tags that came and are not those that these made.
 
+Columns of databases and settings of frameworks go in one call too: `mysql_decrypt_values(password, values)`,
+`pgcrypto_decrypt_values("3des", key, values)`, `jasypt_decrypt_values(password, values)`. A value that can't be read leaves the others
+readable: the error of each stands in the `faults` of UnreadableValuesError by its place.
+
 Each fault is an `Error` of its own name, which the call's text names. Those by which a call says that a tag, a PIN or a key block
 is not the right one are below `VerificationError`, and no ValueError; all others are a ValueError too. An argument of the wrong
 type is a TypeError. Texts tell lengths, and no other value that was given.
@@ -91,6 +95,8 @@ from ._data import BLOCK_SIZE
 from ._faults import (
     AccountDigitError,
     AccountLengthError,
+    AlgorithmNameError,
+    Base64Error,
     BlockLengthError,
     ClosedError,
     CountMismatchError,
@@ -113,7 +119,9 @@ from ._faults import (
     KeyDataLengthError,
     KeyIndexError,
     KeyLengthError,
+    KeyNumberError,
     NoSerialError,
+    NotEncryptedError,
     NotSaltedError,
     OptionalBlockError,
     PaddingLengthError,
@@ -136,6 +144,7 @@ from ._faults import (
     TableLengthError,
     TableVarietyError,
     TagMismatchError,
+    UnreadableValuesError,
     VectorLengthError,
     VerificationError,
     WeakKeyError,
@@ -144,6 +153,16 @@ from ._faults import (
     WrongPinError,
 )
 # This ends what bindings/describe made.
+from ._columns import (
+    jasypt_decrypt_values,
+    jasypt_encrypt,
+    mysql_decrypt_values,
+    mysql_decrypt_values_by_file,
+    mysql_encrypt_values,
+    pbe_key,
+    pgcrypto_decrypt_values,
+    pgcrypto_encrypt_values,
+)
 from ._key_blocks import (
     KeyBlockHeader,
     key_block_context,
@@ -198,27 +217,30 @@ from ._version import __version__
 
 # All that is imported here: made by bindings/describe.
 __all__ = [
-    "AccountDigitError", "AccountLengthError", "BLOCK_SIZE", "BlockLengthError", "CbcMacDes", "CbcMacTdesEde2", "CbcMacTdesEde3",
-    "Cfb", "Cipher", "ClosedError", "CmacTdesEde2", "CmacTdesEde3", "CountMismatchError", "Ctr", "DataLengthError",
-    "DecimalTable", "Des", "DirectionError", "DukptTerminal", "Error", "ExpiryDigitError", "ExpiryLengthError", "FillError",
-    "FillLengthError", "FormatError", "FormatsError", "HashNameError", "IterationCountError", "KeyBlockDigitError",
-    "KeyBlockFieldError", "KeyBlockHeader", "KeyBlockLengthError", "KeyBlockMacError", "KeyBlockVersionError",
-    "KeyDataLengthError", "KeyIndexError", "KeyLengthError", "Mac", "NoSerialError", "NotSaltedError", "Ofb",
-    "OptionalBlockError", "PaddingLengthError", "PaddingMethodError", "PaddingMismatchError", "PinBlockError", "PinDigitError",
-    "PinLengthError", "PositionError", "ProtectionKeyLengthError", "RetailMacDes", "SaltLengthError", "SegmentSizeError",
-    "SequenceDigitError", "SequenceLengthError", "SerialLengthError", "ServiceDigitError", "ServiceLengthError",
-    "StateLengthError", "Stream", "TAG_SIZE", "TableDigitError", "TableLengthError", "TableVarietyError", "TagMismatchError",
-    "TdesEde2", "TdesEde3", "VectorLengthError", "VerificationError", "WeakKeyError", "WrappedKeyError", "WrappedLengthError",
-    "WrongPinError", "__version__", "bytes_to_key", "check_value", "check_values", "cms_unwrap_key", "cms_wrap_key", "combine",
-    "cvv", "decrypt_cbc_records", "decrypt_each", "decrypt_each_into", "dukpt_data_key", "dukpt_data_variant",
-    "dukpt_initial_key", "dukpt_is_usable", "dukpt_mac_key", "dukpt_next_serial", "dukpt_pin_key", "dukpt_transaction_key",
-    "dukpt_transaction_keys_from_base", "emv_application_cryptogram", "emv_application_key", "emv_card_key", "emv_card_key_b",
-    "emv_response_1", "emv_response_2", "emv_session_key", "encrypt_cbc_records", "encrypt_each", "encrypt_each_into",
-    "equal_but_parity", "is_weak_key", "key_block_context", "key_block_header", "key_block_optional_blocks", "key_check_value",
-    "macs", "macs_each", "natural_pin", "open_salted", "pad", "pbkdf2", "pin_decode_0", "pin_decode_1", "pin_decode_2",
-    "pin_decode_3", "pin_encode_0", "pin_encode_1", "pin_encode_2", "pin_encode_3", "pin_offset", "pin_offset_verify",
-    "pin_translate_to_0", "pin_translate_to_1", "pin_translate_to_3", "pvv", "pvv_verify", "short_key_check_value",
-    "tkw_unwrap_key", "tkw_wrap_key", "unpad", "unwrap_key_block", "with_odd_parity", "wrap_key_block", "wrong_tags",
+    "AccountDigitError", "AccountLengthError", "AlgorithmNameError", "BLOCK_SIZE", "Base64Error", "BlockLengthError", "CbcMacDes",
+    "CbcMacTdesEde2", "CbcMacTdesEde3", "Cfb", "Cipher", "ClosedError", "CmacTdesEde2", "CmacTdesEde3", "CountMismatchError",
+    "Ctr", "DataLengthError", "DecimalTable", "Des", "DirectionError", "DukptTerminal", "Error", "ExpiryDigitError",
+    "ExpiryLengthError", "FillError", "FillLengthError", "FormatError", "FormatsError", "HashNameError", "IterationCountError",
+    "KeyBlockDigitError", "KeyBlockFieldError", "KeyBlockHeader", "KeyBlockLengthError", "KeyBlockMacError",
+    "KeyBlockVersionError", "KeyDataLengthError", "KeyIndexError", "KeyLengthError", "KeyNumberError", "Mac", "NoSerialError",
+    "NotEncryptedError", "NotSaltedError", "Ofb", "OptionalBlockError", "PaddingLengthError", "PaddingMethodError",
+    "PaddingMismatchError", "PinBlockError", "PinDigitError", "PinLengthError", "PositionError", "ProtectionKeyLengthError",
+    "RetailMacDes", "SaltLengthError", "SegmentSizeError", "SequenceDigitError", "SequenceLengthError", "SerialLengthError",
+    "ServiceDigitError", "ServiceLengthError", "StateLengthError", "Stream", "TAG_SIZE", "TableDigitError", "TableLengthError",
+    "TableVarietyError", "TagMismatchError", "TdesEde2", "TdesEde3", "UnreadableValuesError", "VectorLengthError",
+    "VerificationError", "WeakKeyError", "WrappedKeyError", "WrappedLengthError", "WrongPinError", "__version__", "bytes_to_key",
+    "check_value", "check_values", "cms_unwrap_key", "cms_wrap_key", "combine", "cvv", "decrypt_cbc_records", "decrypt_each",
+    "decrypt_each_into", "dukpt_data_key", "dukpt_data_variant", "dukpt_initial_key", "dukpt_is_usable", "dukpt_mac_key",
+    "dukpt_next_serial", "dukpt_pin_key", "dukpt_transaction_key", "dukpt_transaction_keys_from_base",
+    "emv_application_cryptogram", "emv_application_key", "emv_card_key", "emv_card_key_b", "emv_response_1", "emv_response_2",
+    "emv_session_key", "encrypt_cbc_records", "encrypt_each", "encrypt_each_into", "equal_but_parity", "is_weak_key",
+    "jasypt_decrypt_values", "jasypt_encrypt", "key_block_context", "key_block_header", "key_block_optional_blocks",
+    "key_check_value", "macs", "macs_each", "mysql_decrypt_values", "mysql_decrypt_values_by_file", "mysql_encrypt_values",
+    "natural_pin", "open_salted", "pad", "pbe_key", "pbkdf2", "pgcrypto_decrypt_values", "pgcrypto_encrypt_values",
+    "pin_decode_0", "pin_decode_1", "pin_decode_2", "pin_decode_3", "pin_encode_0", "pin_encode_1", "pin_encode_2",
+    "pin_encode_3", "pin_offset", "pin_offset_verify", "pin_translate_to_0", "pin_translate_to_1", "pin_translate_to_3", "pvv",
+    "pvv_verify", "short_key_check_value", "tkw_unwrap_key", "tkw_wrap_key", "unpad", "unwrap_key_block", "with_odd_parity",
+    "wrap_key_block", "wrong_tags",
 ]
 # This ends what bindings/describe made.
 

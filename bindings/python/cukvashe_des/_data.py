@@ -46,13 +46,13 @@ def copy_of(data: ReadableBuffer) -> bytearray:
 
 
 @contextlib.contextmanager
-def _held(copied: bytearray) -> Iterator[Any]:
-    """A secret for one call, wiped after it."""
-    held = (ctypes.c_uint8 * len(copied)).from_buffer(copied)
+def _wiping(copied: bytearray) -> Iterator[Any]:
+    """A copy of a secret for one call, wiped after it."""
+    secret = (ctypes.c_uint8 * len(copied)).from_buffer(copied)
     try:
-        yield held
+        yield secret
     finally:
-        wipe(held, len(held))
+        wipe(secret, len(secret))
 
 
 def no_text(key: _Data) -> _Data:
@@ -71,18 +71,18 @@ def hint_of(key: Any, *sizes: int) -> str:
 @contextlib.contextmanager
 def key_of(key: ReadableBuffer, *sizes: int) -> Iterator[Any]:
     """A copy of a key for one call, wiped after it. KeyLengthError if its length is none of the sizes."""
-    with _held(copy_of(no_text(key))) as held:
-        if len(held) not in sizes:
+    with _wiping(copy_of(no_text(key))) as copied:
+        if len(copied) not in sizes:
             listed = " or ".join(map(str, sizes))
-            raise KeyLengthError(f"a key has {listed} bytes, not {len(held)}{hint_of(held, *sizes)}")
-        yield held
+            raise KeyLengthError(f"a key has {listed} bytes, not {len(copied)}{hint_of(copied, *sizes)}")
+        yield copied
 
 
 @contextlib.contextmanager
 def secret_of(secret: ReadableBuffer) -> Iterator[Tuple[Any, int]]:
     """A copy of secret bytes of any length for one call, and their length, wiped after it."""
-    with _held(copy_of(secret)) as held:
-        yield held, len(held)
+    with _wiping(copy_of(secret)) as copied:
+        yield copied, len(copied)
 
 
 def vector_of(iv: ReadableBuffer, what: str = "an initialization vector") -> Any:
@@ -101,10 +101,10 @@ def counter_of(counter: ReadableBuffer) -> Any:
 @contextlib.contextmanager
 def block_of(block: ReadableBuffer) -> Iterator[Any]:
     """A copy of a PIN block for one call, wiped after it."""
-    with _held(copy_of(block)) as held:
-        if len(held) != BLOCK_SIZE:
-            raise BlockLengthError(f"a PIN block has {BLOCK_SIZE} bytes, not {len(held)}")
-        yield held
+    with _wiping(copy_of(block)) as copied:
+        if len(copied) != BLOCK_SIZE:
+            raise BlockLengthError(f"a PIN block has {BLOCK_SIZE} bytes, not {len(copied)}")
+        yield copied
 
 
 def data_of(data: ReadableBuffer, size: int, what: str, fault: Type[Error]) -> bytes:
@@ -116,7 +116,7 @@ def data_of(data: ReadableBuffer, size: int, what: str, fault: Type[Error]) -> b
 
 
 def number_of(number: int, least: int, most: int) -> int:
-    """A number that a call takes, or 2 ** 31 - 1, which it refuses: C would cut off the bits that it has no room for."""
+    """A number that a call takes, or 2 ** 31 - 1, which it refuses: C would cut off the bits that do not fit."""
     if not isinstance(number, int) or isinstance(number, bool):
         raise TypeError("a format, an index and a length of a PIN are numbers")
     return int(number) if least <= number <= most else 2**31 - 1
@@ -126,19 +126,19 @@ def number_of(number: int, least: int, most: int) -> int:
 def text_of(digits: Text) -> Iterator[Tuple[Any, int]]:
     """A copy of a text, of str or of bytes, and its length, wiped after a call. A character beyond ASCII becomes one that is no
     digit either."""
-    with _held(bytearray(digits, "ascii", "replace") if isinstance(digits, str) else copy_of(digits)) as held:
-        yield held, len(held)
+    with _wiping(bytearray(digits, "ascii", "replace") if isinstance(digits, str) else copy_of(digits)) as copied:
+        yield copied, len(copied)
 
 
-def room(size: int) -> Any:
-    """Memory of `size` bytes, for a call to write."""
+def buffer_of(size: int) -> Any:
+    """A buffer of `size` bytes, for a call to write."""
     return (ctypes.c_uint8 * size)()
 
 
 @contextlib.contextmanager
-def wiped_room(size: int) -> Iterator[Any]:
-    """Memory for one call, wiped after it."""
-    made = room(size)
+def wiped_buffer(size: int) -> Iterator[Any]:
+    """A buffer for one call, wiped after it."""
+    made = buffer_of(size)
     try:
         yield made
     finally:
@@ -187,8 +187,8 @@ _give_back.argtypes, _give_back.restype = (ctypes.POINTER(_Buffer),), None
 @contextlib.contextmanager
 def lent(data: ReadableBuffer) -> Iterator[Tuple[Any, int]]:
     """Where the bytes of an object begin, and how many there are. Where they do not lie in one piece they are copied, and
-    the copy is wiped after the call. Until the call ends nobody can change their number; who changes the bytes themselves
-    meanwhile gets an answer to some of both."""
+    the copy is wiped after the call. Until the call ends nobody can change their number; if the bytes themselves change
+    meanwhile, the answer is to some of both."""
     with memoryview(data) as view:
         if view.c_contiguous:
             buffer = _Buffer()
@@ -198,8 +198,8 @@ def lent(data: ReadableBuffer) -> Iterator[Tuple[Any, int]]:
             finally:
                 _give_back(ctypes.byref(buffer))
         else:
-            with _held(bytearray(view)) as held:
-                yield ctypes.addressof(held), len(held)
+            with _wiping(bytearray(view)) as copied:
+                yield ctypes.addressof(copied), len(copied)
 
 
 @contextlib.contextmanager
@@ -210,8 +210,8 @@ def kept_apart(data: ReadableBuffer, written: memoryview) -> Iterator[Tuple[Any,
         if not length or not size or start + length <= place or place + size <= start:
             yield start, length
         else:
-            with _held(bytearray((ctypes.c_uint8 * length).from_address(start))) as held:
-                yield ctypes.addressof(held), length
+            with _wiping(bytearray((ctypes.c_uint8 * length).from_address(start))) as copied:
+                yield ctypes.addressof(copied), length
 
 
 def row_size(view: memoryview) -> Optional[int]:
@@ -269,8 +269,8 @@ class Kind:
     def context_of(self, key: ReadableBuffer, no_tables: bool, *padding: int) -> Any:
         """The context of a key."""
         context = self.context()
-        with key_of(key, self.key_size) as held:
-            check(self.calls["init_no_tables" if no_tables else "init"](context, held, len(held), *padding))
+        with key_of(key, self.key_size) as copied:
+            check(self.calls["init_no_tables" if no_tables else "init"](context, copied, len(copied), *padding))
         return context
 
 

@@ -2,7 +2,7 @@
 
 from __future__ import annotations
 
-from typing import Dict, Type
+from typing import Dict, List, Optional, Type
 
 from . import _statuses
 
@@ -54,6 +54,15 @@ class ClosedError(Error, ValueError):
 
 class FillLengthError(Error, ValueError):
     """There are not ten fill digits."""
+
+
+class UnreadableValuesError(Error, ValueError):
+    """Some values of a column can't be read: `faults` has the error of each by its place, from 0, and `texts` the texts of the others,
+    with None in the places of those."""
+
+    def __init__(self, text: str, faults: Optional[Dict[int, Error]] = None, texts: Optional[List[Optional[bytes]]] = None) -> None:
+        super().__init__(text)
+        self.faults, self.texts = faults or {}, texts or []
 
 
 # The errors of the statuses of cukvashe_des.h, with the sentence of each: made of it by bindings/describe.
@@ -220,6 +229,22 @@ class WrappedLengthError(Error, ValueError):
 
 class WrappedKeyError(VerificationError):
     """The bytes are no key that was wrapped under the protection key."""
+
+
+class NotEncryptedError(Error, ValueError):
+    """The value is none that MySQL encrypted."""
+
+
+class AlgorithmNameError(Error, ValueError):
+    """The algorithm is not one that the call takes."""
+
+
+class Base64Error(Error, ValueError):
+    """The value is not Base64."""
+
+
+class KeyNumberError(Error, ValueError):
+    """The number is not one of a key."""
 
 
 # This ends what bindings/describe made.

@@ -8,7 +8,7 @@ from dataclasses import dataclass
 from typing import Any, List, Mapping, Optional, Tuple
 
 from ._calls import KeyBlockParts, SIZE
-from ._data import bytes_from, bytes_of, hint_of, no_text, place_of, room, secret_of
+from ._data import buffer_of, bytes_from, bytes_of, hint_of, no_text, place_of, secret_of
 from ._keys import KEY_SIZES
 from ._faults import KeyBlockDigitError, KeyBlockFieldError, KeyBlockLengthError, KeyBlockVersionError, OptionalBlockError, check
 from ._library import function
@@ -117,9 +117,9 @@ def unwrap_key_block(protection: ReadableBuffer, block: Text) -> Tuple[KeyBlockH
     or 24 bytes. Look at the header before you use the key. ProtectionKeyLengthError, KeyBlockLengthError, KeyBlockVersionError,
     KeyBlockFieldError, OptionalBlockError, KeyDataLengthError, KeyBlockDigitError, KeyLengthError; KeyBlockMacError if the block was
     changed, or is under another key."""
-    text, fields, key, length = _block_of(block), room(_FIELDS_SIZE), room(_KEY_SIZE), SIZE()
-    with secret_of(no_text(protection)) as held:
-        _checked(_unwrap(*held, text, len(text), fields, key, ctypes.byref(length)), held[0])
+    text, fields, key, length = _block_of(block), buffer_of(_FIELDS_SIZE), buffer_of(_KEY_SIZE), SIZE()
+    with secret_of(no_text(protection)) as kbpk:
+        _checked(_unwrap(*kbpk, text, len(text), fields, key, ctypes.byref(length)), kbpk[0])
     return _header_from(fields), bytes_from(key, length.value)
 
 
@@ -137,12 +137,12 @@ def wrap_key_block(
     bytes that hide how long the key is, or those that are given: 6, 14 or 22, with the key at most 30. KeyBlockVersionError,
     OptionalBlockError, ProtectionKeyLengthError, KeyBlockFieldError, KeyLengthError, PaddingLengthError, KeyBlockLengthError."""
     fields, more = _fields_of(header), _optional_of(optional)
-    block, length = room(len(more) + _MORE), SIZE()
-    with secret_of(no_text(protection)) as held, secret_of(no_text(key)) as bare:
+    block, length = buffer_of(len(more) + _MORE), SIZE()
+    with secret_of(no_text(protection)) as kbpk, secret_of(no_text(key)) as bare:
         hiding = os.urandom(max(0, _KEY_DATA_SIZE - 2 - bare[1])) if padding is None else bytes_of(padding)
         parts = KeyBlockParts(
-            protection=place_of(held[0]),
-            protection_length=held[1],
+            protection=place_of(kbpk[0]),
+            protection_length=kbpk[1],
             header=(ctypes.c_uint8 * _FIELDS_SIZE).from_buffer_copy(fields),
             optional=place_of(more),
             optional_length=len(more),
@@ -151,14 +151,14 @@ def wrap_key_block(
             padding=place_of(hiding),
             padding_length=len(hiding),
         )
-        _checked(_wrap(ctypes.byref(parts), block, len(block), ctypes.byref(length)), held[0], bare[0])
+        _checked(_wrap(ctypes.byref(parts), block, len(block), ctypes.byref(length)), kbpk[0], bare[0])
     return bytes(block)[: length.value].decode("ascii")
 
 
 def key_block_header(block: Text) -> KeyBlockHeader:
     """The header of a key block, read with no key. Nothing of it is authenticated. KeyBlockLengthError, KeyBlockVersionError,
     KeyBlockFieldError, OptionalBlockError, KeyDataLengthError; KeyBlockDigitError for characters that are not ASCII."""
-    text, fields = _block_of(block), room(_FIELDS_SIZE)
+    text, fields = _block_of(block), buffer_of(_FIELDS_SIZE)
     check(_header(text, len(text), fields))
     return _header_from(fields)
 
@@ -166,7 +166,7 @@ def key_block_header(block: Text) -> KeyBlockHeader:
 def key_block_context(block: Text) -> str:
     """Where the key of a key block may be, read with no key: "0" in storage and exchange, as wrap_key_block writes it, "1" in
     storage only, "2" in exchange only. Nothing of it is authenticated. Errors as of key_block_header."""
-    text, context = _block_of(block), room(1)
+    text, context = _block_of(block), buffer_of(1)
     check(_context(text, len(text), context))
     return bytes(context).decode("ascii")
 
@@ -176,7 +176,7 @@ def key_block_optional_blocks(block: Text) -> List[Tuple[str, str]]:
     Errors as of key_block_header."""
     text = _block_of(block)
     found: List[Tuple[str, str]] = []
-    name, offset, length = room(3), SIZE(), SIZE()
+    name, offset, length = buffer_of(3), SIZE(), SIZE()
     while True:
         status = _optional_block(text, len(text), len(found), name, ctypes.byref(offset), ctypes.byref(length))
         if status == NO_OPTIONAL_BLOCK:

@@ -6,7 +6,7 @@ import ctypes
 from typing import Optional, Type
 
 from ._ciphers import Cipher, class_of
-from ._data import bytes_from, bytes_of, key_of, room, wiped_room
+from ._data import buffer_of, bytes_from, bytes_of, key_of, wiped_buffer
 from ._faults import SerialLengthError, WeakKeyError, check
 from ._library import function
 from ._statuses import NO_SERIAL, WEAK_KEY
@@ -24,8 +24,8 @@ _is_usable = function("dukpt_is_usable")
 
 def is_weak_key(key: ReadableBuffer) -> bool:
     """Whether a key of 8, 16 or 24 bytes is weak: a part has few different round keys, or two parts are one key. KeyLengthError."""
-    with key_of(key, *KEY_SIZES) as held:
-        status = _weak_key_test(held, len(held))
+    with key_of(key, *KEY_SIZES) as secret:
+        status = _weak_key_test(secret, len(secret))
     if status != WEAK_KEY:
         check(status)
     return bool(status == WEAK_KEY)
@@ -33,9 +33,9 @@ def is_weak_key(key: ReadableBuffer) -> bool:
 
 def with_odd_parity(key: ReadableBuffer) -> bytes:
     """The key of 8, 16 or 24 bytes with its parity bits, the lowest of each byte, set to odd parity. KeyLengthError."""
-    with key_of(key, *KEY_SIZES) as held:
-        _set_odd_parity(held, len(held))
-        return bytes(held)
+    with key_of(key, *KEY_SIZES) as secret:
+        _set_odd_parity(secret, len(secret))
+        return bytes(secret)
 
 
 def equal_but_parity(first: ReadableBuffer, second: ReadableBuffer) -> bool:
@@ -47,9 +47,9 @@ def equal_but_parity(first: ReadableBuffer, second: ReadableBuffer) -> bool:
 def check_value(cipher: Type[Cipher], key: ReadableBuffer) -> bytes:
     """The check value (KCV) of a key: three bytes, the first of the encrypted block of zeros. `cipher` is a class, as Des.
     KeyLengthError."""
-    value, kind = room(3), class_of(cipher)
-    with key_of(key, kind.key_size) as held:
-        check(kind.calls["check_value"](held, len(held), value))
+    value, kind = buffer_of(3), class_of(cipher)
+    with key_of(key, kind.key_size) as secret:
+        check(kind.calls["check_value"](secret, len(secret), value))
     return bytes(value)
 
 
@@ -57,11 +57,11 @@ def combine(first: ReadableBuffer, second: ReadableBuffer, *others: ReadableBuff
     """The key that two or more components of 8, 16 or 24 bytes make: their xor, with odd parity. KeyLengthError, WeakKeyError."""
     with key_of(first, *KEY_SIZES) as one, key_of(second, len(one)) as other:
         size = len(one)
-        key = room(size)
-        with wiped_room(size * len(others)) as more:
+        key = buffer_of(size)
+        with wiped_buffer(size * len(others)) as more:
             for at, component in enumerate(others):
-                with key_of(component, size) as held:
-                    ctypes.memmove(ctypes.byref(more, at * size), held, size)
+                with key_of(component, size) as secret:
+                    ctypes.memmove(ctypes.byref(more, at * size), secret, size)
             status = _combine[size](one, other, more, len(more), len(others), key)
     if status == WEAK_KEY:
         raise WeakKeyError("the weak key test refuses the key that the components make")
@@ -86,7 +86,7 @@ def response_of(is_response: bool) -> bool:
 
 def dukpt_next_serial(serial: ReadableBuffer) -> Optional[bytes]:
     """The next key serial number (KSN) whose counter is usable, or None where there is none. SerialLengthError."""
-    following = room(10)
+    following = buffer_of(10)
     status = _next_serial(serial_of(serial), following)
     if status == NO_SERIAL:
         return None

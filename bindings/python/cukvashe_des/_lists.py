@@ -9,7 +9,7 @@ from itertools import accumulate
 from typing import AbstractSet, Any, Callable, Iterable, Iterator, List, Mapping, Optional, Tuple, Type
 
 from ._ciphers import Cipher, class_of, vectors_by_name
-from ._data import BLOCK_SIZE, Kind, bytes_from, in_order, is_writable, kept_apart, key_of, lent, no_text, pointer_to, room, row_size
+from ._data import BLOCK_SIZE, Kind, buffer_of, bytes_from, in_order, is_writable, kept_apart, key_of, lent, no_text, pointer_to, row_size
 from ._faults import BlockLengthError, CountMismatchError, Error, KeyLengthError, SerialLengthError, VectorLengthError
 from ._faults import check, fault_of
 from ._library import function
@@ -109,7 +109,7 @@ def check_values(cipher: Type[Cipher], keys: ReadableBuffer) -> bytes:
     `check_value` makes them. KeyLengthError where there are no whole keys, or rows of another size."""
     kind = class_of(cipher)
     with _list_of(keys, kind.key_size, KeyLengthError, "keys") as (start, count):
-        values = room(_CHECK_VALUE_SIZE * count)
+        values = buffer_of(_CHECK_VALUE_SIZE * count)
         check(kind.calls["check_values"](start, kind.key_size * count, values, len(values), count))
     return bytes(values)
 
@@ -123,9 +123,9 @@ def dukpt_transaction_keys_from_base(base: ReadableBuffer, serials: ReadableBuff
     KeyLengthError where the base key does not have 16 bytes; SerialLengthError where there are no whole key serial numbers, or
     rows of another size."""
     numbers = _list_of(serials, _SERIAL_SIZE, SerialLengthError, "key serial numbers")
-    with key_of(base, _TRANSACTION_KEY_SIZE) as held, numbers as (start, count):
-        keys = room(_TRANSACTION_KEY_SIZE * count)
-        check(_transaction_keys(held, start, _SERIAL_SIZE * count, keys, len(keys), count))
+    with key_of(base, _TRANSACTION_KEY_SIZE) as secret, numbers as (start, count):
+        keys = buffer_of(_TRANSACTION_KEY_SIZE * count)
+        check(_transaction_keys(secret, start, _SERIAL_SIZE * count, keys, len(keys), count))
     return bytes_from(keys)
 
 
@@ -146,16 +146,16 @@ def _recorded(
     """What a call makes of records, from a copy of the vectors, which it changes."""
     if not isinstance(cipher, Cipher):
         raise TypeError("the first argument is a cipher, such as TdesEde3(key)")
-    context, held = cipher._open(), _numbers_of(counts)
+    context, numbers = cipher._open(), _numbers_of(counts)
     with memoryview(vectors) as given:
         records = _elements_of(given, BLOCK_SIZE, VectorLengthError, "vectors")
         chains = bytearray(given)
     with memoryview(blocks) as given:
         _elements_of(given, BLOCK_SIZE, BlockLengthError, "blocks")
         answer = bytearray(given)
-    if records != len(held):
+    if records != len(numbers):
         raise CountMismatchError("the numbers of vectors and counts differ")
-    first, sizes = (pointer_to(chains), pointer_to(held)) if records else (None, None)
+    first, sizes = (pointer_to(chains), pointer_to(numbers)) if records else (None, None)
     output = pointer_to(answer) if answer else None
     if context.kind.calls[call](context, first, len(chains), sizes, records, output, len(answer)) != OK:
         raise CountMismatchError("the counts do not add up to the number of blocks")
@@ -194,12 +194,12 @@ def _lent_bytes(messages: ReadableBuffer) -> Iterator[Tuple[Any, int]]:
 
 def _messages_of(start: int, length: int, lengths: Iterable[int]) -> array[int]:
     """Where each message begins, and its length, by turns."""
-    held = _numbers_of(lengths)
-    if sum(held) != length:
+    numbers = _numbers_of(lengths)
+    if sum(numbers) != length:
         raise CountMismatchError("the lengths do not add up to the messages")
-    pairs = array("Q", bytes(16 * len(held)))
-    pairs[0::2] = array("Q", accumulate(held[:-1], initial=start)) if held else held
-    pairs[1::2] = held
+    pairs = array("Q", bytes(16 * len(numbers)))
+    pairs[0::2] = array("Q", accumulate(numbers[:-1], initial=start)) if numbers else numbers
+    pairs[1::2] = numbers
     return pairs
 
 
@@ -218,7 +218,7 @@ def _mac_of(mac: Type[Mac], padding: Optional[int]) -> Kind:
 
 
 def _write_tags(call: Callable[..., Any], keys: Any, length: int, padding: Optional[int], pairs: array[int], tags: Any) -> None:
-    """Takes keys of a length, a padding method or None, messages and the room of their tags to a call."""
+    """Takes keys of a length, a padding method or None, messages and the buffer of their tags to a call."""
     of_tags = pointer_to(pairs) if pairs else None, tags, len(tags), len(pairs) // 2
     if padding is None:
         check(call(keys, length, *of_tags))
@@ -235,10 +235,10 @@ def macs(
     For speed, sort messages of very different lengths. KeyLengthError, PaddingMethodError; CountMismatchError where the lengths do
     not add up to the bytes."""
     made = _mac_of(kind, padding)
-    with key_of(key, made.key_size) as held, _lent_bytes(messages) as (start, length):
+    with key_of(key, made.key_size) as secret, _lent_bytes(messages) as (start, length):
         pairs = _messages_of(start or 0, length, lengths)
-        tags = room(len(pairs) // 2 * TAG_SIZE)
-        _write_tags(made.calls["macs"], held, len(held), padding, pairs, tags)
+        tags = buffer_of(len(pairs) // 2 * TAG_SIZE)
+        _write_tags(made.calls["macs"], secret, len(secret), padding, pairs, tags)
     return bytes(tags)
 
 
@@ -253,7 +253,7 @@ def macs_each(
         pairs = _messages_of(start or 0, length, lengths)
         if count != len(pairs) // 2:
             raise CountMismatchError("the numbers of keys and messages differ")
-        tags = room(count * TAG_SIZE)
+        tags = buffer_of(count * TAG_SIZE)
         _write_tags(made.calls["macs_each"], first, made.key_size * count, padding, pairs, tags)
     return bytes(tags)
 
@@ -267,7 +267,7 @@ def wrong_tags(tags: ReadableBuffer, expected: ReadableBuffer) -> List[int]:
         with _list_of(expected, TAG_SIZE, CountMismatchError, "tags") as (other, expected_count):
             if count != expected_count:
                 raise CountMismatchError("the numbers of tags and expected tags differ")
-            right = room(count)
+            right = buffer_of(count)
             length = TAG_SIZE * count
             check(_compare_tags(start, length, other, length, right, count))
     return [place for place, answer in enumerate(right) if not answer]

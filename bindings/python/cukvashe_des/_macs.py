@@ -5,7 +5,7 @@
 import threading
 from typing import Any, ClassVar, Tuple, Type, TypeVar
 
-from ._data import BLOCK_SIZE, KINDS, Keyed, Kind, bytes_of, kind_of, room
+from ._data import BLOCK_SIZE, KINDS, Keyed, Kind, buffer_of, bytes_of, kind_of
 from ._faults import check, fault_of
 from ._statuses import OK, TAG
 from ._types import ReadableBuffer
@@ -43,7 +43,7 @@ class Mac(Keyed):
 
     def digest(self) -> bytes:
         """The tag of the message so far, 8 bytes; the message may go on. To check a tag call verify, not ==."""
-        tag = room(TAG_SIZE)
+        tag = buffer_of(TAG_SIZE)
         with self._lock:
             context = self._open()
             check(context.kind.calls["final"](context, tag))
@@ -102,7 +102,7 @@ class PaddedMac(Mac):
     def __init__(self, key: ReadableBuffer, padding: int, data: ReadableBuffer = b"", *, no_tables: bool = False) -> None:
         if not isinstance(padding, int) or isinstance(padding, bool):
             raise TypeError("the padding method, the second argument, is the number 1 or 2")
-        # A number that C has no room for would lose bits.
+        # A number too large for C's type would lose bits.
         self._begin(no_tables, key, padding if padding in (1, 2) else 0)
         self.update(data)
 

@@ -2,7 +2,7 @@
 
 from __future__ import annotations
 
-from ._data import bytes_from, bytes_of, data_of, key_of, room, text_from, text_of
+from ._data import buffer_of, bytes_from, bytes_of, data_of, key_of, text_from, text_of
 from ._faults import BlockLengthError, DataLengthError, SerialLengthError, check
 from ._keys import response_of
 from ._library import function
@@ -29,18 +29,18 @@ _emv_response_2 = function("emv_response_2")
 def key_check_value(key: ReadableBuffer) -> bytes:
     """The check value of a key or component of 8, 16 or 24 bytes: by DES or, where it is longer, triple DES (EDE).
     KeyLengthError."""
-    made = room(3)
-    with key_of(key, 8, 16, 24) as held_key:
-        check(_key_check_value(held_key, len(held_key), made))
+    made = buffer_of(3)
+    with key_of(key, 8, 16, 24) as copied_key:
+        check(_key_check_value(copied_key, len(copied_key), made))
     return bytes(made)
 
 
 def short_key_check_value(key: ReadableBuffer) -> bytes:
     """The first two bytes of the check value of a key or component of 8, 16 or 24 bytes, which some systems show.
     KeyLengthError."""
-    made = room(2)
-    with key_of(key, 8, 16, 24) as held_key:
-        check(_short_key_check_value(held_key, len(held_key), made))
+    made = buffer_of(2)
+    with key_of(key, 8, 16, 24) as copied_key:
+        check(_short_key_check_value(copied_key, len(copied_key), made))
     return bytes(made)
 
 
@@ -48,9 +48,9 @@ def dukpt_initial_key(base: ReadableBuffer, serial: ReadableBuffer) -> bytes:
     """The initial key of a terminal, from the base derivation key and any of the terminal's key serial numbers, whose counter
     plays no part. KeyLengthError, SerialLengthError."""
     taken_serial = data_of(serial, 10, "a key serial number has", SerialLengthError)
-    made = room(16)
-    with key_of(base, 16) as held_base:
-        _dukpt_initial_key(held_base, taken_serial, made)
+    made = buffer_of(16)
+    with key_of(base, 16) as copied_base:
+        _dukpt_initial_key(copied_base, taken_serial, made)
     return bytes_from(made)
 
 
@@ -59,35 +59,35 @@ def dukpt_transaction_key(initial: ReadableBuffer, serial: ReadableBuffer) -> by
     the transaction's key serial number. It takes every counter: ask first whether a transaction has this one. KeyLengthError,
     SerialLengthError."""
     taken_serial = data_of(serial, 10, "a key serial number has", SerialLengthError)
-    made = room(16)
-    with key_of(initial, 16) as held_initial:
-        _dukpt_transaction_key(held_initial, taken_serial, made)
+    made = buffer_of(16)
+    with key_of(initial, 16) as copied_initial:
+        _dukpt_transaction_key(copied_initial, taken_serial, made)
     return bytes_from(made)
 
 
 def dukpt_pin_key(transaction: ReadableBuffer) -> bytes:
     """The key that encrypts PIN blocks, from the transaction's key. KeyLengthError."""
-    made = room(16)
-    with key_of(transaction, 16) as held_transaction:
-        _dukpt_pin_key(held_transaction, made)
+    made = buffer_of(16)
+    with key_of(transaction, 16) as copied_transaction:
+        _dukpt_pin_key(copied_transaction, made)
     return bytes_from(made)
 
 
 def dukpt_mac_key(transaction: ReadableBuffer, is_response: bool = False) -> bytes:
     """The key that authenticates the request, or the response, from the transaction's key. KeyLengthError."""
     taken_is_response = response_of(is_response)
-    made = room(16)
-    with key_of(transaction, 16) as held_transaction:
-        _dukpt_mac_key(held_transaction, taken_is_response, made)
+    made = buffer_of(16)
+    with key_of(transaction, 16) as copied_transaction:
+        _dukpt_mac_key(copied_transaction, taken_is_response, made)
     return bytes_from(made)
 
 
 def dukpt_data_key(transaction: ReadableBuffer, is_response: bool = False) -> bytes:
     """The key that encrypts the data of the request, or of the response, from the transaction's key. KeyLengthError."""
     taken_is_response = response_of(is_response)
-    made = room(16)
-    with key_of(transaction, 16) as held_transaction:
-        _dukpt_data_key(held_transaction, taken_is_response, made)
+    made = buffer_of(16)
+    with key_of(transaction, 16) as copied_transaction:
+        _dukpt_data_key(copied_transaction, taken_is_response, made)
     return bytes_from(made)
 
 
@@ -95,9 +95,9 @@ def dukpt_data_variant(transaction: ReadableBuffer, is_response: bool = False) -
     """The key that encrypts the data, made without the last step: some terminals take it. It reveals the transaction's other
     keys. KeyLengthError."""
     taken_is_response = response_of(is_response)
-    made = room(16)
-    with key_of(transaction, 16) as held_transaction:
-        _dukpt_data_variant(held_transaction, taken_is_response, made)
+    made = buffer_of(16)
+    with key_of(transaction, 16) as copied_transaction:
+        _dukpt_data_variant(copied_transaction, taken_is_response, made)
     return bytes_from(made)
 
 
@@ -105,10 +105,10 @@ def cvv(key: ReadableBuffer, account: Text, expiry: Text, service: Text) -> str:
     """The card verification value, three ASCII digits, under a key pair of 16 bytes, of an account number of 12 to 19 digits, an
     expiry date of four, in the order that the issuer takes, and a service code of three. KeyLengthError, AccountLengthError,
     AccountDigitError, ExpiryLengthError, ExpiryDigitError, ServiceLengthError, ServiceDigitError."""
-    made = room(4)
-    with key_of(key, 16) as held_key, text_of(account) as held_account, text_of(expiry) as held_expiry:
-        with text_of(service) as held_service:
-            check(_cvv(held_key, *held_account, *held_expiry, *held_service, made))
+    made = buffer_of(4)
+    with key_of(key, 16) as copied_key, text_of(account) as copied_account, text_of(expiry) as copied_expiry:
+        with text_of(service) as copied_service:
+            check(_cvv(copied_key, *copied_account, *copied_expiry, *copied_service, made))
     return text_from(made)
 
 
@@ -116,18 +116,18 @@ def emv_card_key(issuer: ReadableBuffer, account: Text, sequence: Text) -> bytes
     """The key of a card (A1.4.1, option A), with odd parity, from the issuer's master key (IMK), an account number (PAN) of 8 to
     19 digits and a sequence number (PSN) of two, `00` where the card has none. KeyLengthError, AccountLengthError,
     AccountDigitError, SequenceLengthError, SequenceDigitError."""
-    made = room(16)
-    with key_of(issuer, 16) as held_issuer, text_of(account) as held_account, text_of(sequence) as held_sequence:
-        check(_emv_card_key(held_issuer, *held_account, *held_sequence, made))
+    made = buffer_of(16)
+    with key_of(issuer, 16) as copied_issuer, text_of(account) as copied_account, text_of(sequence) as copied_sequence:
+        check(_emv_card_key(copied_issuer, *copied_account, *copied_sequence, made))
     return bytes_from(made)
 
 
 def emv_card_key_b(issuer: ReadableBuffer, account: Text, sequence: Text) -> bytes:
     """The key of a card by option B (A1.4.2), which differs where the account number has more than sixteen digits: take it if the
     card scheme asks for it. KeyLengthError, AccountLengthError, AccountDigitError, SequenceLengthError, SequenceDigitError."""
-    made = room(16)
-    with key_of(issuer, 16) as held_issuer, text_of(account) as held_account, text_of(sequence) as held_sequence:
-        check(_emv_card_key_b(held_issuer, *held_account, *held_sequence, made))
+    made = buffer_of(16)
+    with key_of(issuer, 16) as copied_issuer, text_of(account) as copied_account, text_of(sequence) as copied_sequence:
+        check(_emv_card_key_b(copied_issuer, *copied_account, *copied_sequence, made))
     return bytes_from(made)
 
 
@@ -135,9 +135,9 @@ def emv_application_key(card: ReadableBuffer, counter: ReadableBuffer) -> bytes:
     """The session key for application cryptograms, from the card's key and the application transaction counter, two bytes.
     KeyLengthError, DataLengthError."""
     taken_counter = data_of(counter, 2, "a transaction counter has", DataLengthError)
-    made = room(16)
-    with key_of(card, 16) as held_card:
-        _emv_application_key(held_card, taken_counter, made)
+    made = buffer_of(16)
+    with key_of(card, 16) as copied_card:
+        _emv_application_key(copied_card, taken_counter, made)
     return bytes_from(made)
 
 
@@ -145,9 +145,9 @@ def emv_session_key(card: ReadableBuffer, block: ReadableBuffer) -> bytes:
     """The session key for other uses (A1.3), from the card's key and eight bytes that are different for each session: for secure
     messaging the application cryptogram. The third of them plays no part. KeyLengthError, BlockLengthError."""
     taken_block = data_of(block, 8, "the block of a session has", BlockLengthError)
-    made = room(16)
-    with key_of(card, 16) as held_card:
-        _emv_session_key(held_card, taken_block, made)
+    made = buffer_of(16)
+    with key_of(card, 16) as copied_card:
+        _emv_session_key(copied_card, taken_block, made)
     return bytes_from(made)
 
 
@@ -156,9 +156,9 @@ def emv_application_cryptogram(session: ReadableBuffer, data: ReadableBuffer) ->
     with padding method 2. To check one that a card sent call RetailMacDes(session, 2, data).verify(cryptogram), and do not
     compare by ==. KeyLengthError."""
     taken_data = bytes_of(data)
-    made = room(8)
-    with key_of(session, 16) as held_session:
-        _emv_application_cryptogram(held_session, taken_data, len(taken_data), made)
+    made = buffer_of(8)
+    with key_of(session, 16) as copied_session:
+        _emv_application_cryptogram(copied_session, taken_data, len(taken_data), made)
     return bytes(made)
 
 
@@ -167,9 +167,9 @@ def emv_response_1(session: ReadableBuffer, cryptogram: ReadableBuffer, code: Re
     characters. KeyLengthError, BlockLengthError, DataLengthError."""
     taken_cryptogram = data_of(cryptogram, 8, "an application cryptogram has", BlockLengthError)
     taken_code = data_of(code, 2, "a response code has", DataLengthError)
-    made = room(8)
-    with key_of(session, 16) as held_session:
-        _emv_response_1(held_session, taken_cryptogram, taken_code, made)
+    made = buffer_of(8)
+    with key_of(session, 16) as copied_session:
+        _emv_response_1(copied_session, taken_cryptogram, taken_code, made)
     return bytes(made)
 
 
@@ -179,7 +179,7 @@ def emv_response_2(session: ReadableBuffer, cryptogram: ReadableBuffer, status: 
     taken_cryptogram = data_of(cryptogram, 8, "an application cryptogram has", BlockLengthError)
     taken_status = data_of(status, 4, "a card status update has", DataLengthError)
     taken_data = bytes_of(data)
-    made = room(4)
-    with key_of(session, 16) as held_session:
-        check(_emv_response_2(held_session, taken_cryptogram, taken_status, taken_data, len(taken_data), made))
+    made = buffer_of(4)
+    with key_of(session, 16) as copied_session:
+        check(_emv_response_2(copied_session, taken_cryptogram, taken_status, taken_data, len(taken_data), made))
     return bytes(made)

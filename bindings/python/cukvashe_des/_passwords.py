@@ -7,16 +7,18 @@ from typing import Optional, Type
 
 from ._calls import SIZE
 from ._ciphers import Cipher, class_of
-from ._data import bytes_from, bytes_of, room, secret_of
+from ._data import buffer_of, bytes_from, bytes_of, secret_of
 from ._faults import BlockLengthError, HashNameError, KeyLengthError, SaltLengthError, check, fault_of
 from ._library import function
 from ._statuses import BLOCKS, HASH, ITERATIONS, SALT_LENGTH
 from ._types import ReadableBuffer
 
-_HASHES = {"md5": 21, "sha1": 22, "sha256": 23}
+MD5 = 21
 
-# One more than PBKDF2 counts, which it refuses.
-_TOO_MANY = 2**32
+_HASHES = {"md5": MD5, "sha1": 22, "sha256": 23}
+
+# One more than the most iterations or bytes, which the library refuses.
+TOO_MANY = 2**32
 
 _pbkdf2 = function("pbkdf2")
 _bytes_to_key = function("bytes_to_key")
@@ -36,19 +38,19 @@ def _count_of(number: int, what: str) -> int:
     """A number that is one at least, or the next that is refused."""
     if not isinstance(number, int) or isinstance(number, bool):
         raise TypeError(what)
-    return max(0, min(int(number), _TOO_MANY))
+    return max(0, min(int(number), TOO_MANY))
 
 
-def _iterations_of(number: int) -> int:
+def iterations_of(number: int) -> int:
     count = _count_of(number, "iterations are a number")
     if count == 0:
         raise fault_of(ITERATIONS)
     return count
 
 
-def _length_of(number: int) -> int:
+def length_of(number: int) -> int:
     count = _count_of(number, "the length of a key is a number")
-    if count in (0, _TOO_MANY):
+    if count in (0, TOO_MANY):
         raise KeyLengthError("a key that is derived has one byte at least, and less than 2^32")
     return count
 
@@ -56,9 +58,9 @@ def _length_of(number: int) -> int:
 def pbkdf2(hash_name: str, password: ReadableBuffer, salt: ReadableBuffer, iterations: int, length: int) -> bytes:
     """The key, `length` bytes, that PBKDF2 with HMAC over "sha1" or "sha256" makes of a password and a salt. HashNameError,
     IterationCountError, KeyLengthError."""
-    number, count, key, grains = _hash_of(hash_name, True), _iterations_of(iterations), room(_length_of(length)), bytes_of(salt)
-    with secret_of(password) as held:
-        check(_pbkdf2(number, count, *held, grains, len(grains), key, len(key)))
+    number, count, key, grains = _hash_of(hash_name, True), iterations_of(iterations), buffer_of(length_of(length)), bytes_of(salt)
+    with secret_of(password) as secret:
+        check(_pbkdf2(number, count, *secret, grains, len(grains), key, len(key)))
     return bytes_from(key)
 
 
@@ -68,9 +70,9 @@ def bytes_to_key(hash_name: str, password: ReadableBuffer, salt: ReadableBuffer,
 
     The password stands before the salt, unlike in EVP_BytesToKey. The salt has 8 bytes, without Salted__, or none (-nosalt).
     HashNameError, KeyLengthError, SaltLengthError."""
-    number, key, grains = _hash_of(hash_name, False), room(_length_of(length)), bytes_of(salt)
-    with secret_of(password) as held:
-        status = _bytes_to_key(number, *held, grains, len(grains), key, len(key))
+    number, key, grains = _hash_of(hash_name, False), buffer_of(length_of(length)), bytes_of(salt)
+    with secret_of(password) as secret:
+        status = _bytes_to_key(number, *secret, grains, len(grains), key, len(key))
     if status == SALT_LENGTH:
         raise SaltLengthError(f"the salt of bytes_to_key has 0 or 8 bytes, not {len(grains)}")
     check(status)
@@ -92,11 +94,11 @@ def open_salted(
     password, hash function or number of iterations is PaddingMismatchError, but for one in 256, which returns wrong bytes: nothing
     here authenticates."""
     call, number = class_of(cipher).calls["open_salted"], _hash_of(hash_name, iterations is not None)
-    count = 0 if iterations is None else _iterations_of(iterations)
+    count = 0 if iterations is None else iterations_of(iterations)
     given, length = bytes_of(data), SIZE()
-    plain = room(len(given))
-    with secret_of(password) as held:
-        status = call(number, count, *held, given, len(given), plain, len(plain), ctypes.byref(length))
+    plain = buffer_of(len(given))
+    with secret_of(password) as secret:
+        status = call(number, count, *secret, given, len(given), plain, len(plain), ctypes.byref(length))
     if status == BLOCKS:
         raise BlockLengthError(f"{len(given)} bytes are not whole blocks of 8")
     check(status)

@@ -6,7 +6,7 @@ import ctypes
 from typing import Any, Callable, Optional, Tuple
 
 from ._calls import PinTranslation
-from ._data import BLOCK_SIZE, block_of, bytes_from, bytes_of, key_of, number_of, place_of, room, text_from, text_of
+from ._data import BLOCK_SIZE, block_of, buffer_of, bytes_from, bytes_of, key_of, number_of, place_of, text_from, text_of
 from ._faults import FillLengthError, check
 from ._keys import KEY_SIZES
 from ._library import function
@@ -54,16 +54,16 @@ def _fill_of(digits: ReadableBuffer) -> bytes:
 
 def _encoded(call: Callable[..., Any], *arguments: Any) -> bytes:
     """The PIN block that a call makes."""
-    block = room(BLOCK_SIZE)
+    block = buffer_of(BLOCK_SIZE)
     check(call(*arguments, block))
     return bytes_from(block)
 
 
 def _decoded(call: Callable[..., Any], block: ReadableBuffer, *account: Any) -> str:
     """The PIN that a call reads from a block."""
-    pin = room(_PIN_SIZE)
-    with block_of(block) as held:
-        check(call(held, *account, pin))
+    pin = buffer_of(_PIN_SIZE)
+    with block_of(block) as given:
+        check(call(given, *account, pin))
     return text_from(pin)
 
 
@@ -76,7 +76,7 @@ def pin_encode_0(pin: Text, account: Text) -> bytes:
 
 def pin_encode_1(pin: Text, transaction: ReadableBuffer) -> bytes:
     """The PIN block of format 1 of a PIN and ten transaction digits, bytes from 0 to 15, of which it uses the first ones
-    that there is room for. PinLengthError, PinDigitError, FillLengthError, FillError."""
+    that fit. PinLengthError, PinDigitError, FillLengthError, FillError."""
     with text_of(pin) as digits:
         return _encoded(_encode_1, *digits, _fill_of(transaction))
 
@@ -89,7 +89,7 @@ def pin_encode_2(pin: Text) -> bytes:
 
 def pin_encode_3(pin: Text, account: Text, fill: ReadableBuffer) -> bytes:
     """The PIN block of format 3 of a PIN, an account number, and ten fill digits, random bytes from 10 to 15, of which it uses
-    the first ones that there is room for. Errors as of pin_encode_0; FillLengthError, FillError."""
+    the first ones that fit. Errors as of pin_encode_0; FillLengthError, FillError."""
     with text_of(pin) as digits, text_of(account) as number:
         return _encoded(_encode_3, *digits, *number, _fill_of(fill))
 
@@ -125,15 +125,15 @@ def pin_translate_to_0(
     both blocks. KeyLengthError, FormatsError, AccountLengthError, AccountDigitError, BlockLengthError; PinBlockError, whatever is
     wrong with the block."""
     number = number_of(incoming_format, 0, 3)
-    with key_of(incoming_key, *KEY_SIZES) as held, key_of(outgoing_key, *KEY_SIZES) as other:
+    with key_of(incoming_key, *KEY_SIZES) as incoming, key_of(outgoing_key, *KEY_SIZES) as outgoing:
         with text_of(account) as of, block_of(block) as given:
-            return _encoded(_to_0, _translation(held, number, other, of), given)
+            return _encoded(_to_0, _translation(incoming, number, outgoing, of), given)
 
 
 def pin_translate_to_1(block: ReadableBuffer, *, incoming_key: ReadableBuffer, outgoing_key: ReadableBuffer) -> bytes:
     """A block of format 1 under another key; its transaction digits stay. KeyLengthError, BlockLengthError, PinBlockError."""
-    with key_of(incoming_key, *KEY_SIZES) as held, key_of(outgoing_key, *KEY_SIZES) as other, block_of(block) as given:
-        return _encoded(_to_1, _translation(held, 1, other), given)
+    with key_of(incoming_key, *KEY_SIZES) as incoming, key_of(outgoing_key, *KEY_SIZES) as outgoing, block_of(block) as given:
+        return _encoded(_to_1, _translation(incoming, 1, outgoing), given)
 
 
 def pin_translate_to_3(
@@ -148,6 +148,6 @@ def pin_translate_to_3(
     """As pin_translate_to_0, to a block of format 3, with ten fill digits as of pin_encode_3. Its errors; FillLengthError,
     FillError."""
     number, digits = number_of(incoming_format, 0, 3), _fill_of(fill)
-    with key_of(incoming_key, *KEY_SIZES) as held, key_of(outgoing_key, *KEY_SIZES) as other:
+    with key_of(incoming_key, *KEY_SIZES) as incoming, key_of(outgoing_key, *KEY_SIZES) as outgoing:
         with text_of(account) as of, block_of(block) as given:
-            return _encoded(_to_3, _translation(held, number, other, of, digits), given)
+            return _encoded(_to_3, _translation(incoming, number, outgoing, of, digits), given)

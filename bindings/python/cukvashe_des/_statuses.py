@@ -49,6 +49,11 @@ MODE = 45
 STREAM = 46
 WRAPPED_LENGTH = 47
 WRAPPED_KEY = 48
+NOT_ENCRYPTED = 49
+VALUES = 50
+ALGORITHM = 51
+BASE64 = 52
+KEY_NUMBER = 53
 
 SENTENCES = (
     "success",
@@ -69,7 +74,7 @@ SENTENCES = (
     "the service code does not have three digits",
     "a character of the service code is not a digit",
     "the data do not end with the padding",
-    "the buffer has no room for the padding, or for what is opened",
+    "the buffer is too small for all that the call would write",
     "the numbers of elements do not agree: a count, or a sum of counts, and a length",
     "the index of the key pair is not 1 to 6",
     "the decimalization table does not have sixteen digits",
@@ -100,6 +105,11 @@ SENTENCES = (
     "the stream is not one that was begun",
     "the wrapped key does not have a length that it can have",
     "the bytes are no key that was wrapped under the protection key",
+    "the value is none that MySQL encrypted",
+    "some values can't be read: their statuses say why",
+    "the algorithm is not one that the call takes",
+    "the value is not Base64",
+    "the number is not one of a key",
 )
 
 # The error of each status that is one by itself.
@@ -145,4 +155,8 @@ ERRORS = {
     SALT_LENGTH: "SaltLengthError",
     WRAPPED_LENGTH: "WrappedLengthError",
     WRAPPED_KEY: "WrappedKeyError",
+    NOT_ENCRYPTED: "NotEncryptedError",
+    ALGORITHM: "AlgorithmNameError",
+    BASE64: "Base64Error",
+    KEY_NUMBER: "KeyNumberError",
 }

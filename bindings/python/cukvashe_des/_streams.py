@@ -7,7 +7,7 @@ from typing import Any, Optional, TypeVar
 
 from ._calls import WORDS
 from ._ciphers import CFB1, CTR, OFB, Cipher, cfb_of, vectors_by_name
-from ._data import Keyed, context_type, copy_of, counter_of, pointer_to, vector_of, wiped_room, writable
+from ._data import Keyed, context_type, copy_of, counter_of, pointer_to, vector_of, wiped_buffer, writable
 from ._faults import DataLengthError, DirectionError, PositionError, SegmentSizeError, check
 from ._library import function
 from ._types import ReadableBuffer, WriteableBuffer
@@ -109,7 +109,7 @@ class Ctr(Stream):
             raise PositionError("a position in a stream is 0 to 2^67 - 1")
         state = _State()
         _begin_ctr_at(state, self._vector, blocks)
-        with self._turns, wiped_room(rest) as skipped:
+        with self._turns, wiped_buffer(rest) as skipped:
             self._open()
             self._call("encrypt_stream", state, skipped, rest)
             self._context = state

@@ -6,7 +6,7 @@ import ctypes
 import threading
 from typing import Any, Tuple, Type, TypeVar
 
-from ._data import Keyed, bytes_from, context_type, key_of, room, secret_of
+from ._data import Keyed, buffer_of, bytes_from, context_type, key_of, secret_of
 from ._faults import NoSerialError, StateLengthError, check
 from ._keys import serial_of
 from ._library import function
@@ -33,8 +33,8 @@ class DukptTerminal(Keyed):
 
     def __init__(self, initial: ReadableBuffer, serial: ReadableBuffer) -> None:
         state = _State()
-        with key_of(initial, 16) as held:
-            _init(state, held, serial_of(serial))
+        with key_of(initial, 16) as secret:
+            _init(state, secret, serial_of(serial))
         self._begin(state)
 
     def _begin(self, state: Any) -> None:
@@ -44,7 +44,7 @@ class DukptTerminal(Keyed):
         """The key serial number and the key of the next transaction, that of dukpt_transaction_key, which the terminal then
         forgets. Store `state()` before you use the key, or a key is used twice. NoSerialError after the last transaction, the
         1,048,575th, and of a state without future keys, as one of zeros."""
-        serial, key = room(_SERIAL_SIZE), room(16)
+        serial, key = buffer_of(_SERIAL_SIZE), buffer_of(16)
         with self._turns:
             status = _next_key(self._open(), serial, key)
         if status == NO_SERIAL:
@@ -61,10 +61,10 @@ class DukptTerminal(Keyed):
     def from_state(cls: Type[_Self], state: ReadableBuffer) -> _Self:
         """The terminal of a state. StateLengthError."""
         made = cls.__new__(cls)
-        with secret_of(state) as (held, length):
+        with secret_of(state) as (secret, length):
             if length != _STATE_SIZE:
                 raise StateLengthError(f"the state of a terminal has {_STATE_SIZE} bytes, not {length}")
-            made._begin(_State.from_buffer_copy(held))
+            made._begin(_State.from_buffer_copy(secret))
         return made
 
     def close(self) -> None:

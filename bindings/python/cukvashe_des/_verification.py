@@ -4,7 +4,7 @@ from __future__ import annotations
 
 from typing import Any
 
-from ._data import BLOCK_SIZE, data_of, key_of, number_of, room, text_from, text_of
+from ._data import BLOCK_SIZE, buffer_of, data_of, key_of, number_of, text_from, text_of
 from ._faults import BlockLengthError, check
 from ._keys import KEY_SIZES
 from ._library import function
@@ -27,9 +27,9 @@ def pvv(key: ReadableBuffer, account: Text, index: int, pin: Text) -> str:
     """The PIN verification value, four digits, under a key pair of 16 bytes with an index from 1 to 6, of an account number of 12
     to 19 digits and the first four digits of a PIN, as str or bytes of digits. KeyLengthError, PinLengthError, PinDigitError,
     AccountLengthError, AccountDigitError, KeyIndexError."""
-    value, place = room(_PVV_SIZE), number_of(index, 1, 6)
-    with key_of(key, 16) as held, text_of(account) as number, text_of(pin) as digits:
-        check(_pvv(held, *number, place, *digits, value))
+    value, place = buffer_of(_PVV_SIZE), number_of(index, 1, 6)
+    with key_of(key, 16) as secret, text_of(account) as number, text_of(pin) as digits:
+        check(_pvv(secret, *number, place, *digits, value))
     return text_from(value)
 
 
@@ -37,8 +37,8 @@ def pvv_verify(key: ReadableBuffer, account: Text, index: int, pin: Text, value:
     """Accepts the PIN whose PIN verification value, four digits, this is; the errors of pvv, and WrongPinError for any other PIN.
     Count these: unlimited guesses find the PIN."""
     place = number_of(index, 1, 6)
-    with key_of(key, 16) as held, text_of(account) as number, text_of(pin) as digits, text_of(value) as kept:
-        check(_pvv_verify(held, *number, place, *digits, *kept))
+    with key_of(key, 16) as secret, text_of(account) as number, text_of(pin) as digits, text_of(value) as kept:
+        check(_pvv_verify(secret, *number, place, *digits, *kept))
 
 
 class DecimalTable:
@@ -49,7 +49,7 @@ class DecimalTable:
     __slots__ = ("_table",)
 
     def __init__(self, digits: Text) -> None:
-        table = room(_TABLE_SIZE)
+        table = buffer_of(_TABLE_SIZE)
         with text_of(digits) as text:
             check(_init(table, *text))
         self._table = table
@@ -57,7 +57,7 @@ class DecimalTable:
     @classmethod
     def of_any_variety(cls, digits: Text) -> DecimalTable:
         """A table of any variety, for old systems that have one. TableLengthError, TableDigitError."""
-        made, table = cls.__new__(cls), room(_TABLE_SIZE)
+        made, table = cls.__new__(cls), buffer_of(_TABLE_SIZE)
         with text_of(digits) as text:
             check(_init_any(table, *text))
         made._table = table
@@ -82,18 +82,18 @@ def _validation_of(validation: ReadableBuffer) -> bytes:
 def natural_pin(key: ReadableBuffer, table: DecimalTable, validation: ReadableBuffer, length: int) -> str:
     """The natural PIN of 4 to 12 digits: the first digits of the validation data, 8 bytes, encrypted under a key of 8, 16 or 24
     bytes, each by the decimalization table. KeyLengthError, PinLengthError; BlockLengthError for other validation data."""
-    pin, data, count = room(_PIN_SIZE), _validation_of(validation), number_of(length, 4, 12)
-    with key_of(key, *KEY_SIZES) as held:
-        check(_natural_pin(held, len(held), _table_of(table), data, count, pin))
+    pin, data, count = buffer_of(_PIN_SIZE), _validation_of(validation), number_of(length, 4, 12)
+    with key_of(key, *KEY_SIZES) as secret:
+        check(_natural_pin(secret, len(secret), _table_of(table), data, count, pin))
     return text_from(pin)
 
 
 def pin_offset(key: ReadableBuffer, table: DecimalTable, validation: ReadableBuffer, pin: Text) -> str:
     """The offset of a PIN: digit by digit, modulo ten, the PIN less the natural PIN. PinDigitError, and the errors of
     natural_pin."""
-    offset, data = room(_PIN_SIZE), _validation_of(validation)
-    with key_of(key, *KEY_SIZES) as held, text_of(pin) as digits:
-        check(_pin_offset(held, len(held), _table_of(table), data, *digits, offset))
+    offset, data = buffer_of(_PIN_SIZE), _validation_of(validation)
+    with key_of(key, *KEY_SIZES) as secret, text_of(pin) as digits:
+        check(_pin_offset(secret, len(secret), _table_of(table), data, *digits, offset))
     return text_from(offset)
 
 
@@ -102,5 +102,5 @@ def pin_offset_verify(
 ) -> None:
     """Accepts the PIN whose offset this is; the errors of pin_offset, and WrongPinError for any other PIN. Count these."""
     data = _validation_of(validation)
-    with key_of(key, *KEY_SIZES) as held, text_of(pin) as digits, text_of(offset) as kept:
-        check(_verify(held, len(held), _table_of(table), data, *digits, *kept))
+    with key_of(key, *KEY_SIZES) as secret, text_of(pin) as digits, text_of(offset) as kept:
+        check(_verify(secret, len(secret), _table_of(table), data, *digits, *kept))

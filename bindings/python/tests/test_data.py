@@ -63,10 +63,10 @@ _view_of.argtypes, _view_of.restype = (ctypes.POINTER(_data._Buffer),), ctypes.p
 def view_by(form, shape, strides, size, value):
     """A writable view of a copy of bytes by any format, shape and strides, as NumPy's arrays have them: items of a size."""
     memory, numbers = ctypes.create_string_buffer(value, len(value)), ctypes.c_ssize_t * len(shape)
-    held = (memory, ctypes.c_char_p(form.encode()), numbers(*shape), numbers(*strides))
-    places = (ctypes.cast(kept, ctypes.c_void_p).value for kept in held[1:])
+    parts = (memory, ctypes.c_char_p(form.encode()), numbers(*shape), numbers(*strides))
+    places = (ctypes.cast(kept, ctypes.c_void_p).value for kept in parts[1:])
     view = _view_of(_data._Buffer(ctypes.addressof(memory), None, len(value), size, 0, len(shape), *places))
-    weakref.finalize(view, id, held)
+    weakref.finalize(view, id, parts)
     return view
 
 
@@ -481,16 +481,16 @@ class Threads(unittest.TestCase):
 
 
 class WatchesWiping(unittest.TestCase):
-    """What the package wipes: the sizes in `wiped`, and what the last memory held in `held`."""
+    """What the package wipes: the sizes in `wiped`, and what was in the last memory in `contents`."""
 
     def setUp(self):
         gc.collect()  # What other tests left behind is wiped before.
-        self.wiped, self.held = [], b""
+        self.wiped, self.contents = [], b""
         real = _data.wipe
 
         def wipe(memory, size):
             self.assertEqual(ctypes.sizeof(memory), size)
-            self.held = bytes(memory)
+            self.contents = bytes(memory)
             real(memory, size)
             self.assertFalse(any(bytes(memory)))
             self.wiped.append(size)
@@ -559,17 +559,17 @@ class Wiped(WatchesWiping):
             if name in ("dukpt_next_serial", "dukpt_is_usable", "pad", "unpad") or name.startswith("key_block_"):
                 continue
             sizes = {"equal_but_parity": [8, 8], "check_value": [24], "cvv": [3, 4, 4, 16, 16]}
-            # a PIN of four digits, an account number of thirteen, a block, and room for the PIN
+            # a PIN of four digits, an account number of thirteen, a block, and the buffer of the PIN
             sizes.update({"pin_encode_0": [4, 8, 13], "pin_encode_1": [4, 8], "pin_encode_3": [4, 8, 13]})
             sizes.update({"pin_decode_0": [8, 13, 13], "pin_decode_1": [8, 13], "pin_decode_3": [8, 13, 13]})
             sizes.update({"pin_encode_2": [4, 8], "pin_decode_2": [8, 13]})
-            # both keys, an account number, a block, and room for the other
+            # both keys, an account number, a block, and the buffer of the other
             sizes.update({"to_format_0": [8, 8, 13, 16, 16], "to_format_1": [8, 8, 16, 16], "to_format_3": [8, 8, 13, 16, 16]})
             sizes.update({"pvv": [4, 5, 16, 16], "pvv_verify": [4, 4, 16, 16]})
             sizes.update({"natural_pin": [13, 16], "pin_offset": [4, 13, 16], "pin_offset_verify": [4, 4, 16]})
             sizes.update({"emv_card_key": [2, 16, 16, 17], "emv_card_key_b": [2, 16, 16, 17], "emv_session_key": [16, 16], "emv_application_key": [16, 16]})
             sizes.update({"unwrap_key_block": [16, 24], "wrap_with_padding": [16, 16]})
-            # what is wrapped or unwrapped, the protection key, and room for the other
+            # what is wrapped or unwrapped, the protection key, and the buffer of the other
             sizes.update({"wrap_from_vector": [24, 24, 40], "cms_unwrap_key": [24, 24, 40]})
             sizes.update({"tkw_wrap_key": [8, 12, 24], "tkw_unwrap_key": [8, 12, 24]})
             sizes.update({"pbkdf2": [24, 24], "bytes_to_key": [24, 24], "opens": [6, 56]})
@@ -594,7 +594,7 @@ class Wiped(WatchesWiping):
         """Of the state of a terminal one copy is made, which is wiped; that of another length too."""
         state = bytes(range(256)) + bytes(90)
         terminal = DukptTerminal.from_state(bytearray(state))
-        self.assertEqual((self.wiped, self.held), ([346], state))
+        self.assertEqual((self.wiped, self.contents), ([346], state))
         with mock.patch.object(_data, "bytes_of", side_effect=AssertionError):
             self.assertEqual(DukptTerminal.from_state(terminal.state()).state(), state)
         self.wiped.clear()
@@ -607,7 +607,7 @@ class Wiped(WatchesWiping):
         terminal = DukptTerminal(KEY[:16], SERIAL)
         self.wiped.clear()
         _, key = terminal.next_key()
-        self.assertEqual((self.wiped, self.held), ([16], key))
+        self.assertEqual((self.wiped, self.contents), ([16], key))
 
     def test_no_other_copies(self):
         """Of the memory that a call wrote the bytes of the answer are made, and no more, which could not be wiped; of a text none."""

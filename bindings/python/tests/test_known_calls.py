@@ -9,7 +9,7 @@ import cukvashe_des
 from .values import LENGTHS, lines_of
 
 # Calls of which a text is a name, and a header's fields, and not data: they take no bytes for it.
-OF_NAMES = ("pad", "unpad", "pbkdf2", "bytes_to_key", "open_salted", "wrap_key_block")
+OF_NAMES = ("pad", "unpad", "pbkdf2", "bytes_to_key", "open_salted", "pbe_key", "wrap_key_block")
 
 TEXT = r'"(?:[^"\\]|\\.)*"'
 WORDS = re.compile(rf'(?:{TEXT}|[^\s"])+')

@@ -306,10 +306,10 @@ class Kinds(unittest.TestCase):
 
     def test_lent(self):
         """What is lent stands where the object has it."""
-        held = (ctypes.c_uint8 * 24).from_buffer_copy(KEY)
-        for view in (held, memoryview(held), memoryview(held).toreadonly(), memoryview(held).toreadonly().cast("B", (3, 8))):
+        memory = (ctypes.c_uint8 * 24).from_buffer_copy(KEY)
+        for view in (memory, memoryview(memory), memoryview(memory).toreadonly(), memoryview(memory).toreadonly().cast("B", (3, 8))):
             with _data.lent(view) as (start, length):
-                self.assertEqual((start, length), (ctypes.addressof(held), 24))
+                self.assertEqual((start, length), (ctypes.addressof(memory), 24))
         data = bytearray(KEY)
         with _data.lent(data):
             self.assertRaises(BufferError, data.clear)
@@ -427,7 +427,7 @@ class Wiped(WatchesWiping):
                 call(kind, keys, *arguments)
                 self.assertEqual(self.wiped, [])
                 call(kind, spread, *arguments)
-                self.assertEqual((self.wiped, self.held), ([len(keys)], keys))
+                self.assertEqual((self.wiped, self.contents), ([len(keys)], keys))
 
     def test_pieces_of_a_refused_call(self):
         spread = memoryview(bytes(byte for byte in KEY * 2 for _ in range(2)))[::2]
@@ -442,7 +442,7 @@ class Wiped(WatchesWiping):
             keys = bytes(data[:size])
             self.wiped.clear()
             encrypt_each_into(kind, memoryview(data)[:size], memoryview(data)[:80])
-            self.assertEqual((self.wiped, self.held), ([size], keys))
+            self.assertEqual((self.wiped, self.contents), ([size], keys))
 
     def test_messages(self):
         keys = PAIR * 3
@@ -450,7 +450,7 @@ class Wiped(WatchesWiping):
         cukvashe_des.macs_each(RetailMacDes, keys, 2, (20, 0, 4), some(24))
         self.assertEqual(self.wiped, [])
         cukvashe_des.macs_each(RetailMacDes, spread, 2, (20, 0, 4), some(24))
-        self.assertEqual((self.wiped, self.held), ([len(keys)], keys))
+        self.assertEqual((self.wiped, self.contents), ([len(keys)], keys))
 
     def test_transactions(self):
         serials = bytes.fromhex("ffff9876543210e00001" "ffff9876543210e00002")

@@ -374,8 +374,8 @@ class Objects(WatchesWiping):
         self.assertEqual(sorted(made), sorted(whole[at : at + 8] for at in range(0, 6400, 8)))
 
     def test_turns(self):
-        """While a call changes the state, the stream is held: threads seldom meet there by themselves."""
-        cipher, held = TdesEde3(KEY), []
+        """While a call changes the state, the stream is locked: threads seldom meet there by themselves."""
+        cipher, locked = TdesEde3(KEY), []
         stream = Cfb(cipher, iv=IV, segment_size=1)
         counter = Ctr(cipher, counter=IV)
         other = stream.copy()
@@ -383,13 +383,13 @@ class Objects(WatchesWiping):
         calls += [(stream.encrypt_bits, TEXT, 3), (other.decrypt_bits, TEXT, 3), (counter.seek, 3)]
         for call, *arguments in calls:
             def of_call(*_, lock=call.__self__._turns):
-                held.append(lock.locked())
+                locked.append(lock.locked())
                 return 0
 
             names = [f"{way}_stream{what}" for way in ("encrypt", "decrypt") for what in ("", "_bits")]
             with mock.patch.dict(KINDS[TdesEde3].calls, dict.fromkeys(names, of_call)):
                 call(*arguments)
-        self.assertEqual(held, [True] * len(calls))
+        self.assertEqual(locked, [True] * len(calls))
         for name in ("copy", "close"):
             counter._turns = mock.MagicMock()
             getattr(counter, name)()

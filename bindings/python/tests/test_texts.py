@@ -5,7 +5,7 @@ import traceback
 import unittest
 
 import cukvashe_des
-from cukvashe_des import Des, KeyBlockHeader
+from cukvashe_des import Des, KeyBlockHeader, _statuses
 
 from .values import ACCOUNT, BLOCK, BLOCK_HEADER, FUNCTIONS, IV, KEY, LISTS, MESSAGE, OBJECTS, PADDED_MACS, SALTED
 from .values import faults_of_package, in_places, lines_of, methods, opens, to_format_0
@@ -27,6 +27,25 @@ SENTENCES = {(known[1] + "Error", known[2]) for known in KNOWN} | {
     ("TagMismatchError", "the tag is not that of the message"),
     ("VectorLengthError", "# bytes are not whole vectors of 8"),
     ("VectorLengthError", "an initialization vector has 8 bytes, not #"),
+}
+
+# Calls of columns that can't be read, or with arguments that can't be taken.
+COLUMNS = (
+    (lambda password, value: cukvashe_des.mysql_decrypt_values(password, [value]), KEY, MESSAGE),
+    (lambda password, value: cukvashe_des.jasypt_decrypt_values(password, [value]), KEY, MESSAGE),
+    (lambda keys, value: cukvashe_des.mysql_decrypt_values_by_file(keys, [b"\x81" + value[:8]]), b"0 " + MESSAGE.hex().encode() + b"\n", MESSAGE),
+    (lambda password, text: cukvashe_des.mysql_encrypt_values(password, [text], number=128), KEY, MESSAGE),
+    (lambda key, value: cukvashe_des.pgcrypto_decrypt_values(key.hex(), key, [value]), KEY, MESSAGE),
+    (lambda password, salt: cukvashe_des.pbe_key("PBEWithMD5AndTripleDES", password, salt, 1, 32), KEY, MESSAGE),
+)
+UNREAD = "1 of 1 values can't be read, the first at place 0: "
+SENTENCES |= {
+    ("UnreadableValuesError", UNREAD + _statuses.SENTENCES[_statuses.NOT_ENCRYPTED]),
+    ("UnreadableValuesError", UNREAD + "the value is not Base64"),
+    ("UnreadableValuesError", UNREAD + "the file has no key of the value's number"),
+    ("KeyNumberError", "the number of a key is 0 to 9, or 127 of a key string"),
+    ("AlgorithmNameError", _statuses.SENTENCES[_statuses.ALGORITHM]),
+    ("SaltLengthError", "by this algorithm a salt has 8 bytes, not #"),
 }
 
 # What no text hides, since all have it.
@@ -70,7 +89,10 @@ class Texts(unittest.TestCase):
                 shown = text[: length.start()] + "#" + text[length.end() :] if length else text
                 self.sentences.add((type(error).__name__, shown))
                 self.assertEqual((error.args, error.__cause__, error.__context__), ((str(error),), None, None))
-            return {type(error).__name__}
+            faults = list(getattr(error, "faults", {}).values())
+            for fault in faults:
+                self.tells_nothing(fault, arguments)
+            return {type(it).__name__ for it in [error, *faults]}
         return set()
 
     def setUp(self):
@@ -138,6 +160,8 @@ class Texts(unittest.TestCase):
                                  (KeyBlockHeader("B", "P", "T", "E", "00", "E"), ()), (KeyBlockHeader("B", "P0", "T", "E", 0, "E"), ()),
                                  (KeyBlockHeader("B", "P0", "T", "E", "  ", "E"), ())):
             names |= self.faults(lambda key, of=header, more=optional: cukvashe_des.wrap_key_block(key, of, key, optional=more), KEY)
+        for call, *arguments in COLUMNS:
+            names |= self.faults(call, *arguments)
         for name, count in (("sha256", 0), ("md5", 1), ("whirlpool", 1)):
             names |= self.faults(cukvashe_des.pbkdf2, name, MESSAGE, IV, count, 24)
         names |= self.faults(cukvashe_des.pbkdf2, "sha1", MESSAGE, IV, 1, 0)

@@ -22,6 +22,14 @@ def column(cipher: Cipher, vectors: memoryview, blocks: memoryview) -> bytes:
     return cukvashe_des.decrypt_cbc_records(cipher, blocks, vectors=vectors, counts=counts)
 
 
+def of_mysql(password: bytes, values: List[Optional[bytes]]) -> List[Optional[bytes]]:
+    try:
+        return cukvashe_des.mysql_decrypt_values(password, values)
+    except cukvashe_des.UnreadableValuesError as error:
+        first: Error = error.faults[min(error.faults)]
+        return error.texts if isinstance(first, ValueError) else []
+
+
 def decrypted(stream: Stream, pieces: List[bytes]) -> bytes:
     return b"".join(map(stream.copy().decrypt, pieces))
 

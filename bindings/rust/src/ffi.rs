@@ -1,4 +1,4 @@
-//! What `cukvashe_des.h` declares, with room for calls to write, and how what holds a key is wiped.
+//! What `cukvashe_des.h` declares, with buffers for calls to write, and how what holds a key is wiped.
 
 #[rustfmt::skip]
 mod declarations;
@@ -15,7 +15,7 @@ pub struct Context<const WORDS: usize> {
 }
 
 impl<const WORDS: usize> Context<WORDS> {
-    /// Room for `init` to write.
+    /// A context for `init` to write.
     pub fn empty() -> Self {
         Context { words: [0; WORDS] }
     }
@@ -36,7 +36,7 @@ impl Drop for DukptTerminal {
 }
 
 impl KeyBlockFields {
-    /// Room for a call to write.
+    /// Fields for a call to write.
     pub fn empty() -> Self {
         KeyBlockFields { version: 0, usage: [0; 3], algorithm: 0, mode: 0, key_version: [0; 3], exportability: 0 }
     }

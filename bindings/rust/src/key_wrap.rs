@@ -28,8 +28,8 @@ pub enum WrapError {
     ProtectionKeyLength,
     /// The key does not have a length that is wrapped.
     KeyLength,
-    /// There is no room for the wrapped key.
-    NoRoom,
+    /// The buffer is too small for the wrapped key.
+    BufferTooSmall,
 }
 
 /// Why no key is unwrapped. Nothing of a key was written; of `WrappedKey` zeros stand where it would.
@@ -40,8 +40,8 @@ pub enum UnwrapError {
     ProtectionKeyLength,
     /// The wrapped key does not have a length that it can have.
     WrappedLength,
-    /// There is no room for the key.
-    NoRoom,
+    /// The buffer is too small for the key.
+    BufferTooSmall,
     /// The wrapped key was changed, or is under another protection key.
     WrappedKey,
 }
@@ -49,13 +49,13 @@ pub enum UnwrapError {
 sentences!(WrapError:
     WrapError::ProtectionKeyLength => sentence(PROTECTION_KEY_LENGTH),
     WrapError::KeyLength => "the key does not have a length that is wrapped",
-    WrapError::NoRoom => "there is no room for the wrapped key",
+    WrapError::BufferTooSmall => "the buffer is too small for the wrapped key",
 );
 
 sentences!(UnwrapError:
     UnwrapError::ProtectionKeyLength => sentence(PROTECTION_KEY_LENGTH),
     UnwrapError::WrappedLength => sentence(WRAPPED_LENGTH),
-    UnwrapError::NoRoom => "there is no room for the key",
+    UnwrapError::BufferTooSmall => "the buffer is too small for the key",
     UnwrapError::WrappedKey => sentence(WRAPPED_KEY),
 );
 
@@ -63,7 +63,7 @@ fn wrapped_by(status: i32, size: usize) -> Result<usize, WrapError> {
     match status {
         OK => Ok(size),
         PROTECTION_KEY_LENGTH => Err(WrapError::ProtectionKeyLength),
-        CAPACITY => Err(WrapError::NoRoom),
+        CAPACITY => Err(WrapError::BufferTooSmall),
         _ => Err(WrapError::KeyLength),
     }
 }
@@ -72,7 +72,7 @@ fn unwrapped_by(status: i32, size: usize) -> Result<usize, UnwrapError> {
     match status {
         OK => Ok(size),
         PROTECTION_KEY_LENGTH => Err(UnwrapError::ProtectionKeyLength),
-        CAPACITY => Err(UnwrapError::NoRoom),
+        CAPACITY => Err(UnwrapError::BufferTooSmall),
         WRAPPED_LENGTH => Err(UnwrapError::WrappedLength),
         _ => Err(UnwrapError::WrappedKey),
     }
@@ -84,34 +84,34 @@ fn unwrapped_by(status: i32, size: usize) -> Result<usize, UnwrapError> {
 /// Wraps a key of 8 bytes or a multiple from a random initialization vector into the front of `wrapped`, and gives how many bytes are
 /// written: 16 more than the key has.
 pub fn cms_wrap(protection: &[u8], iv: &Block, key: &[u8], wrapped: &mut [u8]) -> Result<usize, WrapError> {
-    let (place, room, mut size) = (wrapped.as_mut_ptr(), wrapped.len(), 0);
-    let (held, held_length, bare, bare_length) = (protection.as_ptr(), protection.len(), key.as_ptr(), key.len());
+    let (place, capacity, mut size) = (wrapped.as_mut_ptr(), wrapped.len(), 0);
+    let (kek, kek_length, bare, bare_length) = (protection.as_ptr(), protection.len(), key.as_ptr(), key.len());
     let status =
-        unsafe { ffi::cukvashe_cms_wrap_key(held, held_length, iv, bare, bare_length, place, room, &mut size) };
+        unsafe { ffi::cukvashe_cms_wrap_key(kek, kek_length, iv, bare, bare_length, place, capacity, &mut size) };
     wrapped_by(status, size)
 }
 
 /// Unwraps a key into the front of `key`, and gives how many bytes it has. Its parity is not tested.
 pub fn cms_unwrap(protection: &[u8], wrapped: &[u8], key: &mut [u8]) -> Result<usize, UnwrapError> {
-    let (place, room, mut size) = (key.as_mut_ptr(), key.len(), 0);
-    let (held, held_length, given, length) = (protection.as_ptr(), protection.len(), wrapped.as_ptr(), wrapped.len());
-    let status = unsafe { ffi::cukvashe_cms_unwrap_key(held, held_length, given, length, place, room, &mut size) };
+    let (place, capacity, mut size) = (key.as_mut_ptr(), key.len(), 0);
+    let (kek, kek_length, given, length) = (protection.as_ptr(), protection.len(), wrapped.as_ptr(), wrapped.len());
+    let status = unsafe { ffi::cukvashe_cms_unwrap_key(kek, kek_length, given, length, place, capacity, &mut size) };
     unwrapped_by(status, size)
 }
 
 /// Wraps a key of 8 bytes or more, a multiple of 4, into the front of `wrapped`, and gives how many bytes are written: 4 more than the
 /// key has.
 pub fn tkw_wrap(protection: &[u8], key: &[u8], wrapped: &mut [u8]) -> Result<usize, WrapError> {
-    let (place, room, mut size) = (wrapped.as_mut_ptr(), wrapped.len(), 0);
-    let (held, held_length, bare, bare_length) = (protection.as_ptr(), protection.len(), key.as_ptr(), key.len());
-    let status = unsafe { ffi::cukvashe_tkw_wrap_key(held, held_length, bare, bare_length, place, room, &mut size) };
+    let (place, capacity, mut size) = (wrapped.as_mut_ptr(), wrapped.len(), 0);
+    let (kek, kek_length, bare, bare_length) = (protection.as_ptr(), protection.len(), key.as_ptr(), key.len());
+    let status = unsafe { ffi::cukvashe_tkw_wrap_key(kek, kek_length, bare, bare_length, place, capacity, &mut size) };
     wrapped_by(status, size)
 }
 
 /// Unwraps a key into the front of `key`, and gives how many bytes it has.
 pub fn tkw_unwrap(protection: &[u8], wrapped: &[u8], key: &mut [u8]) -> Result<usize, UnwrapError> {
-    let (place, room, mut size) = (key.as_mut_ptr(), key.len(), 0);
-    let (held, held_length, given, length) = (protection.as_ptr(), protection.len(), wrapped.as_ptr(), wrapped.len());
-    let status = unsafe { ffi::cukvashe_tkw_unwrap_key(held, held_length, given, length, place, room, &mut size) };
+    let (place, capacity, mut size) = (key.as_mut_ptr(), key.len(), 0);
+    let (kek, kek_length, given, length) = (protection.as_ptr(), protection.len(), wrapped.as_ptr(), wrapped.len());
+    let status = unsafe { ffi::cukvashe_tkw_unwrap_key(kek, kek_length, given, length, place, capacity, &mut size) };
     unwrapped_by(status, size)
 }

@@ -3,6 +3,7 @@
 #![deny(missing_docs)]
 
 mod cipher;
+pub mod columns;
 mod each_key;
 mod error;
 mod ffi;

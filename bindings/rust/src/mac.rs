@@ -233,11 +233,11 @@ const GROUP: usize = 256;
 /// Takes groups of messages and their tags to a call, with the number of the first message of each.
 fn in_groups(messages: &[&[u8]], tags: &mut [[u8; 8]], call: impl Fn(usize, *const Message, &mut [u8], usize)) {
     for (number, (group, tags)) in messages.chunks(GROUP).zip(tags.chunks_mut(GROUP)).enumerate() {
-        let mut held = [Message { bytes: ptr::null(), length: 0 }; GROUP];
-        for (place, message) in held.iter_mut().zip(group) {
+        let mut pointers = [Message { bytes: ptr::null(), length: 0 }; GROUP];
+        for (place, message) in pointers.iter_mut().zip(group) {
             *place = Message { bytes: message.as_ptr(), length: message.len() };
         }
-        call(GROUP * number, held.as_ptr(), tags.as_flattened_mut(), group.len());
+        call(GROUP * number, pointers.as_ptr(), tags.as_flattened_mut(), group.len());
     }
 }
 
@@ -253,11 +253,11 @@ macro_rules! macs {
                 tags: &mut [[u8; 8]],
             ) -> Result<(), CountsDiffer> {
                 count_of_both(messages, tags)?;
-                in_groups(messages, tags, |_, held, tags, count| {
+                in_groups(messages, tags, |_, messages, tags, count| {
                     let (key, key_length, place, length) = (key.as_ptr(), key.len(), tags.as_mut_ptr(), tags.len());
                     // SAFETY: the pointers are of references, good for their lengths and the count, which don't overlap; the
                     // status is 0, since these agree, and there is a padding of each method.
-                    unsafe { ffi::$call(key, key_length, $($padding.number(),)? held, place, length, count) };
+                    unsafe { ffi::$call(key, key_length, $($padding.number(),)? messages, place, length, count) };
                 });
                 Ok(())
             }
@@ -278,11 +278,11 @@ macro_rules! macs_each {
             ) -> Result<(), CountsDiffer> {
                 count_of_both(keys, messages)?;
                 count_of_both(messages, tags)?;
-                in_groups(messages, tags, |from, held, tags, count| {
+                in_groups(messages, tags, |from, messages, tags, count| {
                     let keys = keys[from..from + count].as_flattened();
                     let (keys, keys_length, place, length) = (keys.as_ptr(), keys.len(), tags.as_mut_ptr(), tags.len());
                     // SAFETY: as of `macs`.
-                    unsafe { ffi::$call(keys, keys_length, $($padding.number(),)? held, place, length, count) };
+                    unsafe { ffi::$call(keys, keys_length, $($padding.number(),)? messages, place, length, count) };
                 });
                 Ok(())
             }

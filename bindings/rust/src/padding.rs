@@ -37,9 +37,9 @@ impl Method {
     }
 }
 
-/// Why data are not padded: the buffer has no room for the padding.
+/// Why data are not padded: the buffer is too small for the padding.
 #[derive(Clone, Copy, Debug, PartialEq, Eq)]
-pub struct NoRoom;
+pub struct BufferTooSmall;
 
 /// Why no padding is taken off.
 #[non_exhaustive]
@@ -51,8 +51,8 @@ pub enum UnpadError {
     NotPadded,
 }
 
-sentences!(NoRoom:
-    NoRoom => "the buffer has no room for the padding",
+sentences!(BufferTooSmall:
+    BufferTooSmall => "the buffer is too small for the padding",
 );
 
 sentences!(UnpadError:
@@ -61,12 +61,12 @@ sentences!(UnpadError:
 );
 
 /// Writes the padding after the first `length` bytes of a buffer, and gives both together; at an error the buffer stays.
-pub fn pad(buffer: &mut [u8], length: usize, method: Method) -> Result<&mut [u8], NoRoom> {
+pub fn pad(buffer: &mut [u8], length: usize, method: Method) -> Result<&mut [u8], BufferTooSmall> {
     let mut padded = 0;
     // SAFETY: the pointers are of references, that of the buffer good for its length, and don't overlap.
     match unsafe { ffi::cukvashe_pad(buffer.as_mut_ptr(), length, buffer.len(), method.number(), &mut padded) } {
-        OK => buffer.get_mut(..padded).ok_or(NoRoom),
-        _ => Err(NoRoom),
+        OK => buffer.get_mut(..padded).ok_or(BufferTooSmall),
+        _ => Err(BufferTooSmall),
     }
 }
 

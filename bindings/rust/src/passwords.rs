@@ -69,8 +69,8 @@ pub enum OpenError {
     /// The last block does not end with the padding: the password, the hash function or the number of iterations is wrong. One wrong
     /// password in 256 is not found so, and gives wrong bytes.
     Padding,
-    /// There is no room for what is opened.
-    NoRoom,
+    /// The buffer is too small for what is opened.
+    BufferTooSmall,
 }
 
 sentences!(OpenError:
@@ -79,7 +79,7 @@ sentences!(OpenError:
     OpenError::NoIteration => "the number of iterations is 0",
     OpenError::NotBlocks => "what is encrypted is not whole blocks of 8 bytes",
     OpenError::Padding => sentence(PADDING),
-    OpenError::NoRoom => "there is no room for what is opened",
+    OpenError::BufferTooSmall => "the buffer is too small for what is opened",
 );
 
 impl Derivation {
@@ -135,7 +135,7 @@ macro_rules! open_salted {
             #[doc = concat!("Decrypts what `openssl enc ", $word, "` encrypted under a password.")]
             ///
             /// Writes the plaintext without its padding to the front of `plain`, and gives how many bytes it has;
-            /// `file.len() - 16` bytes are always room enough. `file` is all that was written: `Salted__`, the salt and the
+            /// `file.len() - 16` bytes are always enough. `file` is all that was written: `Salted__`, the salt and the
             /// ciphertext, not Base64 (`-a`). After an error `plain` stays as it was. Nothing is authenticated.
             pub fn open_salted(
                 derivation: Derivation,
@@ -172,7 +172,7 @@ macro_rules! open_salted {
                     ITERATIONS => Err(OpenError::NoIteration),
                     BLOCKS => Err(OpenError::NotBlocks),
                     PADDING => Err(OpenError::Padding),
-                    CAPACITY => Err(OpenError::NoRoom),
+                    CAPACITY => Err(OpenError::BufferTooSmall),
                     _ => unreachable!("the hash function is one that the call takes"),
                 }
             }

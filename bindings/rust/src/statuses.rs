@@ -53,13 +53,18 @@ pub const MODE: c_int = 45;
 pub const STREAM: c_int = 46;
 pub const WRAPPED_LENGTH: c_int = 47;
 pub const WRAPPED_KEY: c_int = 48;
+pub const NOT_ENCRYPTED: c_int = 49;
+pub const VALUES: c_int = 50;
+pub const ALGORITHM: c_int = 51;
+pub const BASE64: c_int = 52;
+pub const KEY_NUMBER: c_int = 53;
 
 /// The sentence of a status.
 pub fn sentence(status: c_int) -> &'static str {
     SENTENCES[status as usize]
 }
 
-const SENTENCES: [&str; 49] = [
+const SENTENCES: [&str; 54] = [
     "success",
     "the key does not have a length that the call takes",
     "the length is not a multiple of 8 bytes",
@@ -78,7 +83,7 @@ const SENTENCES: [&str; 49] = [
     "the service code does not have three digits",
     "a character of the service code is not a digit",
     "the data do not end with the padding",
-    "the buffer has no room for the padding, or for what is opened",
+    "the buffer is too small for all that the call would write",
     "the numbers of elements do not agree: a count, or a sum of counts, and a length",
     "the index of the key pair is not 1 to 6",
     "the decimalization table does not have sixteen digits",
@@ -109,4 +114,9 @@ const SENTENCES: [&str; 49] = [
     "the stream is not one that was begun",
     "the wrapped key does not have a length that it can have",
     "the bytes are no key that was wrapped under the protection key",
+    "the value is none that MySQL encrypted",
+    "some values can't be read: their statuses say why",
+    "the algorithm is not one that the call takes",
+    "the value is not Base64",
+    "the number is not one of a key",
 ];

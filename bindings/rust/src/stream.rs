@@ -4,14 +4,14 @@
 //! beginnings.
 //!
 //! ```
-//! use cukvashe_des::stream::{Cfb, Ctr, Segment};
+//! use cukvashe_des::stream::{CfbEncryptor, Ctr, Segment};
 //! use cukvashe_des::Des;
 //!
 //! // FIPS 81, appendix D, in two pieces.
 //! let cipher = Des::new(&0x0123456789abcdefu64.to_be_bytes());
 //! let iv = 0x1234567890abcdefu64.to_be_bytes();
 //! let mut data = *b"Now is the time";
-//! let mut cfb = Cfb::new(cipher.clone(), &iv, Segment::Bits8);
+//! let mut cfb = CfbEncryptor::new(cipher.clone(), &iv, Segment::Bits8);
 //! cfb.encrypt(&mut data[..3]);
 //! cfb.encrypt(&mut data[3..]);
 //! assert_eq!(data[..8], 0xf31fda07011462eeu64.to_be_bytes());
@@ -82,7 +82,7 @@ impl Mode {
 #[non_exhaustive]
 #[derive(Clone, Copy, Debug, PartialEq, Eq)]
 pub enum BitsError {
-    /// The data do not have so many bits.
+    /// The data have fewer bits.
     TooFew,
     /// The stream does not have segments of 1 bit.
     Segment,
@@ -94,7 +94,7 @@ sentences!(BitsError:
 );
 
 /// Where a stream is in its text, for the calls of a [`BlockCipher`]. Pass it with one cipher and in one direction: otherwise a wrong text
-/// comes out, and no error. [`Ctr`], [`Ofb`] and [`Cfb`] keep the cipher too. It is wiped when it is dropped; a clone goes on by itself.
+/// comes out, and no error. The other types here keep both. It is wiped when it is dropped; a clone goes on by itself.
 #[derive(Clone)]
 pub struct Stream {
     pub(crate) state: ffi::Stream,
@@ -169,18 +169,18 @@ impl<C: BlockCipher> Ofb<C> {
     }
 }
 
-/// Cipher feedback under a cipher. A clone goes on by itself.
+/// Cipher feedback under a cipher, to encrypt. A clone goes on by itself.
 #[derive(Clone)]
-pub struct Cfb<C> {
+pub struct CfbEncryptor<C> {
     cipher: C,
     stream: Stream,
 }
 
-impl<C: BlockCipher> Cfb<C> {
+impl<C: BlockCipher> CfbEncryptor<C> {
     /// The beginning of a stream from its initialization vector.
     #[must_use]
     pub fn new(cipher: C, iv: &Block, segment: Segment) -> Self {
-        Cfb { cipher, stream: Stream::new(Mode::Cfb(segment), iv) }
+        CfbEncryptor { cipher, stream: Stream::new(Mode::Cfb(segment), iv) }
     }
 
     /// Encrypts the bytes that come next, in place.
@@ -188,14 +188,29 @@ impl<C: BlockCipher> Cfb<C> {
         self.cipher.encrypt_stream(&mut self.stream, data);
     }
 
-    /// Decrypts the bytes that come next, in place.
-    pub fn decrypt(&mut self, data: &mut [u8]) {
-        self.cipher.decrypt_stream(&mut self.stream, data);
-    }
-
     /// Encrypts the first `bits` bits in place, in segments of 1 bit. Bit 1 is the highest of the first byte; later bits are unchanged.
     pub fn encrypt_bits(&mut self, data: &mut [u8], bits: usize) -> Result<(), BitsError> {
         self.cipher.encrypt_stream_bits(&mut self.stream, data, bits)
+    }
+}
+
+/// Cipher feedback under a cipher, to decrypt what [`CfbEncryptor`] encrypts. A clone goes on by itself.
+#[derive(Clone)]
+pub struct CfbDecryptor<C> {
+    cipher: C,
+    stream: Stream,
+}
+
+impl<C: BlockCipher> CfbDecryptor<C> {
+    /// The beginning of a stream from its initialization vector.
+    #[must_use]
+    pub fn new(cipher: C, iv: &Block, segment: Segment) -> Self {
+        CfbDecryptor { cipher, stream: Stream::new(Mode::Cfb(segment), iv) }
+    }
+
+    /// Decrypts the bytes that come next, in place.
+    pub fn decrypt(&mut self, data: &mut [u8]) {
+        self.cipher.decrypt_stream(&mut self.stream, data);
     }
 
     /// Decrypts the first `bits` bits in place, as `encrypt_bits` encrypts.
@@ -218,5 +233,6 @@ shown!(
     "Stream": [] Stream;
     "Ctr": [C] Ctr<C>;
     "Ofb": [C] Ofb<C>;
-    "Cfb": [C] Cfb<C>;
+    "CfbEncryptor": [C] CfbEncryptor<C>;
+    "CfbDecryptor": [C] CfbDecryptor<C>;
 );

@@ -1,7 +1,7 @@
 // The table of calculations. The page has what stands here, in this order, and nothing that depends on which they are.
 import * as library from "../cukvashe_des.mjs";
 import { FieldFault, anyBytes, bytes, decimal, digitsOf, lines, tenDigits, utf8, wholeBlocks } from "./fields.mjs";
-import { keyBlock, optionalBlocks, shortCode, someBytes } from "./fields.mjs";
+import { eachLine, iterationsOf, keyBlock, optionalBlocks, shortCode, someBytes } from "./fields.mjs";
 
 const CIPHERS = { 8: library.Des, 16: library.TdesEde2, 24: library.TdesEde3 };
 const CIPHER_NAMES = { 8: "DES", 16: "triple DES (EDE) with two keys", 24: "triple DES (EDE) with three keys" };
@@ -143,6 +143,34 @@ const keyAnswer = ({ algorithm }, key) =>
 
 const NOT_LONG = "The block has another number of characters than it says (characters 2 to 5), or is too short.";
 
+// ---- Old records
+
+/** A text as it is read where it is printable UTF-8 in one line, and else as hexadecimal digits. */
+function shownText(bytes) {
+  try {
+    const text = new TextDecoder("utf-8", { fatal: true, ignoreBOM: true }).decode(bytes);
+    return text !== "" && /^[^\p{C}\p{Zl}\p{Zp}]*$/u.test(text) ? text : digitsOf(bytes);
+  } catch {
+    return digitsOf(bytes);
+  }
+}
+
+/** What a call says of values, a line each: their texts, or why they can't be read. */
+function textAnswers(read) {
+  let [texts, faults] = [null, new Map()];
+  try {
+    texts = read();
+  } catch (error) {
+    if (!(error instanceof library.UnreadableValues)) throw error;
+    ({ texts, faults } = error);
+  }
+  return texts.map((text, place) => {
+    const label = `Text ${place + 1}`;
+    if (text === null) return remark(label, faults.get(place).message);
+    return text.length === 0 ? remark(label, "empty") : value(label, shownText(text));
+  });
+}
+
 // ---- What examples have
 
 const BASE = "0123456789ABCDEFFEDCBA9876543210";
@@ -219,7 +247,7 @@ export const calculations = [
       {
         name: "fill",
         label: "Digits to fill with",
-        hint: "Ten hexadecimal digits, in format 3 each from A to F. The block takes as many as it has room for.",
+        hint: "Ten hexadecimal digits, in format 3 each from A to F. The block takes as many as fit.",
         read: tenDigits,
         shown: hasFill,
         random: (texts) => (texts.format === "3" ? "ABCDEF" : "0123456789ABCDEF"),
@@ -333,7 +361,7 @@ export const calculations = [
       {
         name: "fill",
         label: "Digits to fill with",
-        hint: "Ten hexadecimal digits from A to F. The block takes as many as it has room for.",
+        hint: "Ten hexadecimal digits from A to F. The block takes as many as fit.",
         read: tenDigits,
         shown: ({ to }) => to === "3",
         random: () => "ABCDEF",
@@ -631,11 +659,11 @@ export const calculations = [
       KeyBlockMac: { field: "block", words: "The MAC is not that of the block. Is the protection key right, and the block whole?" },
       KeyLength: { field: "block", words: "The MAC is right, and the block holds no key of DES or triple DES." },
     },
-    compute({ protection: held, block }) {
+    compute({ protection: kbpk, block }) {
       const header = library.keyBlockHeader(block);
       const answers = headerAnswers(block, header);
       try {
-        return [keyAnswer(header, library.unwrapKeyBlock(held, block).key), ...answers];
+        return [keyAnswer(header, library.unwrapKeyBlock(kbpk, block).key), ...answers];
       } catch (error) {
         error.answers = answers.map((it) => ({ ...it, label: `${it.label}, not authenticated` }));
         throw error;
@@ -701,10 +729,10 @@ export const calculations = [
       KeyBlockLength: { field: "optional", words: "The optional blocks are too long: a key block has at most 9999 characters." },
       PaddingLength: { field: "padding", words: "With two bytes and the key the padding fills 8, 16, 24 or 32 bytes." },
     },
-    compute({ protection: held, key, usage, otherUsage, optional, padding, ...codes }) {
+    compute({ protection: kbpk, key, usage, otherUsage, optional, padding, ...codes }) {
       const header = { ...codes, usage: usage === "other" ? otherUsage : usage };
       const options = padding.length === 0 ? { optional } : { optional, padding };
-      const block = library.wrapKeyBlock(held, header, key, options);
+      const block = library.wrapKeyBlock(kbpk, header, key, options);
       return [
         value("Key block", block),
         remark("Check value of the key", checkValueOf(key)),
@@ -775,6 +803,82 @@ export const calculations = [
       }[mode];
       const label = way === "encrypt" ? "Ciphertext" : "Plaintext";
       return [value(label, cipherOf(key)[`${way}${call}`](data, ...named)), remark("Cipher", CIPHER_NAMES[key.length])];
+    },
+  },
+  {
+    id: "records",
+    title: "Old records: read",
+    note: "What databases and settings have kept, a value in each line. Nothing authenticates it: a wrong key may give wrong texts.",
+    fields: [
+      {
+        name: "writer",
+        label: "Written by",
+        options: [
+          ["mysql", "DES_ENCRYPT of MySQL, MariaDB"],
+          ["pgcrypto", "encrypt of pgcrypto (PostgreSQL)"],
+          ["jasypt", "Jasypt: ENC(..)"],
+        ],
+      },
+      { name: "key", label: "Key string or password", hint: "As a text: a key of a test.", read: utf8 },
+      {
+        name: "cipher",
+        label: "Cipher",
+        options: ["3des", "des", "3des-ecb", "des-ecb", "3des/pad:none", "des/pad:none", "3des-ecb/pad:none", "des-ecb/pad:none"]
+          .map((name) => [name, name]),
+        shown: ({ writer }) => writer === "pgcrypto",
+      },
+      {
+        name: "iv",
+        label: "Initialization vector",
+        short: "IV",
+        hint: "Of encrypt_iv, in hexadecimal digits; empty of encrypt.",
+        read: anyBytes,
+        shown: ({ writer }) => writer === "pgcrypto",
+      },
+      {
+        name: "algorithm",
+        label: "Algorithm",
+        options: [
+          ["PBEWithMD5AndDES", "PBEWithMD5AndDES, the default before version 3"],
+          ["PBEWithMD5AndTripleDES", "PBEWithMD5AndTripleDES"],
+          ["PBEWithSHA1AndDESede", "PBEWithSHA1AndDESede"],
+        ],
+        shown: ({ writer }) => writer === "jasypt",
+      },
+      {
+        name: "iterations",
+        label: "Iterations",
+        hint: "1000 unless Jasypt was told another number.",
+        read: iterationsOf,
+        shown: ({ writer }) => writer === "jasypt",
+      },
+      {
+        name: "values",
+        label: "Values",
+        hint: "One in each line: hexadecimal digits, as hex(..) of MySQL prints them; of Jasypt its strings.",
+        isLong: true,
+        read: (text, texts) => eachLine(texts.writer === "jasypt" ? (line) => line : anyBytes)(text, texts),
+      },
+    ],
+    example: {
+      writer: "mysql",
+      key: "secret key",
+      cipher: "3des",
+      iv: "",
+      algorithm: "PBEWithMD5AndDES",
+      iterations: "1000",
+      values: "FF761CE2F3FCEDDD8A59A88A58A8C312F3722AED0D3FFC72C8\nFFA3B355AF8C509A975B3C4BB286B70D4C",
+    },
+    // By MariaDB 10.11.
+    known: { "Text 1": "4111111111111111", "Text 2": "12345678" },
+    faults: { IterationCount: { field: "iterations" } },
+    compute({ writer, key, cipher, iv, algorithm, iterations, values }) {
+      const readers = {
+        mysql: () => library.mysqlDecryptValues(key, values),
+        pgcrypto: () => library.pgcryptoDecryptValues(cipher, key, values, { iv }),
+        jasypt: () => library.jasyptDecryptValues(key, values, { algorithm, iterations }),
+      };
+      return textAnswers(readers[writer]);
     },
   },
 ];

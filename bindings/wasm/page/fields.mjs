@@ -52,7 +52,7 @@ function hexadecimal(text) {
 /** The bytes of pairs of digits. */
 const bytesOfPairs = (digits) => Uint8Array.from(digits.match(/../g) ?? [], (pair) => parseInt(pair, 16));
 
-/** Reads so many bytes, or one of several numbers of them. */
+/** Reads bytes, as many as one of `sizes`. */
 export const bytes = (...sizes) => (text) => {
   const digits = hexadecimal(filled(text));
   if (sizes.includes(digits.length / 2)) return bytesOfPairs(digits);
@@ -83,7 +83,7 @@ export function keyBlock(text) {
   return joined !== "" && Number(joined.slice(1, 5)) === joined.length ? joined : filled(text);
 }
 
-/** Reads a code of so many letters and digits. */
+/** Reads a code of `size` letters and digits. */
 export const shortCode = (size) => (text) => {
   const taken = filled(text);
   if ([...taken].length !== size) throw new Refused(`${size} characters are needed, and here are ${[...taken].length}.`);
@@ -133,7 +133,7 @@ export function tenDigits(text) {
   return Uint8Array.from(digits, (digit) => parseInt(digit, 16));
 }
 
-/** Reads two lines or more, each of them so many bytes, and all of one number. */
+/** Reads two lines or more, all of the same number of bytes, one of `sizes`. */
 export const lines = (...sizes) => (text) => {
   const texts = text.split("\n").filter((line) => line.trim() !== "");
   if (texts.length < 2) throw new Refused("Two components at least are needed, each on a line of its own.");
@@ -148,6 +148,27 @@ export const lines = (...sizes) => (text) => {
   if (read.every((line) => line.length === read[0].length)) return read;
   throw new Refused("The components differ in their number of digits.");
 };
+
+/** Reads lines, of which there is one at least, each by a function; empty ones are passed over. */
+export const eachLine = (read) => (text, texts) => {
+  const found = text.split("\n").map((line, at) => [line.trim(), at]).filter(([line]) => line !== "");
+  if (found.length === 0) throw new Refused("Fill in this field.");
+  return found.map(([line, at]) => {
+    try {
+      return ofOneLine(read)(line, texts);
+    } catch (error) {
+      if (!(error instanceof Refused)) throw error;
+      throw new Refused(`Line ${at + 1}: ${error.message}`);
+    }
+  });
+};
+
+/** Reads a number of iterations, which the library tests. */
+export function iterationsOf(text) {
+  const digits = filled(text);
+  if (/^[0-9]{1,15}$/.test(digits)) return Number(digits);
+  throw new Refused("A number of decimal digits is needed.");
+}
 
 /** Reads a number of decimal digits, which the library tests: spaces and hyphens between them are passed over. */
 export const decimal = (text) => filled(text).replace(/-/g, "");

@@ -21,6 +21,8 @@ export const SECRET = Buffer.from("secret");
 const isText = (it) => typeof it === "string";
 export const isNumbers = (it) => Array.isArray(it) || it instanceof Uint16Array || it instanceof Uint8ClampedArray;
 const isOptions = (it) => it === undefined || (Object.prototype.toString.call(it) === "[object Object]" && Object.keys(it).length === 0);
+const isEmpty = (it) => typeof it === "object" && typeof it?.[Symbol.iterator] === "function" && [...it].length === 0;
+const isOptional = (it) => Object.prototype.toString.call(it) === "[object Object]";
 // Calls that no known answer is of, or with fewer arguments than they take.
 const others = () => [
   ...[["Des", [KEY.subarray(0, 8)]], ["TdesEde2", [PAIR]], ["TdesEde3", [KEY]], ["CmacTdesEde2", [PAIR, IV]], ["RetailMacDes", [PAIR, 2, IV]]],
@@ -32,6 +34,11 @@ const others = () => [
   ...["encryptCbcRecords", "decryptCbcRecords"].map((name) => [name, [new library.TdesEde3(KEY), IV, { vectors: IV, counts: [1] }]]),
   ...["macs", "macsEach"].map((name) => [name, [library.RetailMacDes, PAIR, 2, [24], MESSAGE]]),
   ["wrongTags", [IV, IV]],
+  ["mysqlDecryptValues", [SECRET, [MESSAGE, null], { errors: "null" }]],
+  ["pgcryptoDecryptValues", ["3des", KEY, [MESSAGE], { iv: IV, errors: "null" }]],
+  ["jasyptDecryptValues", [SECRET, ["XFI3GkOHuvaUreHPZLAFn+zx81+pE+jN"], { errors: "null" }]],
+  ["jasyptEncrypt", [SECRET, MESSAGE, { salt: IV }]],
+  ["pbeKey", ["PBEWithMD5AndDES", SECRET, IV, 2, 16]],
 ];
 
 /** Which wrong types an argument may have: another text, a number, or an object of no options; and where it may be left out, none. */
@@ -40,10 +47,12 @@ function allowed(name, word, at) {
   if (typeof word === "number") return (it) => it === 5;
   if (typeof word === "boolean") return (it) => it === undefined || it === true;
   if (Array.isArray(word)) return isNumbers;
+  if (name.endsWith("Values") && Array.isArray(word)) return isEmpty;
+  if (/^(mysql|pgcrypto|jasypt)/.test(name) && isOptional(word)) return isOptions;
   if (["wrapKeyBlock", "openSalted"].includes(name) && at === 3) return isOptions;
   if (name === "cmsWrapKey" && at === 2) return isOptions;
-  const isOptional = /^[A-Z].*mac/i.test(name) && at > 0;
-  return (it) => it === undefined && (isOptional || (name === "emvResponse2" && at === 3));
+  const isMessage = /^[A-Z].*mac/i.test(name) && at > 0;
+  return (it) => it === undefined && (isMessage || (name === "emvResponse2" && at === 3));
 }
 
 /** Of each call its name, arguments that it takes, as many as there are, and for each of them which wrong types it takes too. */

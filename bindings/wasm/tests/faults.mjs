@@ -192,17 +192,17 @@ for (const [Cipher, size] of CIPHERS) {
     }
     // It ends with its cipher, or by itself; the cipher stays.
     for (const closesCipher of [false, true]) {
-      const [held, bits] = [new Cipher(KEY.subarray(0, size)), { iv: IV, segmentSize: 1 }];
-      const stream = mode === "Cfb" ? new library.Cfb(held, bits) : new library[mode](held, named);
+      const [instance, bits] = [new Cipher(KEY.subarray(0, size)), { iv: IV, segmentSize: 1 }];
+      const stream = mode === "Cfb" ? new library.Cfb(instance, bits) : new library[mode](instance, named);
       throwsType(() => stream.encrypt(), "no data");
       throwsType(() => stream.encrypt("text"), "a text");
       throwsType(() => stream.decrypt(IV, IV), "two pieces at once");
       throwsType(() => stream.copy(1), "a copy of something");
-      (closesCipher ? held : stream).close();
+      (closesCipher ? instance : stream).close();
       const closed = [["encrypt", IV], ["decrypt", IV], ...(mode === "Ctr" ? [["seek", 3]] : mode === "Cfb" ? [["encryptBits", IV, 3]] : [])];
       for (const [call, ...words] of closed) throwsFault(() => stream[call](...words), "Closed", "the object was closed");
-      if (closesCipher) throwsFault(() => new library[mode](held, named), "Closed", "the object was closed");
-      else held.encryptEcb(IV);
+      if (closesCipher) throwsFault(() => new library[mode](instance, named), "Closed", "the object was closed");
+      else instance.encryptEcb(IV);
     }
   }
   for (const wrong of [undefined, null, "3", true, IV]) {
@@ -342,6 +342,18 @@ const OF_OPTIONS = [
     text: 'options: the names are "iv" alone',
   },
 ];
+const VALUES = [MESSAGE, null];
+for (const [call, right, ...names] of [
+  [(options) => library.mysqlDecryptValues(SECRET, VALUES, options), { errors: "null" }, "errors"],
+  [(options) => library.pgcryptoDecryptValues("3des", KEY, VALUES, options), { iv: IV, errors: "null" }, "iv", "errors"],
+  [(options) => library.jasyptDecryptValues(SECRET, VALUES, options), { iterations: 2, errors: "null" },
+    "algorithm", "iterations", "errors"],
+  [(options) => library.jasyptEncrypt(SECRET, MESSAGE, options), { iterations: 2, salt: IV }, "algorithm", "iterations", "salt"],
+]) {
+  const listed = names.map((name) => `"${name}"`).join(", ").replace(/, ([^,]*)$/, " and $1");
+  const others = ["error", "vector", "iteration", "hash"];
+  OF_OPTIONS.push({ call, right, others, text: `options: the names are ${listed} alone` });
+}
 assert.equal(declared.match(/\boptions\?: /g).length, OF_OPTIONS.length, "a call with options that is not tested");
 // Fields of a header too: an optional block there would be left out of the key block.
 OF_OPTIONS.push({
@@ -460,10 +472,10 @@ function atTheEnd(call) {
 const wanted = hex(new library.TdesEde3(KEY).encryptEcb(MESSAGE));
 const ends = { RangeError: 0, Closed: 0, right: 0 };
 for (let round = 0; round < 40; round += 1) {
-  let held = new library.TdesEde3(KEY);
+  let instance = new library.TdesEde3(KEY);
   const outcomes = atTheEnd(() => {
     try {
-      return hex(held.encryptEcb(MESSAGE));
+      return hex(instance.encryptEcb(MESSAGE));
     } catch (error) {
       return error;
     }
@@ -473,8 +485,8 @@ for (let round = 0; round < 40; round += 1) {
     assert(isFault || outcome === wanted, `${outcome}`);
     ends[isFault ? outcome.name : "right"] += 1;
   }
-  held = new library.TdesEde3(KEY);
-  is(held.encryptEcb(MESSAGE), wanted);
+  instance = new library.TdesEde3(KEY);
+  is(instance.encryptEcb(MESSAGE), wanted);
 }
 assert(ends.RangeError > 0, "the stack did not end within a call");
 

@@ -31,39 +31,39 @@ function ciphertexts() {
 const EDGES = [1, 2, 31, 32, 33, 127, 128, 129, 300];
 
 function isList(Cipher, key, plain, cipher) {
-  const held = new Cipher(key);
+  const instance = new Cipher(key);
   for (const copies of EDGES) {
     const [from, to] = [unhex(plain.repeat(copies)), unhex(cipher.repeat(copies))];
-    is(held.encryptEcb(from), hex(to));
-    is(held.decryptEcb(to), hex(from));
+    is(instance.encryptEcb(from), hex(to));
+    is(instance.decryptEcb(to), hex(from));
     const keys = new Uint8Array(key.length * (from.length / 8)).map((_, at) => key[at % key.length]);
     is(library.encryptEach(Cipher, keys, from), hex(to));
     is(library.decryptEach(Cipher, keys, to), hex(from));
     assert.equal(hex(library.checkValues(Cipher, keys)), hex(library.checkValue(Cipher, key)).repeat(from.length / 8));
   }
-  held.close();
+  instance.close();
 }
 
 function isChain(Cipher, key, iv, plain, cipher) {
-  const held = new Cipher(key);
+  const instance = new Cipher(key);
   const [from, to] = [unhex(plain), unhex(cipher)];
-  is(held.encryptCbc(from, { iv }), cipher);
-  is(held.decryptCbc(to, { iv }), plain);
+  is(instance.encryptCbc(from, { iv }), cipher);
+  is(instance.decryptCbc(to, { iv }), plain);
   // In two pieces, cut at each block.
   for (let at = 8; at < from.length; at += 8) {
-    const first = held.encryptCbc(from.subarray(0, at), { iv });
-    is(held.encryptCbc(from.subarray(at), { iv: first.subarray(-8) }), cipher.slice(2 * at));
-    is(held.decryptCbc(to.subarray(at), { iv: to.subarray(at - 8, at) }), plain.slice(2 * at));
+    const first = instance.encryptCbc(from.subarray(0, at), { iv });
+    is(instance.encryptCbc(from.subarray(at), { iv: first.subarray(-8) }), cipher.slice(2 * at));
+    is(instance.decryptCbc(to.subarray(at), { iv: to.subarray(at - 8, at) }), plain.slice(2 * at));
   }
   // As many records, between which stands an empty one.
   for (const copies of EDGES) {
     const counts = Array.from({ length: 2 * copies }, (_, at) => (at % 2 === 0 ? from.length / 8 : 0));
     const vectors = unhex(hex(iv).repeat(2 * copies));
-    is(library.encryptCbcRecords(held, unhex(plain.repeat(copies)), { vectors, counts }), cipher.repeat(copies));
+    is(library.encryptCbcRecords(instance, unhex(plain.repeat(copies)), { vectors, counts }), cipher.repeat(copies));
     const named = { vectors, counts: Uint32Array.from(counts) };
-    is(library.decryptCbcRecords(held, unhex(cipher.repeat(copies)), named), plain.repeat(copies));
+    is(library.decryptCbcRecords(instance, unhex(cipher.repeat(copies)), named), plain.repeat(copies));
   }
-  held.close();
+  instance.close();
 }
 
 let lists = 0;

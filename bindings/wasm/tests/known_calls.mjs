@@ -6,7 +6,7 @@ import { knownCalls, run } from "./known.mjs";
 await library.load();
 
 // Calls of which a text is a name, or a header's field, and not data: they take no bytes for it.
-const OF_NAMES = ["pad", "unpad", "pbkdf2", "bytesToKey", "openSalted", "wrapKeyBlock"];
+const OF_NAMES = ["pad", "unpad", "pbkdf2", "bytesToKey", "openSalted", "pbeKey", "wrapKeyBlock"];
 const isPlain = (word) => typeof word !== "string" || /^[\0-\x7f]*$/.test(word);
 const asBytes = (word) => (typeof word === "string" ? Buffer.from(word) : word);
 

@@ -73,10 +73,10 @@ class Browser:
     def command(self, name, **parameters):
         return self.ask("POST", "/goog/cdp/execute", {"cmd": name, "params": parameters})
 
-    def press(self, text, *held):
-        steps = [{"type": "keyDown", "value": key} for key in held]
+    def press(self, text, *modifiers):
+        steps = [{"type": "keyDown", "value": key} for key in modifiers]
         steps += [{"type": way, "value": key} for key in text for way in ("keyDown", "keyUp")]
-        steps += [{"type": "keyUp", "value": key} for key in held]
+        steps += [{"type": "keyUp", "value": key} for key in modifiers]
         self.ask("POST", "/actions", {"actions": [{"type": "key", "id": "keys", "actions": steps}]})
 
     def picture(self, name):
@@ -189,6 +189,7 @@ EXAMPLES = {
                "Version of the block": "B: derived keys", "Optional block KS": "00604B120F9292800000"},
     "wrap": {"Key block": PUBLISHED, "Padding": "as given", "Usage": "P0: encryption of PIN blocks"},
     "blocks": {"Ciphertext": "A826FD8CE53B855FCCE21C8112256FE668D5C05DD9B6B900"},
+    "records": {"Text 1": "4111111111111111", "Text 2": "12345678"},
 }
 
 
@@ -273,6 +274,18 @@ def other_values(browser):
               message="4e6f7720 69732074 68652074 696d6520 666f7220 6974")
     is_answer(browser, "mac", {"MAC": "B7A688E122FFAF95"}, kind="cmac", key=THREE, message="")
     is_answer(browser, "mac", {"MAC": "8E8F293136283797"}, message="6bc1bee22e409f96")
+
+    # By PostgreSQL 15 and Jasypt 1.9.3; and values that can't be read beside one that can.
+    choose(browser, "records")
+    is_answer(browser, "records", {"Text 1": "hello world"}, writer="pgcrypto", key="short key", cipher="3des",
+              values="ce1252c01a55ff49ca7c3db7617f8e96")
+    is_answer(browser, "records", {"Text 1": "hello world"}, key="0123456789abcdef01234567", iv="3132333435363738",
+              values="90aaa5a2 eb3a7490 5ebbd8bc 8355164f")
+    is_answer(browser, "records", {"Text 1": "jdbc password 1", "Text 2": "jdbc password 1"}, writer="jasypt", key="secret", iterations="1000",
+              values="XFI3GkOHuvaUreHPZLAFn+zx81+pE+jN\n\nENC(XFI3GkOHuvaUreHPZLAFn+zx81+pE+jN)")
+    fill(browser, "records", writer="mysql", key="k", values="FF00\nFFF0F19FAD283C9714")
+    same(answers(browser, "records")["Text 2"], "abcdefg", "a value behind one that can't be read")
+    same("MySQL" in answers(browser, "records")["Text 1"], True, "a value that can't be read")
 
     choose(browser, "check")
     is_answer(browser, "check", {"Check value (KCV)": "948A43", "Cipher": "DES", "Parity": "odd in every byte"}, key="133457799bbcdff1")
@@ -498,6 +511,12 @@ def each_fault(browser):
     refuses("blocks", {"data": "An even number"}, iv="0123456789abcdef", data="012")
     refuses("blocks", {"data": EMPTY}, data=" ")
     refuses("blocks", {"iv": EMPTY}, mode="cbc", iv="", data="0123456789abcdef")
+    choose(browser, "records")
+    refuses("records", {"values": EMPTY}, writer="mysql", key="k")
+    refuses("records", {"values": "Line 2: An even number"}, values="FF00\nFF0")
+    refuses("records", {"iterations": "decimal digits"}, writer="jasypt", iterations="1e3", values="x")
+    refuses("records", {"iterations": "not 1 to 2^32 - 1"}, iterations="0")
+    choose(browser, "blocks")
     # What was wrong is forgotten at the next key.
     browser.run("document.getElementById('blocks-iv').focus()")
     browser.press("1")
@@ -555,8 +574,8 @@ def by_keyboard(page):
     same(browser.run("return document.activeElement.getAttribute('aria-label')"), "Copy PIN key", "the button after the answer")
     outline = browser.run("return getComputedStyle(document.activeElement).outlineStyle")
     same(outline, "solid", "the focus is seen")
-    # To the last calculation, and a choice by its first letter.
-    browser.run("document.querySelector('nav li:last-child a').focus()")
+    # To a calculation further down, and a choice by its first letter.
+    browser.run("""document.querySelector("nav a[href='#blocks']").focus()""")
     browser.press(ENTER)
     becomes(browser, "return document.activeElement.id", "blocks-title", "the title after a choice by keyboard")
     browser.press(TAB + "D" + TAB + TAB + "133457799bbcdff1" + TAB + "85e813540f0ab405")

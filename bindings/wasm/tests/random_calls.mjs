@@ -102,14 +102,14 @@ function stream() {
 
 function keyWrap() {
   const protection = key(one([16, 24]));
-  const held = bytes(one([8, 8, 16, 24, 32, random(40)]));
+  const plainKey = bytes(one([8, 8, 16, 24, 32, random(40)]));
   const random_ = random(4);
-  if (random_ === 0) return ["cmsWrapKey", protection, held, { iv: vector() }];
-  if (random_ === 1) return ["tkwWrapKey", protection, held];
+  if (random_ === 0) return ["cmsWrapKey", protection, plainKey, { iv: vector() }];
+  if (random_ === 1) return ["tkwWrapKey", protection, plainKey];
   const [wrap, call] = random_ === 2
-    ? [() => library.cmsWrapKey(protection, held, { iv: bytes(8) }), "cmsUnwrapKey"]
-    : [() => library.tkwWrapKey(protection, held), "tkwUnwrapKey"];
-  const isRight = [16, 24].includes(protection.length) && held.length > 0 && held.length % 8 === 0;
+    ? [() => library.cmsWrapKey(protection, plainKey, { iv: bytes(8) }), "cmsUnwrapKey"]
+    : [() => library.tkwWrapKey(protection, plainKey), "tkwUnwrapKey"];
+  const isRight = [16, 24].includes(protection.length) && plainKey.length > 0 && plainKey.length % 8 === 0;
   const wrapped = isRight ? wrap() : bytes(random(60));
   const changed = () => wrapped.map((byte, at) => (at === 3 ? byte ^ 1 : byte));
   return [call, often(() => protection, () => key(24)), often(() => wrapped, changed)];
@@ -230,10 +230,10 @@ function pvvVerify() {
 const table = () => ({ table: one(["0123456789012345", "8351296477461538", `98765432${digits(8, 8)}`]) });
 
 function offsetVerify() {
-  const held = table();
-  const words = [bytes(one([8, 16, 24])), held, bytes(8)];
+  const decimals = table();
+  const words = [bytes(one([8, 16, 24])), decimals, bytes(8)];
   const pinOf = digits(4, 12);
-  const offset = library.pinOffset(words[0], new library.DecimalTable(held.table), words[2], pinOf);
+  const offset = library.pinOffset(words[0], new library.DecimalTable(decimals.table), words[2], pinOf);
   return ["pinOffsetVerify", ...words, often(() => pinOf, pin), often(() => offset, pin)];
 }
 
@@ -275,10 +275,10 @@ function keyBlock() {
 }
 
 function wrapKeyBlock() {
-  const held = key(one([8, 16, 24]));
-  const size = Math.max(0, 30 - held.length - 8 * random(2));
+  const plainKey = key(one([8, 16, 24]));
+  const size = Math.max(0, 30 - plainKey.length - 8 * random(2));
   const options = { optional: optionalBlocks(), padding: often(() => bytes(size), () => bytes(random(32))) };
-  return ["wrapKeyBlock", key(one([16, 24])), header(), held, options];
+  return ["wrapKeyBlock", key(one([16, 24])), header(), plainKey, options];
 }
 
 // OpenSSL's function takes eight bytes of salt, or none.
@@ -294,11 +294,63 @@ function openSalted() {
   return ["openSalted", { class: name }, bytes(random(70)), Uint8Array.from(cut), by];
 }
 
+// A column of values, mostly right ones, of which some are none.
+const column = (value) => times(random(6), () => often(() => one([value(), value(), value(), null]), () => bytes(random(30))));
+const password = () => bytes(random(40));
+
+/** What DES_ENCRYPT of MySQL writes. */
+function mysqlValue(by) {
+  const text = bytes(random(30));
+  const missing = 8 - (text.length % 8);
+  const padded = joined([text, new Uint8Array(missing - 1).fill(42), [missing]]);
+  const cipher = new library.TdesEde3(library.bytesToKey("md5", by, new Uint8Array(), 24));
+  return joined([[128 + random(128)], cipher.encryptCbc(padded, { iv: new Uint8Array(8) })]);
+}
+
+function mysqlColumn() {
+  const by = password();
+  return ["mysqlDecryptValues", by, column(() => mysqlValue(one([by, by, by, password()])))];
+}
+
+/** What pgcrypto writes by 3des. */
+function pgcryptoValue(keyBytes, iv) {
+  const filled = (given_, size) => Uint8Array.from({ length: size }, (_, at) => given_[at] ?? 0);
+  return new library.TdesEde3(filled(keyBytes, 24)).encryptCbc(library.pad(bytes(random(30)), "pkcs7"), { iv: filled(iv, 8) });
+}
+
+function pgcryptoColumn() {
+  const [keyBytes, iv] = [bytes(random(34)), bytes(one([0, 8, random(12)]))];
+  const names = ["3des", "3DES-CBC", "des", "3des-ecb", "des-ecb/pad:none", "3des/pad:pkcs"];
+  const cipher = often(() => one(names), () => one(["aes", "", "des3"]));
+  return ["pgcryptoDecryptValues", cipher, keyBytes, column(() => pgcryptoValue(keyBytes, iv)), { iv }];
+}
+
+const ALGORITHMS = { PBEWithMD5AndDES: 16, PBEWithMD5AndTripleDES: 32, PBEWithSHA1AndDESede: 32 };
+
+function jasyptColumn() {
+  const [[algorithm], by, count_] = [entry(ALGORITHMS), Buffer.from(digits(0, 12)), 1 + random(9)];
+  const string = () => {
+    const made = library.jasyptEncrypt(by, bytes(random(30)), { algorithm, iterations: count_, salt: bytes(8) });
+    const others = [made.slice(0, random(40)), made.replace(/.$/, () => one([...ODD_CHARACTERS, "=", "A"]))];
+    return one([made, `ENC(${made})`, Buffer.from(made), ...others]);
+  };
+  const options = { algorithm: often(() => algorithm, () => "PBEWithSHA1AndDES"), iterations: often(() => count_, iterations) };
+  return ["jasyptDecryptValues", Uint8Array.from(by), times(random(6), () => one([string(), string(), string(), null])), options];
+}
+
+function pbeKey() {
+  const [algorithm, size] = entry({ ...ALGORITHMS, PBEWithSHA1AndDES: 16, "pbeWithSHAAnd2-KeyTripleDES-CBC": 24 });
+  const by = Uint8Array.from(Buffer.from(digits(0, 20)));
+  const length = often(() => size, () => random(40));
+  return ["pbeKey", often(() => algorithm, () => "PBES2"), by, bytes(one([8, 8, 8, random(20)])), iterations(), length];
+}
+
 // The calls of a key of any size, and nothing else.
 const OF_A_KEY = Object.keys(library).filter((name) => /^function \w+\(key, \.\.\.more\)/.test(library[name]));
 
 const KINDS = [
   ...[keyBlock, wrapKeyBlock, openSalted],
+  ...[mysqlColumn, pgcryptoColumn, jasyptColumn, pbeKey],
   () => ["pbkdf2", hashName(), bytes(random(70)), bytes(random(40)), iterations(), often(() => 1 + random(70), () => 0)],
   () => ["bytesToKey", often(() => one(["md5", "sha1", "sha256"]), () => "md4"), bytes(random(70)), salt(), 1 + random(70)],
   ...[translate, pvvVerify, offsetVerify],
@@ -338,8 +390,8 @@ function given(word) {
   if (word?.class !== undefined) return library[word.class];
   if (word?.table !== undefined) return new library.DecimalTable(word.table);
   if (word?.cipher === undefined) return word;
-  const [name, held] = word.cipher;
-  return new library[name](held);
+  const [name, keyBytes] = word.cipher;
+  return new library[name](keyBytes);
 }
 
 /** What a MAC gives: its tag, and whether it accepts the first bytes of it, by each call, and another one. */
@@ -377,8 +429,8 @@ function answerOf([name, ...words]) {
   if (name.startsWith("Stream.")) return streamOf(name.split(".")[1], ...words);
   const [first, call] = name.split(".");
   if (call === undefined) return library[first](...words.map(given));
-  const [held, ...others] = words;
-  return new library[first](held)[call](...others);
+  const [keyBytes, ...others] = words;
+  return new library[first](keyBytes)[call](...others);
 }
 
 const written = (word) => {

@@ -1,6 +1,6 @@
 // stack.mjs FOLDER: each export that the wrapper calls on a stack that was overwritten before, at lengths that take
-// every way: it uses far less than there is; and each export of the module but those of other ways to the same answers
-// is called.
+// every code path: it uses far less than there is; and each export of the module is called, but those of other paths to the same
+// answers, and those that the wrapper does not have.
 import assert from "node:assert/strict";
 import { readFileSync } from "node:fs";
 import { exportsOf, library, moduleFile } from "./common.mjs";
@@ -87,6 +87,15 @@ for (const optional of [[], Array(98).fill(["KS", ""]), [["CT", "x".repeat(9800)
   library.keyBlockContext(block);
   library.keyBlockOptionalBlocks(block);
 }
+const BY_NULL = { errors: "null" };
+const ALGORITHMS = ["PBEWithMD5AndDES", "PBEWithMD5AndTripleDES", "PBEWithSHA1AndDESede"];
+for (const count of [0, 1, 31, 128, 129, 300]) {
+  const values = (...first) => Array.from({ length: count }, () => Uint8Array.of(...first, ...of(24)));
+  library.mysqlDecryptValues(of(20), values(255), BY_NULL);
+  for (const cipher of ["3des", "des-ecb/pad:none"]) library.pgcryptoDecryptValues(cipher, of(24), values(), BY_NULL);
+  const string = Buffer.from(of(8 + 8 * count)).toString("base64");
+  for (const algorithm of ALGORITHMS) library.jasyptDecryptValues(of(20), [string], { algorithm, iterations: 3, ...BY_NULL });
+}
 library.pbkdf2("sha256", of(100), of(100), 2, 100);
 library.bytesToKey("sha256", of(100), of(8), 100);
 const file = Uint8Array.from([...Buffer.from("Salted__"), ...of(8 * 300)]);
@@ -102,8 +111,8 @@ for (const Cipher of [library.Des, library.TdesEde2, library.TdesEde3]) {
   }
 }
 
-// Exports that give answers which others give, from one buffer to another; and one that C alone has.
-const isOther = (name) => /_(encrypt|decrypt)_(ecb|cbc)_to$|_stream_position$/.test(name);
+// Exports that give answers which others give, from one buffer to another; and those that the wrapper does not have.
+const isOther = (name) => /_(encrypt|decrypt)_(ecb|cbc)_to$|_stream_position$|_values_by_file$|_encrypt_values$/.test(name);
 const module = new WebAssembly.Module(readFileSync(moduleFile));
 assert.deepEqual(WebAssembly.Module.imports(module), []);
 const exported = WebAssembly.Module.exports(module).filter(({ kind }) => kind === "function").map(({ name }) => name);

@@ -55,9 +55,9 @@ function byNode(key, [mode, size], vector, data, encrypts) {
     let register = Buffer.from(vector).readBigUInt64BE();
     for (let at = 0; at < 8 * data.length; at += 1) {
       const given = (data[at >> 3] >> (7 - (at & 7))) & 1;
-      const held = Buffer.alloc(8);
-      held.writeBigUInt64BE(register);
-      const answer = given ^ (block(held)[0] >> 7);
+      const input = Buffer.alloc(8);
+      input.writeBigUInt64BE(register);
+      const answer = given ^ (block(input)[0] >> 7);
       made[at >> 3] = (made[at >> 3] & ~(0x80 >> (at & 7))) | (answer << (7 - (at & 7)));
       register = BigInt.asUintN(64, (register << 1n) | BigInt(encrypts ? answer : given));
     }

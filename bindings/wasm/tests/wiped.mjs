@@ -70,12 +70,12 @@ for (const [Class, digits, ...words] of MADE) {
   const context = written;
   assert(context.length >= 16 * 17 && !/^0+$/.test(context));
   assert.deepEqual(holding(digits), [], `the key of ${Class.name} is kept`);
-  const held = holding(context);
-  assert.equal(held.length, 1, `the context of ${Class.name} is in ${held.length} buffers`);
-  assert.notEqual(held[0], memory.buffer, `the context of ${Class.name} is left in the module's memory`);
+  const found = holding(context);
+  assert.equal(found.length, 1, `the context of ${Class.name} is in ${found.length} buffers`);
+  assert.notEqual(found[0], memory.buffer, `the context of ${Class.name} is left in the module's memory`);
   const copy = object.copy?.();
   object.close();
-  assert.match(hex(new Uint8Array(held[0])), /^0*$/, `close of ${Class.name} does not wipe`);
+  assert.match(hex(new Uint8Array(found[0])), /^0*$/, `close of ${Class.name} does not wipe`);
   copy?.close();
   assert.deepEqual(holding(context), [], `a context of ${Class.name} is left after close`);
 }

@@ -937,6 +937,93 @@ extern "C" {
         capacity: usize,
         plain_length: *mut usize,
     ) -> c_int;
+    pub fn cukvashe_mysql_decrypt_values(
+        password: *const u8,
+        password_length: usize,
+        values: *const u8,
+        length: usize,
+        lengths: *const usize,
+        values_count: usize,
+        texts: *mut u8,
+        text_lengths: *mut usize,
+        statuses: *mut c_int,
+    ) -> c_int;
+    pub fn cukvashe_mysql_decrypt_values_by_file(
+        keys: *const u8,
+        keys_length: usize,
+        values: *const u8,
+        length: usize,
+        lengths: *const usize,
+        values_count: usize,
+        texts: *mut u8,
+        text_lengths: *mut usize,
+        statuses: *mut c_int,
+    ) -> c_int;
+    pub fn cukvashe_pgcrypto_decrypt_values(
+        algorithm: *const c_char,
+        algorithm_length: usize,
+        key: *const u8,
+        key_length: usize,
+        iv: *const u8,
+        iv_length: usize,
+        values: *const u8,
+        length: usize,
+        lengths: *const usize,
+        values_count: usize,
+        texts: *mut u8,
+        text_lengths: *mut usize,
+        statuses: *mut c_int,
+    ) -> c_int;
+    pub fn cukvashe_mysql_encrypt_values(
+        password: *const u8,
+        password_length: usize,
+        number: usize,
+        texts: *const u8,
+        length: usize,
+        lengths: *const usize,
+        texts_count: usize,
+        values: *mut u8,
+        values_length: usize,
+    ) -> c_int;
+    pub fn cukvashe_pgcrypto_encrypt_values(
+        algorithm: *const c_char,
+        algorithm_length: usize,
+        key: *const u8,
+        key_length: usize,
+        iv: *const u8,
+        iv_length: usize,
+        texts: *const u8,
+        length: usize,
+        lengths: *const usize,
+        texts_count: usize,
+        values: *mut u8,
+        values_length: usize,
+    ) -> c_int;
+    pub fn cukvashe_pbe_key(
+        algorithm: *const c_char,
+        algorithm_length: usize,
+        iterations: usize,
+        password: *const u8,
+        password_length: usize,
+        salt: *const u8,
+        salt_length: usize,
+        key: *mut u8,
+        key_length: usize,
+    ) -> c_int;
+    pub fn cukvashe_jasypt_decrypt_values(
+        algorithm: *const c_char,
+        algorithm_length: usize,
+        iterations: usize,
+        password: *const u8,
+        password_length: usize,
+        values: *const u8,
+        length: usize,
+        lengths: *const usize,
+        values_count: usize,
+        texts: *mut u8,
+        text_lengths: *mut usize,
+        statuses: *mut c_int,
+    ) -> c_int;
     pub fn cukvashe_des_size() -> usize;
     pub fn cukvashe_tdes_ede2_size() -> usize;
     pub fn cukvashe_tdes_ede3_size() -> usize;

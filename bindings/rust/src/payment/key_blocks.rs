@@ -31,8 +31,8 @@ use core::fmt;
 pub enum KeyBlockError {
     /// The protection key does not have 16 or 24 bytes.
     ProtectionKeyLength,
-    /// The block is not as long as its header says, or has fewer than 16 characters or more than 9999; or there is no room for the
-    /// block that is to be made.
+    /// The block is not as long as its header says, or has fewer than 16 characters or more than 9999; or the buffer is too
+    /// small for the block that is to be made.
     Length,
     /// The version is none of `A`, `B` and `C`; or a block of another than `B` and `C` is to be made.
     Version,
@@ -275,7 +275,7 @@ pub fn wrap(
 ) -> Result<usize, KeyBlockError> {
     let mut blocks = [0; MOST_OPTIONAL];
     let count = write_blocks(optional, &mut blocks)?;
-    // With room for the zero byte that the library writes after a block.
+    // With space for the zero byte that the library writes after a block.
     let (mut made, mut size) = ([0; MOST + 1], 0);
     let parts = ffi::KeyBlockParts {
         protection: protection.as_ptr(),

@@ -78,7 +78,7 @@ impl Pin {
         Ok(pin)
     }
 
-    /// Room for a PIN.
+    /// A PIN for a call to write.
     pub(super) fn empty() -> Pin {
         Pin { text: [0; 13] }
     }

@@ -36,7 +36,7 @@ impl Terminal {
         terminal
     }
 
-    /// Room for a state.
+    /// A terminal for a call to write.
     fn empty() -> Terminal {
         Terminal { state: ffi::DukptTerminal { serial: [0; 10], keys: [[0; 16]; 21] } }
     }

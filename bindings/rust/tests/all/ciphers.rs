@@ -185,14 +185,14 @@ fn refuses_two_lengths<C: BlockCipher>(cipher: &C) {
     for (from, to) in
         [(8, 0), (0, 8), (16, 8), (8, 16), (2400, 8), (8, 2400), (1032, 1024), (1024, 1032), (8, 7), (7, 8)]
     {
-        let (input, mut room, mut iv) = (vec![0x11; from], vec![0x5a; 4800], CHAIN_IV);
+        let (input, mut output, mut iv) = (vec![0x11; from], vec![0x5a; 4800], CHAIN_IV);
         for call in single {
-            assert_eq!(call(cipher, &input, &mut room[..to]), Err(DataError::LengthsDiffer));
+            assert_eq!(call(cipher, &input, &mut output[..to]), Err(DataError::LengthsDiffer));
         }
         for call in chained {
-            assert_eq!(call(cipher, &mut iv, &input, &mut room[..to]), Err(DataError::LengthsDiffer));
+            assert_eq!(call(cipher, &mut iv, &input, &mut output[..to]), Err(DataError::LengthsDiffer));
         }
-        assert_eq!((iv, room), (CHAIN_IV, vec![0x5a; 4800]));
+        assert_eq!((iv, output), (CHAIN_IV, vec![0x5a; 4800]));
     }
 }
 

@@ -1,18 +1,18 @@
-//! Key blocks: the room for them, what is made and read again, and the most of it; known ones and faults are in bindings/known_calls.txt.
+//! Key blocks: their buffers, what is made and read again, and the most of it; known ones and faults are in bindings/known_calls.txt.
 
 use cukvashe_des::payment::key_blocks::*;
 
 const PIN: Header =
     Header { version: b'B', usage: *b"P0", algorithm: b'T', mode: b'E', key_version: *b"00", exportability: b'E' };
 
-/// A block in room for it alone; in less nothing is written.
+/// A block in a buffer of its length; in a smaller one nothing is written.
 #[test]
-fn blocks_need_room() {
+fn blocks_need_capacity() {
     let (mut exact, mut short) = ([0x77; 96], [0x77; 95]);
     assert_eq!(wrap(&[0x31; 16], &PIN, &[], &[0x5b; 16], &[0xaa; 14], &mut exact), Ok(96));
     assert_eq!(unwrap(&[0x31; 16], &exact).unwrap().1.bytes(), [0x5b; 16]);
-    for room in [0, 1, 95] {
-        let made = wrap(&[0x31; 16], &PIN, &[], &[0x5b; 16], &[0xaa; 14], &mut short[..room]);
+    for capacity in [0, 1, 95] {
+        let made = wrap(&[0x31; 16], &PIN, &[], &[0x5b; 16], &[0xaa; 14], &mut short[..capacity]);
         assert_eq!((made, short), (Err(KeyBlockError::Length), [0x77; 95]));
     }
 }

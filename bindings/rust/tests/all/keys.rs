@@ -42,12 +42,12 @@ fn padding_comes_and_goes() {
         for length in LENGTHS.chain([1023, 1024, 4800]) {
             let data: Vec<u8> = (0..length).map(|at| (at % 255) as u8).collect();
             let expected = padded(&data, method);
-            for room in 0..16 {
+            for space in 0..16 {
                 let mut buffer = data.clone();
-                buffer.resize(length + room, 0x5a);
+                buffer.resize(length + space, 0x5a);
                 let before = buffer.clone();
-                if length + room < expected.len() {
-                    assert_eq!(pad(&mut buffer, length, method), Err(NoRoom));
+                if length + space < expected.len() {
+                    assert_eq!(pad(&mut buffer, length, method), Err(BufferTooSmall));
                     assert_eq!(buffer, before);
                 } else {
                     assert_eq!(pad(&mut buffer, length, method), Ok(&mut expected.clone()[..]));
@@ -57,7 +57,7 @@ fn padding_comes_and_goes() {
             assert_eq!(unpad(&expected, method), Ok(&data[..]));
         }
         for length in [9, 16, 17, usize::MAX - 7, usize::MAX] {
-            assert_eq!(pad(&mut [0x5a; 8], length, method), Err(NoRoom));
+            assert_eq!(pad(&mut [0x5a; 8], length, method), Err(BufferTooSmall));
         }
     }
 }

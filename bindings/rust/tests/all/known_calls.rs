@@ -1,6 +1,7 @@
 //! The calls of bindings/known_calls.txt, which says what its lines are, but for those that the types of the arguments leave no place for.
 
 use crate::common::{bytes_of, known_calls};
+use cukvashe_des::columns::Pbe;
 use cukvashe_des::key_wrap::{cms_unwrap, cms_wrap, tkw_unwrap, tkw_wrap, UnwrapError};
 use cukvashe_des::padding::{pad, unpad, Method};
 use cukvashe_des::passwords::Derivation;
@@ -365,6 +366,18 @@ fn made(name: &str, given: &Given) -> Option<Made> {
             let derivation = derivation(given.last(0), None)?;
             written(given.at(3)?, |key| derivation.write_bytes(given.last(1), given.last(2), key).map(|()| key.len()))?
         }
+        "pbe_key" => {
+            let by = match given.last(0) {
+                b"PBEWithMD5AndDES" => Pbe::Md5AndDes,
+                b"PBEWithSHA1AndDES" => Pbe::Sha1AndDes,
+                b"PBEWithMD5AndTripleDES" => Pbe::Md5AndTripleDes,
+                b"PBEWithSHA1AndDESede" => Pbe::Sha1AndDesEde,
+                b"pbeWithSHAAnd2-KeyTripleDES-CBC" => Pbe::ShaAnd2KeyTripleDes,
+                _ => return None,
+            };
+            let count = given.at(3)?;
+            written(given.at(4)?, |key| by.write_bytes(count, given.last(1), given.last(2), key).map(|()| key.len()))?
+        }
         "open_salted" => {
             let iterations = given.named.get("iterations").map(|count| number(count).ok_or(()));
             let derivation = derivation(given.named("hash_name").unwrap_or(b"sha256"), iterations.transpose().ok()?)?;
@@ -425,14 +438,17 @@ fn of_a_cipher(name: &str, given: &Given) -> Option<Made> {
 }
 
 /// What is written into a buffer that is longer, or long enough, of which nothing else is; of a short one no error is expected.
-fn written<E: Error + Send + Sync>(room: usize, writes: impl FnOnce(&mut [u8]) -> Result<usize, E>) -> Option<Made> {
-    let mut buffer = vec![0x77; Some(room).filter(|room| (1..=300).contains(room))?];
+fn written<E: Error + Send + Sync>(
+    capacity: usize,
+    writes: impl FnOnce(&mut [u8]) -> Result<usize, E>,
+) -> Option<Made> {
+    let mut buffer = vec![0x77; Some(capacity).filter(|capacity| (1..=300).contains(capacity))?];
     let made = writes(&mut buffer);
     assert!(buffer[*made.as_ref().unwrap_or(&0)..].iter().all(|byte| *byte == 0x77));
     Some(made.map(|count| buffer[..count].to_vec()).made())
 }
 
-/// The same of a key of so many bytes: zeros stand where a refused one would.
+/// The same of a key of `size` bytes: zeros stand where a refused one would.
 fn unwrapped(size: usize, unwrap: impl FnOnce(&mut [u8]) -> Result<usize, UnwrapError>) -> Option<Made> {
     written(200, |key| {
         let made = unwrap(key);
@@ -483,7 +499,7 @@ fn wrapped(given: &Given) -> Option<Made> {
 }
 
 /// The beginnings of sentences that are others here, since the crate's errors are of fewer calls and tell no length.
-const OTHERS: [(&str, &[&str]); 9] = [
+const OTHERS: [(&str, &[&str]); 10] = [
     (
         "a key has ",
         &["the key does not have 8, 16 or 24 bytes", "a key does not have 8, 16 or 24 bytes", INVALID_LENGTH],
@@ -491,11 +507,12 @@ const OTHERS: [(&str, &[&str]); 9] = [
     ("the account number does not have ", &["the account number does not have 8 to 19 digits", TO_19]),
     ("the weak key test refuses", &["the key is weak, or two of its parts are one key"]),
     ("the version of the key block", &["the version of the key block is not one that the call takes"]),
-    ("the key does not have a length", &["the key does not have 8, 16 or 24 bytes"]),
+    ("the key does not have a length", &["the key does not have 8, 16 or 24 bytes", INVALID_LENGTH]),
     ("the number of iterations is not", &["the number of iterations is 0"]),
     ("the length is not a multiple", &["the key does not have a length that is wrapped"]),
     ("the salt of bytes_to_key", &["the salt does not have 0 or 8 bytes"]),
     ("the bytes end within the salt", &["the bytes end within the salt"]),
+    ("by this algorithm a salt has", &["the salt does not have 8 bytes"]),
 ];
 const INVALID_LENGTH: &str = "the key does not have a length that the call takes";
 const TO_19: &str = "the account number does not have 12 to 19 digits";

@@ -35,7 +35,7 @@ fn lists_answer<C: BlockCipher + CheckValue + KeyForEach<Key = [u8; SIZE]>, cons
     }
 }
 
-/// So many blocks and values, which differ in number from the keys, are refused, and stay.
+/// `count` blocks and values, if the keys have another number, are refused, and stay.
 fn refuses<C: CheckValue + KeyForEach<Key = [u8; SIZE]>, const SIZE: usize>(keys: &[[u8; SIZE]], count: usize) {
     let (mut blocks, mut values) = (some::<8>(count, 3), some::<3>(count, 3));
     assert_eq!(C::encrypt_each(keys, &mut blocks), Err(CountsDiffer));
@@ -105,7 +105,7 @@ fn records_answer<C: BlockCipher>(size: usize) {
     }
 }
 
-/// Counts that do not agree with so many vectors or blocks are refused, and both stay.
+/// Counts that do not agree with the numbers of vectors or blocks are refused, and both stay.
 fn refuses_records<C: BlockCipher>(cipher: &C, vectors: usize, counts: &[usize], blocks: usize) {
     let (mut left, mut changed) = (some::<8>(vectors, 1), some::<8>(blocks, 77));
     assert_eq!(cipher.encrypt_cbc_records(&mut left, counts, &mut changed), Err(CountsDiffer));

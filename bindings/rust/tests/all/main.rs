@@ -1,6 +1,7 @@
 //! Tests of the crate by its public calls, in one program, which links once.
 
 mod ciphers;
+mod columns;
 mod common;
 mod key_blocks;
 mod key_wraps;

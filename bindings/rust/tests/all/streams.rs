@@ -80,29 +80,31 @@ impl Random {
 enum Any<C> {
     Ctr(Ctr<C>),
     Ofb(Ofb<C>),
-    Cfb(Cfb<C>),
-    Apart(C, Stream),
+    CfbEncryptor(CfbEncryptor<C>),
+    CfbDecryptor(CfbDecryptor<C>),
+    Apart(C, Stream, bool),
 }
 
 impl<C: BlockCipher> Any<C> {
-    fn new(cipher: C, mode: Mode, iv: &Block, is_apart: bool) -> Self {
+    fn new(cipher: C, mode: Mode, iv: &Block, is_apart: bool, encrypts: bool) -> Self {
         match mode {
-            _ if is_apart => Any::Apart(cipher, Stream::new(mode, iv)),
+            _ if is_apart => Any::Apart(cipher, Stream::new(mode, iv), encrypts),
             Mode::Ctr => Any::Ctr(Ctr::new(cipher, iv)),
             Mode::Ofb => Any::Ofb(Ofb::new(cipher, iv)),
-            Mode::Cfb(segment) => Any::Cfb(Cfb::new(cipher, iv, segment)),
+            Mode::Cfb(segment) if encrypts => Any::CfbEncryptor(CfbEncryptor::new(cipher, iv, segment)),
+            Mode::Cfb(segment) => Any::CfbDecryptor(CfbDecryptor::new(cipher, iv, segment)),
             mode => panic!("{mode:?}"),
         }
     }
 
-    fn apply(&mut self, data: &mut [u8], encrypts: bool) {
+    fn apply(&mut self, data: &mut [u8]) {
         match self {
             Any::Ctr(ctr) => ctr.apply_keystream(data),
             Any::Ofb(ofb) => ofb.apply_keystream(data),
-            Any::Cfb(cfb) if encrypts => cfb.encrypt(data),
-            Any::Cfb(cfb) => cfb.decrypt(data),
-            Any::Apart(cipher, stream) if encrypts => cipher.encrypt_stream(stream, data),
-            Any::Apart(cipher, stream) => cipher.decrypt_stream(stream, data),
+            Any::CfbEncryptor(cfb) => cfb.encrypt(data),
+            Any::CfbDecryptor(cfb) => cfb.decrypt(data),
+            Any::Apart(cipher, stream, true) => cipher.encrypt_stream(stream, data),
+            Any::Apart(cipher, stream, false) => cipher.decrypt_stream(stream, data),
         }
     }
 }
@@ -138,12 +140,12 @@ fn random_texts_are_as_defined() {
                 cipher.decrypt_mode(mode.0, &iv, &mut answer);
             }
         } else {
-            let mut stream = Any::new(cipher.clone(), mode.0, &iv, number % 3 == 1);
+            let mut stream = Any::new(cipher.clone(), mode.0, &iv, number % 3 == 1, encrypts);
             let mut rest = &mut answer[..];
             while !rest.is_empty() {
                 let at = random.below(rest.len() + 1);
                 let (piece, others) = rest.split_at_mut(at);
-                stream.apply(piece, encrypts);
+                stream.apply(piece);
                 rest = others;
             }
         }
@@ -197,27 +199,30 @@ fn bits_are_those_of_the_whole() {
     let (plain, answer) = (bits_of(&TEXT[..5]), bits_of(&answer));
     for cut in 0..=40 {
         for (given, wanted, encrypts) in [(&plain, &answer, true), (&answer, &plain, false)] {
-            let mut cfb = Cfb::new(cipher.clone(), &IV, Segment::Bits1);
+            let mut encryptor = CfbEncryptor::new(cipher.clone(), &IV, Segment::Bits1);
+            let mut decryptor = CfbDecryptor::new(cipher.clone(), &IV, Segment::Bits1);
             for (given, wanted) in [(&given[..cut], &wanted[..cut]), (&given[cut..], &wanted[cut..])] {
                 let mut data = bytes_of(given);
                 let made = if encrypts {
-                    cfb.encrypt_bits(&mut data, given.len())
+                    encryptor.encrypt_bits(&mut data, given.len())
                 } else {
-                    cfb.decrypt_bits(&mut data, given.len())
+                    decryptor.decrypt_bits(&mut data, given.len())
                 };
                 assert_eq!((made, &data), (Ok(()), &bytes_of(wanted)));
             }
         }
     }
     for (segment, bits) in SEGMENTS {
-        let (mut data, mut cfb) = ([9; 3], Cfb::new(cipher.clone(), &IV, segment));
+        let mut data = [9; 3];
+        let mut encryptor = CfbEncryptor::new(cipher.clone(), &IV, segment);
+        let mut decryptor = CfbDecryptor::new(cipher.clone(), &IV, segment);
         let wrong = if bits == 1 { Ok(()) } else { Err(BitsError::Segment) };
         for count in [25, 32, usize::MAX] {
-            assert_eq!(cfb.encrypt_bits(&mut data, count), Err(BitsError::TooFew));
-            assert_eq!(cfb.decrypt_bits(&mut data, count), Err(BitsError::TooFew));
+            assert_eq!(encryptor.encrypt_bits(&mut data, count), Err(BitsError::TooFew));
+            assert_eq!(decryptor.decrypt_bits(&mut data, count), Err(BitsError::TooFew));
         }
         assert_eq!(data, [9; 3]);
-        assert_eq!((cfb.encrypt_bits(&mut data, 24), data == [9; 3]), (wrong, bits != 1));
+        assert_eq!((encryptor.encrypt_bits(&mut data, 24), data == [9; 3]), (wrong, bits != 1));
     }
     for mode in [Mode::Ctr, Mode::Ofb] {
         assert_eq!(cipher.encrypt_stream_bits(&mut Stream::new(mode, &IV), &mut [9; 3], 3), Err(BitsError::Segment));

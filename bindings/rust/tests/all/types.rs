@@ -1,12 +1,13 @@
 //! What the types are, beside what they answer: shared by threads, wiped, and shown by no text; errors that are sentences.
 
 use crate::common::*;
+use cukvashe_des::columns::{ColumnError, PbeError, ValueError};
 use cukvashe_des::key_wrap::{UnwrapError, WrapError};
 use cukvashe_des::mac::*;
-use cukvashe_des::padding::{NoRoom, UnpadError};
+use cukvashe_des::padding::{BufferTooSmall, UnpadError};
 use cukvashe_des::passwords::{DeriveError, OpenError};
 use cukvashe_des::payment::*;
-use cukvashe_des::stream::{BitsError, Cfb, Ctr, Mode, Ofb, Segment, Stream};
+use cukvashe_des::stream::{BitsError, CfbDecryptor, CfbEncryptor, Ctr, Mode, Ofb, Segment, Stream};
 use cukvashe_des::*;
 use std::error::Error;
 use std::fmt::Debug;
@@ -30,7 +31,8 @@ macro_rules! each_secret {
         $call!(Pin, Pin::new(b"123456789012").unwrap());
         $call!(Stream, Stream::new(Mode::Ofb, &[7; 8]));
         $call!(Ofb, Ofb::new(TdesEde3::new(&KEY), &[7; 8]));
-        $call!(Cfb, Cfb::new(TdesEde3::new(&KEY), &[7; 8], Segment::Bits8));
+        $call!(CfbEncryptor, CfbEncryptor::new(TdesEde3::new(&KEY), &[7; 8], Segment::Bits8));
+        $call!(CfbDecryptor, CfbDecryptor::new(TdesEde3::new(&KEY), &[7; 8], Segment::Bits8));
     };
 }
 
@@ -238,7 +240,8 @@ fn secrets_have_no_equality() {
     <Stream as Without<_>>::answer();
     <Ctr<Des> as Without<_>>::answer();
     <Ofb<Des> as Without<_>>::answer();
-    <Cfb<Des> as Without<_>>::answer();
+    <CfbEncryptor<Des> as Without<_>>::answer();
+    <CfbDecryptor<Des> as Without<_>>::answer();
 }
 
 /// The Rust files below a folder of the crate.
@@ -266,14 +269,14 @@ fn enums_may_grow() {
 /// Those that no known call has, or has in words that other errors have too.
 #[test]
 fn errors_are_sentences() {
-    let errors: [(&(dyn Error + Send + Sync), &str); 23] = [
+    let errors: [(&(dyn Error + Send + Sync), &str); 29] = [
         (&InvalidLength, "the key does not have a length that the call takes"),
         (&DataError::NotBlocks, "the data are not whole blocks of 8 bytes"),
         (&DataError::LengthsDiffer, "input and output differ in length"),
         (&CountsDiffer, "the numbers of elements do not agree: a count, or a sum of counts, and a length"),
         (&KeyTestError::InvalidLength, "the key does not have 8, 16 or 24 bytes"),
         (&MacError, "the tag is not that of the message"),
-        (&NoRoom, "the buffer has no room for the padding"),
+        (&BufferTooSmall, "the buffer is too small for the padding"),
         (&UnpadError::NotBlocks, "the data are not whole blocks of 8 bytes"),
         (&PinError::AccountLength, "the account number does not have 8 to 19 digits"),
         (&CvvError::AccountLength, "the account number does not have 12 to 19 digits"),
@@ -284,12 +287,18 @@ fn errors_are_sentences() {
         (&EmvError::AccountLength, "the account number does not have 8 to 19 digits"),
         (&DeriveError::KeyLength, "the key is longer than 2^32 - 1 digests"),
         (&OpenError::NotBlocks, "what is encrypted is not whole blocks of 8 bytes"),
-        (&OpenError::NoRoom, "there is no room for what is opened"),
+        (&OpenError::BufferTooSmall, "the buffer is too small for what is opened"),
         (&BitsError::TooFew, "the data do not have so many bits"),
         (&BitsError::Segment, "the stream does not have segments of 1 bit"),
         (&WrapError::KeyLength, "the key does not have a length that is wrapped"),
-        (&WrapError::NoRoom, "there is no room for the wrapped key"),
-        (&UnwrapError::NoRoom, "there is no room for the key"),
+        (&WrapError::BufferTooSmall, "the buffer is too small for the wrapped key"),
+        (&UnwrapError::BufferTooSmall, "the buffer is too small for the key"),
+        (&ColumnError::BufferTooSmall, "the buffer is too small for the texts"),
+        (&ColumnError::NoIteration, "the number of iterations is 0"),
+        (&PbeError::SaltLength, "the salt does not have 8 bytes"),
+        (&ValueError::NotBase64, "the value is not Base64"),
+        (&ValueError::SaltCut, "the bytes end within the salt"),
+        (&ValueError::NotBlocks, "what is encrypted is not whole blocks of 8 bytes"),
     ];
     for (error, sentence) in errors {
         assert_eq!(error.to_string(), sentence);
