@@ -69,7 +69,7 @@ def lists(lengths):
 def machine(part):
     """On what a part was measured, in a sentence."""
     said = part.machine
-    libraries = [f"{name} {said[name]}" for name in ("OpenSSL", "libgcrypt", "Java") if name in said]
+    libraries = [f"{name} {said[name]}" for name in ("OpenSSL", "libgcrypt", "Java", "Go") if name in said]
     return ["; ".join(filter(None, [said["processor"], *libraries, said.get("compiler"), said["date"]])) + "."]
 
 
@@ -85,6 +85,8 @@ def made(name):
         return machine(found["bindings/openssl/benchmark"])
     if name == "java-machine":
         return machine(found["bindings/java/benchmark"])
+    if name == "go-machine":
+        return machine(found["bindings/go/benchmark"])
     if name not in tables:
-        raise Refused(f"{PLACE}: it has no table {name}: {', '.join(['lists', 'machine', 'openssl-machine', 'java-machine', *tables])}")
+        raise Refused(f"{PLACE}: it has no table {name}: {', '.join(['lists', 'machine', 'openssl-machine', 'java-machine', 'go-machine', *tables])}")
     return shown(tables[name])

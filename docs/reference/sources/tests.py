@@ -20,6 +20,7 @@ PLACES = {
     "Go": ("bindings/go/test", "bindings/go/*_test.go"),
     "JavaScript and the page": ("bindings/wasm/test", "bindings/wasm/tests/**/*"),
     "The provider for OpenSSL": ("bindings/openssl/test", "bindings/openssl/tests/**/*"),
+    "Old records": ("bindings/records/test", "bindings/records/tests/**/*"),
     "Programs of `make`": ("bindings/programs/test", "bindings/programs/stored", "bindings/programs/tests/**/*"),
     "Examples": ("examples/test",),
 }
