@@ -69,7 +69,7 @@
  *      6,000   any that is not named below
  *     27,000   _ecb, _ecb_to, _cbc, _cbc_to, _each, _check_values, _open_salted, key_block_
  *     32,000   _mode, _stream, _stream_bits
- *     45,000   _macs, _macs_each, dukpt_transaction_keys_from_base
+ *     45,000   _macs, _macs_each, _values, _values_by_file, dukpt_transaction_keys_from_base
  *     66,000   _cbc_records
  *
  * WHAT IS PROVED
@@ -138,7 +138,7 @@ enum cukvashe_status {
   CUKVASHE_ERR_SERVICE_LENGTH = 15,        /* the service code does not have three digits */
   CUKVASHE_ERR_SERVICE_DIGIT = 16,         /* a character of the service code is not a digit */
   CUKVASHE_ERR_PADDING = 17,               /* the data do not end with the padding */
-  CUKVASHE_ERR_CAPACITY = 18,              /* the buffer has no room for the padding, or for what is opened */
+  CUKVASHE_ERR_CAPACITY = 18,              /* the buffer is too small for all that the call would write */
   CUKVASHE_ERR_COUNTS = 19,                /* the numbers of elements do not agree: a count, or a sum of counts, and
                                               a length */
   CUKVASHE_ERR_KEY_INDEX = 20,             /* the index of the key pair is not 1 to 6 */
@@ -176,6 +176,11 @@ enum cukvashe_status {
   CUKVASHE_ERR_STREAM = 46,                /* the stream is not one that was begun */
   CUKVASHE_ERR_WRAPPED_LENGTH = 47,        /* the wrapped key does not have a length that it can have */
   CUKVASHE_ERR_WRAPPED_KEY = 48,           /* the bytes are no key that was wrapped under the protection key */
+  CUKVASHE_ERR_NOT_ENCRYPTED = 49,         /* the value is none that MySQL encrypted */
+  CUKVASHE_ERR_VALUES = 50,                /* some values can't be read: their statuses say why */
+  CUKVASHE_ERR_ALGORITHM = 51,             /* the algorithm is not one that the call takes */
+  CUKVASHE_ERR_BASE64 = 52,                /* the value is not Base64 */
+  CUKVASHE_ERR_KEY_NUMBER = 53,            /* the number is not one of a key */
 };
 
 /* Sizes, in bytes. */
@@ -359,8 +364,8 @@ CUKVASHE_CHECK int cukvashe_tdes_ede3_decrypt_cbc_to(const cukvashe_tdes_ede3 *c
  * or CUKVASHE_CFB1 + n: cipher feedback with segments of n bytes, 1 to 8.
  *
  * Never use a vector or a counter block twice under a key: two texts then reveal their xor. In CTR begin the next text
- * after the last counter block of this one. These modes authenticate nothing: who knows a text can change the ciphertext
- * so that it decrypts to any other.
+ * after the last counter block of this one. These modes authenticate nothing: an attacker who knows a text can change
+ * the ciphertext so that it decrypts to any other.
  *
  * int cukvashe_NAME_encrypt_mode(const cukvashe_NAME *context, int mode, const uint8_t iv[8], uint8_t *data,
  *                                size_t length)
@@ -457,9 +462,10 @@ void cukvashe_stream_position(const cukvashe_stream *stream, uint8_t iv[8], size
  *                           size_t key_length, uint8_t *wrapped, size_t capacity, size_t *wrapped_length)
  *
  * Writes the wrapped key, which is 16 bytes longer in CMS and 4 bytes in TKW, and its length to `wrapped_length`. `iv`
- * is random. CMS takes keys of 8 bytes or a multiple, TKW keys of 8 bytes or more, a multiple of 4 below 2^30. Errors of
- * cms_wrap_key: CUKVASHE_ERR_PROTECTION_KEY_LENGTH; _BLOCKS also if `key_length` is 0; _CAPACITY. Errors of
- * tkw_wrap_key: CUKVASHE_ERR_PROTECTION_KEY_LENGTH, _KEY_LENGTH, _CAPACITY.
+ * is random. CMS takes keys of 8 bytes or a multiple, TKW keys of 8 bytes or more, a multiple of 4 below 2^30. No call
+ * of this section works in place: `key` and `wrapped` must not overlap. Errors of cms_wrap_key:
+ * CUKVASHE_ERR_PROTECTION_KEY_LENGTH; _BLOCKS also if `key_length` is 0; _CAPACITY. Errors of tkw_wrap_key:
+ * CUKVASHE_ERR_PROTECTION_KEY_LENGTH, _KEY_LENGTH, _CAPACITY.
  *
  * int cukvashe_cms_unwrap_key(const uint8_t *protection, size_t protection_length, const uint8_t *wrapped,
  *                             size_t wrapped_length, uint8_t *key, size_t capacity, size_t *key_length)
@@ -893,7 +899,7 @@ CUKVASHE_CHECK int cukvashe_dukpt_terminal_next_key(cukvashe_dukpt_terminal *ter
  * last the check digit.
  *
  * `transaction` and `fill` are ten digits, one in a byte: 0 to 15 in `transaction`, 10 to 15 in `fill`. All ten are
- * checked; the block uses those it has room for, in order.
+ * checked; the block uses as many as fit, in order.
  *
  * encode writes the block. Errors of encode: CUKVASHE_ERR_PIN_LENGTH, _PIN_DIGIT, _ACCOUNT_LENGTH, _ACCOUNT_DIGIT; then
  * _FILL of encode_1 and encode_3 alone.
@@ -1183,6 +1189,112 @@ CUKVASHE_CHECK int cukvashe_tdes_ede2_open_salted(int hash, size_t iterations, c
 CUKVASHE_CHECK int cukvashe_tdes_ede3_open_salted(int hash, size_t iterations, const uint8_t *password,
                                                   size_t password_length, const uint8_t *bytes, size_t length,
                                                   uint8_t *plain, size_t capacity, size_t *plain_length);
+
+/*
+ * OLD RECORDS
+ *
+ * To read what databases and frameworks encrypted, a column at a time, and to write it for what reads nothing else.
+ * Nothing here authenticates: check the texts, tell nobody who sends you values which status they have, and encrypt them
+ * again by something else.
+ *
+ * `values` are `values_count` values, one after the other, `length` bytes in all: value k has `lengths[k]` bytes. `texts`
+ * has as many bytes, and text k begins where value k does. It has `text_lengths[k]` bytes; those after it are zeros.
+ * `statuses[k]` is CUKVASHE_OK, or why value k can't be read, and then its text is empty. If there is such a value, the
+ * call returns CUKVASHE_ERR_VALUES, and has read the others. The calls branch on the padding. Many values go together: a
+ * column under one key takes about as long as its bytes in one text.
+ *
+ * To write, `texts` are `texts_count` texts, `length` bytes in all, and text k has `lengths[k]` bytes. Their values go into
+ * `values`, one after the other, which has exactly as many bytes, `values_length`, as a call says. After an error it is
+ * unchanged.
+ */
+
+/*
+ * Reads what DES_ENCRYPT of MySQL, up to 5.7, and of MariaDB wrote under a key string. An empty value is an empty text.
+ * Statuses of values: CUKVASHE_ERR_NOT_ENCRYPTED, where the server gives the value back as it is; _PADDING, where the
+ * server gives NULL, as mostly under a wrong key. Errors: CUKVASHE_ERR_COUNTS if the sum of the lengths is not `length`;
+ * _VALUES.
+ */
+CUKVASHE_CHECK int cukvashe_mysql_decrypt_values(const uint8_t *password, size_t password_length, const uint8_t *values,
+                                                 size_t length, const size_t *lengths, size_t values_count,
+                                                 uint8_t *texts, size_t *text_lengths, int *statuses);
+
+/*
+ * Reads what DES_ENCRYPT wrote under keys of the server's file (des-key-file), each value under the key that its first
+ * byte names. `keys` are the bytes of that file, read as the server does: of a number the last line counts, a line without
+ * its end does not, and lines that are no key are passed over. This branches on the bytes of the file. Statuses of values:
+ * CUKVASHE_ERR_NOT_ENCRYPTED; _KEY_NUMBER, if the file has no key of the value's number, as of a value under a key string;
+ * _PADDING. All else is as of cukvashe_mysql_decrypt_values. Errors: CUKVASHE_ERR_COUNTS if the sum of the lengths is not
+ * `length`; _VALUES.
+ */
+CUKVASHE_CHECK int cukvashe_mysql_decrypt_values_by_file(const uint8_t *keys, size_t keys_length, const uint8_t *values,
+                                                         size_t length, const size_t *lengths, size_t values_count,
+                                                         uint8_t *texts, size_t *text_lengths, int *statuses);
+
+/*
+ * Reads what encrypt and encrypt_iv of PostgreSQL's pgcrypto wrote. `algorithm` is theirs, in any case of letters: des,
+ * 3des, or one of these with -cbc or -ecb, and then perhaps /pad:pkcs or /pad:none, as 3des-ecb/pad:none. Without these
+ * it is -cbc and /pad:pkcs. Key and vector have any length, as there: they are cut, or filled with zeros, so that a key
+ * of 16 bytes of 3des is none of two parts; encrypt has an `iv` of no bytes. Statuses of values: CUKVASHE_ERR_BLOCKS, also
+ * of an empty value with padding; _PADDING, as mostly under a wrong key. Errors: CUKVASHE_ERR_ALGORITHM; _COUNTS if the
+ * sum of the lengths is not `length`; _VALUES.
+ */
+CUKVASHE_CHECK int cukvashe_pgcrypto_decrypt_values(const char *algorithm, size_t algorithm_length, const uint8_t *key,
+                                                    size_t key_length, const uint8_t *iv, size_t iv_length,
+                                                    const uint8_t *values, size_t length, const size_t *lengths,
+                                                    size_t values_count, uint8_t *texts, size_t *text_lengths,
+                                                    int *statuses);
+
+/*
+ * Writes what DES_ENCRYPT of MySQL and MariaDB does: under a key string, with the number 127, or under the string of a key
+ * of the server's file, with that key's number, 0 to 9, which the first byte of each value says. A text of n bytes has a
+ * value of (n / 8 + 1) * 8 + 1, and an empty text an empty value. Errors: CUKVASHE_ERR_KEY_NUMBER; _COUNTS if the sum of
+ * the lengths is not `length`, or that of the values' lengths not `values_length`.
+ */
+CUKVASHE_CHECK int cukvashe_mysql_encrypt_values(const uint8_t *password, size_t password_length, size_t number,
+                                                 const uint8_t *texts, size_t length, const size_t *lengths,
+                                                 size_t texts_count, uint8_t *values, size_t values_length);
+
+/*
+ * Writes what encrypt and encrypt_iv of pgcrypto do, by an algorithm, a key and a vector as of pgcrypto_decrypt_values. A
+ * text of n bytes has a value of (n / 8 + 1) * 8, and with /pad:none one of n. Errors: CUKVASHE_ERR_ALGORITHM; _COUNTS if
+ * the sum of the lengths is not `length`, or that of the values' lengths not `values_length`; _BLOCKS if there is no
+ * padding and a text is not whole blocks of 8 bytes.
+ */
+CUKVASHE_CHECK int cukvashe_pgcrypto_encrypt_values(const char *algorithm, size_t algorithm_length, const uint8_t *key,
+                                                    size_t key_length, const uint8_t *iv, size_t iv_length,
+                                                    const uint8_t *texts, size_t length, const size_t *lengths,
+                                                    size_t texts_count, uint8_t *values, size_t values_length);
+
+/*
+ * The key of a password and a salt, and the vector after it, by password-based encryption: `key_length` is that of both,
+ * 16 for DES, 24 for two keys, 32 for triple DES. Decrypt by CBC with them, and take the padding off by CUKVASHE_PKCS7.
+ * `algorithm` is, in any case of letters,
+ *
+ *     PBEWithMD5AndDES or pbeWithMD5AndDES-CBC, PBEWithSHA1AndDES or pbeWithSHA1AndDES-CBC      PKCS #5 (RFC 8018, 6.1)
+ *     PBEWithSHA1AndDESede or pbeWithSHAAnd3-KeyTripleDES-CBC, pbeWithSHAAnd2-KeyTripleDES-CBC  PKCS #12 (RFC 7292, B)
+ *     PBEWithMD5AndTripleDES                                                                    Java's own rule
+ *
+ * For PKCS #12 the password is UTF-8, and else bytes. Errors: CUKVASHE_ERR_ALGORITHM, _KEY_LENGTH, _ITERATIONS;
+ * _SALT_LENGTH if Java's rule has a salt of other than 8 bytes.
+ */
+CUKVASHE_CHECK int cukvashe_pbe_key(const char *algorithm, size_t algorithm_length, size_t iterations,
+                                    const uint8_t *password, size_t password_length, const uint8_t *salt,
+                                    size_t salt_length, uint8_t *key, size_t key_length);
+
+/*
+ * Reads strings of Jasypt, as settings have them inside ENC( and ): Base64 of a salt of 8 bytes, and of what was padded
+ * and encrypted by CBC. The values are text, with ENC( and ) or without; white space around these and within does not
+ * count. `algorithm` is as of pbe_key, and the password too. Jasypt's own are PBEWithMD5AndDES and 1,000 iterations. The
+ * key of each value is derived by itself, which takes most of the time. Statuses of values: CUKVASHE_ERR_BASE64;
+ * _SALT_LENGTH if the value ends within the salt; _BLOCKS, also if nothing is encrypted; _PADDING, as mostly under a
+ * wrong password. Errors: CUKVASHE_ERR_ALGORITHM, _ITERATIONS; _COUNTS if the sum of the lengths is not `length`;
+ * _VALUES.
+ */
+CUKVASHE_CHECK int cukvashe_jasypt_decrypt_values(const char *algorithm, size_t algorithm_length, size_t iterations,
+                                                  const uint8_t *password, size_t password_length,
+                                                  const uint8_t *values, size_t length, const size_t *lengths,
+                                                  size_t values_count, uint8_t *texts, size_t *text_lengths,
+                                                  int *statuses);
 
 /*
  * NUMBERS WITHOUT A C COMPILER

@@ -57,6 +57,14 @@ export class NoSerial extends CukvasheError {}
 /** The state of a terminal does not have 346 bytes. */
 export class StateLength extends CukvasheError {}
 /**
+ * Some values of a column can't be read: faults has the error of each by its place, from 0, and texts the texts of the
+ * others, with null in the places of those.
+ */
+export class UnreadableValues extends CukvasheError {
+  readonly faults: Map<number, CukvasheError>;
+  readonly texts: (Uint8Array | null)[];
+}
+/**
  * The cipher, MAC or terminal was closed, so that its key is gone; or it, or a decimalization table, is of before a
  * call of the module that did not end, as where the engine's stack ends within it: make it anew.
  */
@@ -147,6 +155,14 @@ export class SaltLength extends CukvasheError {}
 export class WrappedLength extends CukvasheError {}
 /** The bytes are no key that was wrapped under the protection key. */
 export class WrappedKey extends CukvasheError {}
+/** The value is none that MySQL encrypted. */
+export class NotEncrypted extends CukvasheError {}
+/** The algorithm is not one that the call takes. */
+export class AlgorithmName extends CukvasheError {}
+/** The value is not Base64. */
+export class Base64 extends CukvasheError {}
+/** The number is not one of a key. */
+export class KeyNumber extends CukvasheError {}
 // This ends what bindings/describe made.
 
 // ---- Ciphers and MACs
@@ -192,11 +208,11 @@ declare abstract class Cipher extends Keyed {
   /** The data, decrypted by output feedback. VectorLength. */
   decryptOfb(data: Uint8Array, named: { iv: Uint8Array }): Uint8Array;
   /**
-   * The data, of any length, encrypted by cipher feedback from an initialization vector of 8 bytes, with segments of so
-   * many bits: by CFB alone PyCryptodome means 8, `node:crypto` 64. VectorLength, SegmentSize.
+   * The data, of any length, encrypted by cipher feedback from an initialization vector of 8 bytes, with segments of
+   * `segmentSize` bits: by CFB alone PyCryptodome means 8, `node:crypto` 64. VectorLength, SegmentSize.
    */
   encryptCfb(data: Uint8Array, named: { iv: Uint8Array; segmentSize: Segment }): Uint8Array;
-  /** The data, decrypted by cipher feedback with segments of so many bits. VectorLength, SegmentSize. */
+  /** The data, decrypted by cipher feedback with segments of `segmentSize` bits. VectorLength, SegmentSize. */
   decryptCfb(data: Uint8Array, named: { iv: Uint8Array; segmentSize: Segment }): Uint8Array;
 }
 
@@ -246,11 +262,11 @@ export class Ofb extends Stream {
 export class Cfb extends Stream {
   constructor(cipher: Cipher, named: { iv: Uint8Array; segmentSize: Segment });
   /**
-   * The data, of which so many bits, from the highest of the first byte on, are encrypted, with segments of 1 bit. The
+   * The data, of which `bits` bits, from the highest of the first byte on, are encrypted, with segments of 1 bit. The
    * others stay. SegmentSize, DataLength.
    */
   encryptBits(data: Uint8Array, bits: number): Uint8Array;
-  /** The data, of which so many bits are decrypted. SegmentSize, DataLength. */
+  /** The data, of which `bits` bits are decrypted. SegmentSize, DataLength. */
   decryptBits(data: Uint8Array, bits: number): Uint8Array;
 }
 
@@ -388,14 +404,14 @@ export class DukptTerminal extends Keyed {
 export function pinEncode0(pin: Digits, account: Digits): Uint8Array;
 /**
  * The PIN block of format 1. `transaction` is ten digits, bytes from 0 to 15, of which it uses the first ones that
- * there is room for. PinLength, PinDigit, FillLength, Fill.
+ * fit. PinLength, PinDigit, FillLength, Fill.
  */
 export function pinEncode1(pin: Digits, transaction: Uint8Array): Uint8Array;
 /** The PIN block of format 2, which goes to a card in clear. PinLength, PinDigit. */
 export function pinEncode2(pin: Digits): Uint8Array;
 /**
  * The PIN block of format 3. `fill` is ten digits, random bytes from 10 to 15, of which it uses the first ones that
- * there is room for. PinLength, PinDigit, AccountLength, AccountDigit, FillLength, Fill.
+ * fit. PinLength, PinDigit, AccountLength, AccountDigit, FillLength, Fill.
  */
 export function pinEncode3(pin: Digits, account: Digits, fill: Uint8Array): Uint8Array;
 /**
@@ -616,6 +632,58 @@ export function cmsUnwrapKey(protection: Uint8Array, wrapped: Uint8Array): Uint8
 export function tkwWrapKey(protection: Uint8Array, key: Uint8Array): Uint8Array;
 /** The key that TKW wrapped. ProtectionKeyLength, WrappedLength; WrappedKey if it was changed, or is under another key. */
 export function tkwUnwrapKey(protection: Uint8Array, wrapped: Uint8Array): Uint8Array;
+
+// ---- Columns of old records: what MySQL, MariaDB, pgcrypto and Jasypt encrypted. null is the null of a database
+
+/** A value of a column, or null. */
+export type Row<Value = Uint8Array> = Value | null | undefined;
+/** What becomes of values that can't be read: UnreadableValues is thrown, or null stands in their places. */
+export type Errors = "throw" | "null";
+/** An algorithm of Jasypt. */
+export type JasyptAlgorithm = "PBEWithMD5AndDES" | "PBEWithMD5AndTripleDES" | "PBEWithSHA1AndDESede";
+/** An algorithm of password-based encryption. */
+export type PbeAlgorithm = JasyptAlgorithm | "PBEWithSHA1AndDES" | "pbeWithSHAAnd2-KeyTripleDES-CBC";
+
+/**
+ * The texts of a column that DES_ENCRYPT of MySQL or MariaDB encrypted under a key string, which is the password here.
+ * Values of every key number are taken for its, as the server does. UnreadableValues, whose faults are NotEncrypted and
+ * PaddingMismatch. Nothing authenticates values: under a wrong password most are such faults, and the others wrong.
+ */
+export function mysqlDecryptValues(
+  password: Uint8Array, values: Iterable<Row>, options?: { errors?: Errors },
+): (Uint8Array | null)[];
+/**
+ * The texts of a column that `encrypt` or `encrypt_iv` of pgcrypto encrypted. `cipher` is what they were given: "des" or
+ * "3des", which are CBC, "des-ecb" or "3des-ecb", and "/pad:none" behind it. As there, a key or vector that is shorter than
+ * the cipher's is filled with zeros and a longer one cut: so a key of 16 bytes is no two-key triple DES. AlgorithmName;
+ * UnreadableValues, whose faults are BlockLength and PaddingMismatch.
+ */
+export function pgcryptoDecryptValues(
+  cipher: string, key: Uint8Array, values: Iterable<Row>, options?: { iv?: Uint8Array; errors?: Errors },
+): (Uint8Array | null)[];
+/**
+ * The texts of strings that Jasypt encrypted, with or without ENC(..) around. White space around and within a string does
+ * not count; one whose pad bits (RFC 4648, 3.5) are not zeros is not Base64. The algorithm is "PBEWithMD5AndDES", its
+ * default before version 3, and the iterations are 1,000 if they are left out. AlgorithmName, IterationCount;
+ * UnreadableValues, whose faults are Base64, SaltLength, BlockLength and PaddingMismatch.
+ */
+export function jasyptDecryptValues(
+  password: Uint8Array, values: Iterable<Row<string | Uint8Array>>,
+  options?: { algorithm?: JasyptAlgorithm; iterations?: number; errors?: Errors },
+): (Uint8Array | null)[];
+/** The string of a text, without ENC(..) around, from a random salt, or one of 8 bytes. SaltLength; as jasyptDecryptValues. */
+export function jasyptEncrypt(
+  password: Uint8Array, text: Uint8Array,
+  options?: { algorithm?: JasyptAlgorithm; iterations?: number; salt?: Uint8Array },
+): string;
+/**
+ * The key, and after it the vector, of password-based encryption: 16 bytes together for DES, 24 for two keys, 32 for three.
+ * By Java's own rule, "PBEWithMD5AndTripleDES", the salt has 8 bytes, by the others any number; by PKCS #12 the password is
+ * UTF-8. AlgorithmName, KeyLength, IterationCount, SaltLength.
+ */
+export function pbeKey(
+  algorithm: PbeAlgorithm, password: Uint8Array, salt: Uint8Array, iterations: number, length: number,
+): Uint8Array;
 
 // ---- Keys from passwords, and what `openssl enc` encrypted under them. Passwords are bytes
 

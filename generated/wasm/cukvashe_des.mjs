@@ -21,8 +21,8 @@ export const BLOCK_SIZE = 8;
 export const TAG_SIZE = 8;
 
 // The SHA-256 of the modules that this file was built with: the one of a 64-bit memory, and the same of a 32-bit memory.
-const MODULE_SUM = "0d61c22aba2e4d0efa5bb99675e9cd621263badad162a1ab995320309365a311";
-const NARROW_SUM = "51b3159afe8664e07b4ff62e3e466192347ec3a89bd7f2530a32f4b2f2b3fc3a";
+const MODULE_SUM = "159f506b970aa9ffe1b76e0e87b4ba4534b350f7842a6fa7a1adaee2c6afcd62";
+const NARROW_SUM = "536652a4ae2a3d69125f2af3538286845f1f3e81c9c396e4af77e5c75abdfb5b";
 
 // The bytes of the module's stack, which lies at its address 0. `build` links it so.
 const STACK_SIZE = 131072;
@@ -52,6 +52,7 @@ export const Closed = fault("Closed");
 export const FillLength = fault("FillLength");
 export const NoSerial = fault("NoSerial");
 export const StateLength = fault("StateLength");
+export const UnreadableValues = fault("UnreadableValues");
 
 // The statuses of cukvashe_des.h, the sentence of each at the place of its number, and their errors: made of it by bindings/describe.
 const OK = 0;
@@ -103,6 +104,11 @@ const MODE = 45;
 const STREAM = 46;
 const WRAPPED_LENGTH = 47;
 const WRAPPED_KEY = 48;
+const NOT_ENCRYPTED = 49;
+const VALUES = 50;
+const ALGORITHM = 51;
+const BASE64 = 52;
+const KEY_NUMBER = 53;
 const SENTENCES = [
   "success",
   "the key does not have a length that the call takes",
@@ -122,7 +128,7 @@ const SENTENCES = [
   "the service code does not have three digits",
   "a character of the service code is not a digit",
   "the data do not end with the padding",
-  "the buffer has no room for the padding, or for what is opened",
+  "the buffer is too small for all that the call would write",
   "the numbers of elements do not agree: a count, or a sum of counts, and a length",
   "the index of the key pair is not 1 to 6",
   "the decimalization table does not have sixteen digits",
@@ -153,6 +159,11 @@ const SENTENCES = [
   "the stream is not one that was begun",
   "the wrapped key does not have a length that it can have",
   "the bytes are no key that was wrapped under the protection key",
+  "the value is none that MySQL encrypted",
+  "some values can't be read: their statuses say why",
+  "the algorithm is not one that the call takes",
+  "the value is not Base64",
+  "the number is not one of a key",
 ];
 export const KeyLength = fault("KeyLength");
 export const BlockLength = fault("BlockLength");
@@ -195,6 +206,10 @@ export const NotSalted = fault("NotSalted");
 export const SaltLength = fault("SaltLength");
 export const WrappedLength = fault("WrappedLength");
 export const WrappedKey = fault("WrappedKey");
+export const NotEncrypted = fault("NotEncrypted");
+export const AlgorithmName = fault("AlgorithmName");
+export const Base64 = fault("Base64");
+export const KeyNumber = fault("KeyNumber");
 const FAULTS = new Map([
   [KEY_LENGTH, KeyLength],
   [BLOCKS, BlockLength],
@@ -237,6 +252,10 @@ const FAULTS = new Map([
   [SALT_LENGTH, SaltLength],
   [WRAPPED_LENGTH, WrappedLength],
   [WRAPPED_KEY, WrappedKey],
+  [NOT_ENCRYPTED, NotEncrypted],
+  [ALGORITHM, AlgorithmName],
+  [BASE64, Base64],
+  [KEY_NUMBER, KeyNumber],
 ]);
 // This ends what bindings/describe made.
 
@@ -414,7 +433,7 @@ function numbersOf(numbers, what) {
 const PAGE = 65536;
 
 /**
- * Lays down what a call reads and has room for what it writes, after the module's own data. Addresses and lengths are
+ * Lays down what a call reads and allocates what it writes, after the module's own data. Addresses and lengths are
  * BigInt.
  */
 class Workspace {
@@ -460,8 +479,8 @@ class Workspace {
     check(this.ask(name, ...words) ?? OK);
   }
 
-  /** Room for a number of bytes, at an address that is good for anything. */
-  room(size) {
+  /** Allocates a number of bytes, at an address that is aligned for anything. */
+  allocate(size) {
     const at = this.#end;
     const end = Math.ceil((at + size) / 16) * 16;
     const lacking = end - this.#memory.buffer.byteLength;
@@ -472,12 +491,12 @@ class Workspace {
 
   /** Where the bytes of an array of a fixed size are laid down. */
   put(bytes) {
-    const at = this.room(bytes.length);
+    const at = this.allocate(bytes.length);
     this.lay(at, bytes);
     return at;
   }
 
-  /** Lays bytes down in room that was made. */
+  /** Lays bytes down in memory that was allocated. */
   lay(at, bytes) {
     this.#bytes(Number(at), bytes.length).set(bytes);
   }
@@ -503,7 +522,7 @@ class Workspace {
 
   /** Where words of 64 bits are laid down. */
   words(numbers) {
-    const at = this.room(8 * numbers.length);
+    const at = this.allocate(8 * numbers.length);
     const view = new DataView(this.#memory.buffer, Number(at), 8 * numbers.length);
     numbers.forEach((number, place) => view.setBigUint64(8 * place, BigInt(number), true));
     return at;
@@ -641,14 +660,14 @@ const CALLS = {
 function made(name, given) {
   return inside((memory) => {
     const values = typeof given === "function" ? given(memory) : given;
-    const rooms = [];
+    const outputs = [];
     const words = CALLS[name].flatMap(([argument, how]) => {
       if (typeof how === "function") return how(memory, values[argument]);
-      rooms.push([argument, memory.room(how), how]);
-      return [rooms.at(-1)[1]];
+      outputs.push([argument, memory.allocate(how), how]);
+      return [outputs.at(-1)[1]];
     });
     memory.call(name, ...words);
-    return Object.fromEntries(rooms.map(([argument, at, size]) => [argument, memory.taken(at, size)]));
+    return Object.fromEntries(outputs.map(([argument, at, size]) => [argument, memory.taken(at, size)]));
   });
 }
 
@@ -765,7 +784,7 @@ const CFB1 = 40;
 // What says of CFB how it is called.
 const WITH_SEGMENT = "{ iv, segmentSize }), with the bits of a segment (by CFB alone PyCryptodome means 8, node:crypto 64)";
 
-/** The number of CFB with segments of so many bits. */
+/** The number of CFB with segments of `segmentSize` bits. */
 function cfbOf(segmentSize) {
   if (typeof segmentSize !== "number") throw new TypeError("segmentSize: a number of bits is needed");
   if (segmentSize === 1 || (segmentSize % 8 === 0 && segmentSize >= 8 && segmentSize <= 64)) {
@@ -781,11 +800,11 @@ class Cipher extends Keyed {
     super();
     refuseMore(more, "a cipher takes a key alone, and neither a vector nor options");
     const kind = kindOf(new.target, Cipher, "a cipher");
-    const held = keyOf(key, kind.keySize);
+    const keyBytes = keyOf(key, kind.keySize);
     const size = 8 * kind.words;
     const context = inside((memory) => {
-      const at = memory.room(size);
-      memory.call("internal_init", ...contextAt(kind, at), ...memory.list(held), WITH_TABLES);
+      const at = memory.allocate(size);
+      memory.call("internal_init", ...contextAt(kind, at), ...memory.list(keyBytes), WITH_TABLES);
       return memory.taken(at, size);
     });
     keep(this, Cipher, kind, context);
@@ -898,7 +917,7 @@ function begin(stream, cipher, mode, vector) {
   const counter = vector.slice();
   const state = inside((memory) => {
     memory.state(cipher, Cipher, "the first argument");
-    const at = memory.room(STREAM_SIZE);
+    const at = memory.allocate(STREAM_SIZE);
     memory.call("stream_begin", at, mode, memory.put(counter));
     return memory.taken(at, STREAM_SIZE);
   });
@@ -971,9 +990,9 @@ export class Ctr extends Stream {
     inside((memory) => {
       const { kind: { cipher, counter }, context: state } = memory.state(this, Stream);
       const { kind, context } = memory.state(cipher, Cipher);
-      const at = memory.room(STREAM_SIZE);
+      const at = memory.allocate(STREAM_SIZE);
       memory.call("stream_begin_ctr_at", at, memory.put(counter), place / 8n);
-      const skipped = memory.room(Number(rest));
+      const skipped = memory.allocate(Number(rest));
       memory.call("internal_encrypt_stream", ...contextAt(kind, memory.put(context)), at, skipped, rest);
       memory.take(at, state);
     });
@@ -1040,7 +1059,7 @@ class Mac extends Keyed {
     if (encoding !== undefined && encoding !== "hex") throw new TypeError('digest takes no argument but "hex"');
     const tag = inside((memory) => {
       const { kind, context } = memory.state(this, Mac);
-      const at = memory.room(TAG_SIZE);
+      const at = memory.allocate(TAG_SIZE);
       memory.call("internal_mac_final", ...contextAt(kind, memory.put(context)), at);
       return memory.taken(at, TAG_SIZE);
     });
@@ -1080,7 +1099,7 @@ function accepted(mac, tag, least) {
 function macContextOf(kind, key, padding, bytes) {
   const size = 8 * (kind.words + MESSAGE_WORDS);
   return inside((memory) => {
-    const at = memory.room(size);
+    const at = memory.allocate(size);
     memory.call("internal_mac_init", ...contextAt(kind, at), ...memory.list(key), padding, WITH_TABLES);
     memory.call("internal_mac_update", ...contextAt(kind, at), ...memory.list(bytes));
     return memory.taken(at, size);
@@ -1092,8 +1111,8 @@ class PaddedMac extends Mac {
     super();
     refuseMore(more, "a MAC takes a key, a padding method and data alone");
     const kind = kindOf(new.target, PaddedMac, "a MAC");
-    const [held, method, bytes] = [keyOf(key, kind.keySize), paddingOf(padding), bytesOf(data, "data")];
-    keep(this, Mac, kind, macContextOf(kind, held, method, bytes));
+    const [keyBytes, method, bytes] = [keyOf(key, kind.keySize), paddingOf(padding), bytesOf(data, "data")];
+    keep(this, Mac, kind, macContextOf(kind, keyBytes, method, bytes));
   }
 }
 
@@ -1106,8 +1125,8 @@ class Cmac extends Mac {
     super();
     refuseMore(more, "CMAC takes a key and data alone");
     const kind = kindOf(new.target, Cmac, "a MAC");
-    const [held, bytes] = [keyOf(key, kind.keySize), bytesOf(data, "data")];
-    keep(this, Mac, kind, macContextOf(kind, held, CMAC_PADDING, bytes));
+    const [keyBytes, bytes] = [keyOf(key, kind.keySize), bytesOf(data, "data")];
+    keep(this, Mac, kind, macContextOf(kind, keyBytes, CMAC_PADDING, bytes));
   }
 }
 
@@ -1147,7 +1166,7 @@ kinds.set(CmacTdesEde3, { algorithm: CMAC, keySize: 24, words: 49 });
 const METHODS = new Map([["pkcs7", 11], ["iso7816", 12]]);
 
 function methodOf(method) {
-  if (typeof method !== "string") throw new TypeError('the padding method: "pkcs7" or "iso7816" is wanted');
+  if (typeof method !== "string") throw new TypeError('the padding method: "pkcs7" or "iso7816" is needed');
   if (!METHODS.has(method)) throw new PaddingMethod('padding is by "pkcs7" or "iso7816"');
   return METHODS.get(method);
 }
@@ -1158,7 +1177,7 @@ export function pad(data, method, ...more) {
   const bytes = bytesOf(data, "data");
   return inside((memory) => {
     const capacity = bytes.length + BLOCK_SIZE;
-    const [at, length] = [memory.room(capacity), memory.room(8)];
+    const [at, length] = [memory.allocate(capacity), memory.allocate(8)];
     memory.lay(at, bytes);
     memory.call("internal_pad", at, BigInt(capacity), BigInt(bytes.length), number, length);
     return memory.taken(at, memory.word(length));
@@ -1171,7 +1190,7 @@ export function unpad(data, method, ...more) {
   const bytes = bytesOf(data, "data");
   return inside((memory) => {
     const [at, size] = memory.list(bytes);
-    const length = memory.room(8);
+    const length = memory.allocate(8);
     const status = memory.ask("unpad", at, size, number, length);
     if (status === BLOCKS) throw new BlockLength(`${bytes.length} bytes are not whole blocks of ${BLOCK_SIZE}`);
     check(status);
@@ -1220,9 +1239,9 @@ export function combine(first, second, ...others) {
   const more = others.map((component) => keyOf(component, size));
   return inside((memory) => {
     const laid = [...memory.list(one), ...memory.list(other)];
-    const rest = memory.room(size * more.length);
+    const rest = memory.allocate(size * more.length);
     more.forEach((component, place) => memory.lay(rest + BigInt(size * place), component));
-    const at = memory.room(size);
+    const at = memory.allocate(size);
     if (memory.ask("internal_combine", ...laid, rest, BigInt(size * more.length), at, BigInt(size)) !== OK) {
       throw new WeakKey("the weak key test refuses the key that the components make");
     }
@@ -1239,7 +1258,7 @@ export function dukptNextSerial(serial, ...more) {
   refuseMore(more);
   const number = serialOf(serial);
   return inside((memory) => {
-    const [at, next] = [memory.put(number), memory.room(SERIAL_SIZE)];
+    const [at, next] = [memory.put(number), memory.allocate(SERIAL_SIZE)];
     return memory.ask("dukpt_next_serial", at, next) === OK ? memory.taken(next, SERIAL_SIZE) : null;
   });
 }
@@ -1261,7 +1280,7 @@ export class DukptTerminal extends Keyed {
     refuseMore(more);
     const [key, number] = [keyOf(initial, TRANSACTION_KEY_SIZE), serialOf(serial)];
     const context = inside((memory) => {
-      const at = memory.room(STATE_SIZE);
+      const at = memory.allocate(STATE_SIZE);
       memory.call("dukpt_terminal_init", at, memory.put(key), memory.put(number));
       return memory.taken(at, STATE_SIZE);
     });
@@ -1281,7 +1300,7 @@ export class DukptTerminal extends Keyed {
     return inside((memory) => {
       const { context } = memory.state(this, DukptTerminal);
       const at = memory.put(context);
-      const [serial, key] = [memory.room(SERIAL_SIZE), memory.room(TRANSACTION_KEY_SIZE)];
+      const [serial, key] = [memory.allocate(SERIAL_SIZE), memory.allocate(TRANSACTION_KEY_SIZE)];
       if (!hasFutureKey(context) || memory.ask("dukpt_terminal_next_key", at, serial, key) !== OK) {
         throw new NoSerial("the terminal has no key for a next transaction");
       }
@@ -1650,9 +1669,9 @@ function optionalOf(optional) {
 
 export function unwrapKeyBlock(protection, block, ...more) {
   refuseMore(more);
-  const held = bytesOf(protection, "a protection key");
+  const kbpk = bytesOf(protection, "a protection key");
   const text = keyBlockOf(block);
-  const { header, key, length } = made("key_block_unwrap", { protection: held, block: text });
+  const { header, key, length } = made("key_block_unwrap", { protection: kbpk, block: text });
   const size = Number(new DataView(length.buffer).getBigUint64(0, true));
   const bare = key.slice(0, size);
   key.fill(0);
@@ -1664,13 +1683,13 @@ export function wrapKeyBlock(protection, header, key, options = {}, ...more) {
   const { optional = [], padding } = optionsOf(options, "optional", "padding");
   const [fields, blocks] = [fieldsOf(header), optionalOf(optional)];
   const random = padding === undefined ? crypto.getRandomValues(new Uint8Array(KEY_DATA_SIZE - 2)) : null;
-  const [held, bare] = [bytesOf(protection, "a protection key"), bytesOf(key, "a key")];
+  const [kbpk, bare] = [bytesOf(protection, "a protection key"), bytesOf(key, "a key")];
   const hiding = random?.subarray(bare.length) ?? bytesOf(padding, "the padding");
   return inside((memory) => {
-    const laid = [...memory.list(held), memory.put(fields), ...[blocks, bare, hiding].flatMap((bytes) => memory.list(bytes))];
-    const room = blocks.length + MORE_CHARACTERS;
-    const [at, length] = [memory.room(room), memory.room(8)];
-    memory.call("key_block_wrap", ...laid, at, BigInt(room), length);
+    const laid = [...memory.list(kbpk), memory.put(fields), ...[blocks, bare, hiding].flatMap((bytes) => memory.list(bytes))];
+    const capacity = blocks.length + MORE_CHARACTERS;
+    const [at, length] = [memory.allocate(capacity), memory.allocate(8)];
+    memory.call("key_block_wrap", ...laid, at, BigInt(capacity), length);
     return charactersOf(memory.taken(at, memory.word(length)));
   });
 }
@@ -1691,7 +1710,7 @@ export function keyBlockOptionalBlocks(block, ...more) {
   return inside((memory) => {
     const found = [];
     const [at, size] = memory.list(text);
-    const [name, offset, length] = [memory.room(3), memory.room(8), memory.room(8)];
+    const [name, offset, length] = [memory.allocate(3), memory.allocate(8), memory.allocate(8)];
     for (;;) {
       const status = memory.ask("key_block_optional_block", at, size, BigInt(found.length), name, offset, length);
       if (status === NO_OPTIONAL_BLOCK) return found;
@@ -1711,13 +1730,13 @@ const TKW = { more: 4, unit: 4 };
 // The lengths of a key that TKW takes: CMS has another status for its own.
 const WRAPPABLE = new Map([[KEY_LENGTH, ": a multiple of 4 bytes, 8 at least"]]);
 
-/** What a call makes of bytes, so many more of them, under a protection key. It takes the capacity in units. */
+/** What a call makes of bytes under a protection key: `more` bytes more than were given. It takes the capacity in units. */
 function through(call, protection, given, { more, unit }, vectors = []) {
-  const [held, bytes] = [bytesOf(protection, "a protection key"), bytesOf(given, "a key")];
+  const [kek, bytes] = [bytesOf(protection, "a protection key"), bytesOf(given, "a key")];
   return inside((memory) => {
-    const laid = [...memory.list(held), ...vectors.map((vector) => memory.put(vector)), ...memory.list(bytes)];
+    const laid = [...memory.list(kek), ...vectors.map((vector) => memory.put(vector)), ...memory.list(bytes)];
     const capacity = Math.max(bytes.length + more, 0);
-    const [at, length] = [memory.room(capacity), memory.room(8)];
+    const [at, length] = [memory.allocate(capacity), memory.allocate(8)];
     check(memory.ask(call, ...laid, at, BigInt(Math.floor(capacity / unit)), length), WRAPPABLE);
     return memory.taken(at, memory.word(length));
   });
@@ -1755,7 +1774,7 @@ const TOO_MANY_ITERATIONS = 2 ** 32;
 /** The number of a hash function. PBKDF2 takes no MD5. */
 function hashOf(name, isPbkdf2) {
   const offered = isPbkdf2 ? '"sha1" or "sha256"' : '"md5", "sha1" or "sha256"';
-  if (typeof name !== "string") throw new TypeError(`a hash function: ${offered} is wanted`);
+  if (typeof name !== "string") throw new TypeError(`a hash function: ${offered} is needed`);
   if (HASHES.has(name) && !(isPbkdf2 && name === "md5")) return HASHES.get(name);
   throw isPbkdf2 ? faultOf(HASH) : new HashName(`a hash function is ${offered}`);
 }
@@ -1778,7 +1797,7 @@ function derivedLengthOf(number) {
 function derived(name, hash, password, salt, words, length) {
   const [secret, grains] = [bytesOf(password, "a password"), bytesOf(salt, "a salt")];
   return inside((memory) => {
-    const at = memory.room(length);
+    const at = memory.allocate(length);
     const laid = [...memory.list(secret), ...memory.list(grains), ...words, at, BigInt(length)];
     const status = memory.ask(name, hash, ...laid);
     if (status === SALT_LENGTH) throw new SaltLength(`the salt of bytesToKey has 0 or 8 bytes, not ${grains.length}`);
@@ -1805,7 +1824,7 @@ export function openSalted(cipher, password, data, options = {}, ...more) {
   const isPbkdf2 = iterations !== undefined;
   const [hash, count] = [hashOf(hashName, isPbkdf2), isPbkdf2 ? iterationsOf(iterations) : 0n];
   return inside((memory) => {
-    const [plain, length] = [memory.room(bytes.length), memory.room(8)];
+    const [plain, length] = [memory.allocate(bytes.length), memory.allocate(8)];
     const laid = [...memory.list(secret), ...memory.list(bytes), plain, BigInt(bytes.length), length];
     const status = memory.ask("internal_open_salted", BigInt(keySize), hash, count, ...laid);
     if (status === BLOCKS) throw new BlockLength(`${bytes.length} bytes are not whole blocks of ${BLOCK_SIZE}`);
@@ -1829,10 +1848,10 @@ export function decryptEach(cipher, keys, blocks, ...more) {
 function answeredEach(call, cipher, keys, blocks) {
   const { keySize } = cipherOf(cipher);
   const given = listOf(blocks, BLOCK_SIZE, BlockLength, "blocks");
-  const held = listOf(keys, keySize, KeyLength, "keys");
+  const keyBytes = listOf(keys, keySize, KeyLength, "keys");
   return inside((memory) => {
     const [at, count] = memory.list(given, BLOCK_SIZE);
-    if (memory.ask(call, BigInt(keySize), ...memory.list(held), at, count) !== OK) {
+    if (memory.ask(call, BigInt(keySize), ...memory.list(keyBytes), at, count) !== OK) {
       throw new CountMismatch("the numbers of keys and blocks differ");
     }
     return memory.taken(at, given.length);
@@ -1844,11 +1863,11 @@ const CHECK_VALUE_SIZE = 3;
 export function checkValues(cipher, keys, ...more) {
   refuseMore(more);
   const { keySize } = cipherOf(cipher);
-  const held = listOf(keys, keySize, KeyLength, "keys");
-  const count = held.length / keySize;
+  const keyBytes = listOf(keys, keySize, KeyLength, "keys");
+  const count = keyBytes.length / keySize;
   return inside((memory) => {
-    const at = memory.room(CHECK_VALUE_SIZE * count);
-    memory.call("internal_check_values", BigInt(keySize), ...memory.list(held), at, BigInt(count));
+    const at = memory.allocate(CHECK_VALUE_SIZE * count);
+    memory.call("internal_check_values", BigInt(keySize), ...memory.list(keyBytes), at, BigInt(count));
     return memory.taken(at, CHECK_VALUE_SIZE * count);
   });
 }
@@ -1859,7 +1878,7 @@ export function dukptTransactionKeysFromBase(base, serials, ...more) {
   const numbers = listOf(serials, SERIAL_SIZE, SerialLength, "key serial numbers");
   const count = numbers.length / SERIAL_SIZE;
   return inside((memory) => {
-    const at = memory.room(TRANSACTION_KEY_SIZE * count);
+    const at = memory.allocate(TRANSACTION_KEY_SIZE * count);
     const laid = [memory.put(key), ...memory.list(numbers, SERIAL_SIZE)];
     memory.call("internal_dukpt_transaction_keys", ...laid, at, BigInt(count));
     return memory.taken(at, TRANSACTION_KEY_SIZE * count);
@@ -1893,6 +1912,198 @@ function recorded(name, call, cipher, blocks, named) {
   });
 }
 
+/** The values of a column that are there, as their bytes, in which of its rows they stand, and how many rows it has. */
+function columnOf(values, take) {
+  if (typeof values !== "object" || typeof values?.[Symbol.iterator] !== "function" || typedArrayName.call(values) !== undefined) {
+    throw new TypeError("a column: an array with a value for each row is needed");
+  }
+  const rows = [...values];
+  const places = Array.from(rows.keys()).filter((place) => rows[place] !== null && rows[place] !== undefined);
+  return { places, rows: rows.length, values: places.map((place) => take(rows[place])) };
+}
+
+const valuesOf = (values) => columnOf(values, (value) => bytesOf(value, "a value"));
+
+const totalOf = (values) => values.reduce((sum, { length }) => sum + length, 0);
+
+/** Where values are laid down, one after the other, with how many bytes they have, and their lengths. */
+function columnAt(memory, values) {
+  const total = totalOf(values);
+  const at = memory.allocate(total);
+  let next = at;
+  for (const value of values) {
+    memory.lay(next, value);
+    next += BigInt(value.length);
+  }
+  return [at, BigInt(total), memory.words(values.map(({ length }) => length)), BigInt(values.length)];
+}
+
+/** Copies of what stands one after the other, from each of these places as many bytes as its length says. */
+function cut(memory, at, starts, lengths) {
+  return lengths.map((length, place) => memory.taken(at + BigInt(starts[place]), length));
+}
+
+/** Where each of elements of these lengths begins, if they stand one after the other. */
+function startsOf(lengths) {
+  let next = 0;
+  return lengths.map((length) => (next += length) - length);
+}
+
+/** Numbers of 64 bits that a call wrote. */
+const numbersAt = (memory, at, count) => Array.from({ length: count }, (_, place) => memory.word(at + BigInt(8 * place)));
+
+/** The answers in the rows of their values, and null in the others. */
+function spread({ places, rows }, answers) {
+  const all = new Array(rows).fill(null);
+  places.forEach((place, at) => (all[place] = answers[at]));
+  return all;
+}
+
+function errorsOf(errors) {
+  if (errors === "throw" || errors === "null") return errors;
+  throw new TypeError('errors: "throw" or "null" is needed');
+}
+
+/** The texts in the rows of their values. Where some could not be read, that is thrown, or null stands in their rows. */
+function told(column, found, faults, errors) {
+  const answer = spread(column, found);
+  if (faults.size === 0 || errors === "null") return answer;
+  const [place, why] = faults.entries().next().value;
+  const text = `${faults.size} of ${column.rows} values can't be read, the first at place ${place}: ${why.message}`;
+  throw Object.assign(new UnreadableValues(text), { faults, texts: answer });
+}
+
+/** The error of a value's status, with its own sentence where it has one. */
+function valueFaultOf(status, sentences) {
+  const Fault = FAULTS.get(status);
+  return sentences.has(status) ? new Fault(sentences.get(status)) : faultOf(status);
+}
+
+/** The texts of a column, by a call. `lay` gives what it takes before the values. */
+function readColumn(call, lay, column, errors, sentences = new Map()) {
+  const { values, places } = column;
+  const count = values.length;
+  return inside((memory) => {
+    const laid = [...lay(memory), ...columnAt(memory, values)];
+    const total = totalOf(values);
+    const [texts, lengths, statuses] = [total, 8 * count, 4 * count].map((size) => memory.allocate(size));
+    const buffers = [texts, BigInt(total), lengths, BigInt(count), statuses, BigInt(count)];
+    const status = memory.ask(call, ...laid, ...buffers);
+    if (status !== VALUES) check(status);
+    const found = cut(memory, texts, startsOf(values.map(({ length }) => length)), numbersAt(memory, lengths, count));
+    const said = new DataView(memory.taken(statuses, 4 * count).buffer);
+    const faults = new Map();
+    places.forEach((place, at) => {
+      const reason = said.getInt32(4 * at, true);
+      if (reason === OK) return;
+      faults.set(place, valueFaultOf(reason, sentences));
+      found[at] = null;
+    });
+    return told(column, found, faults, errors);
+  });
+}
+
+/** The bytes of a name, by which a call knows an algorithm. */
+function nameOf(name, what) {
+  if (typeof name !== "string") throw new TypeError(`${what}: a string is needed`);
+  return textOf(name, what);
+}
+
+export function mysqlDecryptValues(password, values, options = {}, ...more) {
+  refuseMore(more);
+  const errors = errorsOf(optionsOf(options, "errors").errors ?? "throw");
+  const column = valuesOf(values);
+  const secret = bytesOf(password, "a password");
+  return readColumn("internal_mysql_decrypt_values", (memory) => memory.list(secret), column, errors);
+}
+
+/** What calls of pgcrypto take first. */
+function pgcryptoOf(cipher, key, iv = new Uint8Array()) {
+  const bytes = [nameOf(cipher, "a cipher of pgcrypto"), bytesOf(key, "a key"), bytesOf(iv, "an initialization vector")];
+  return (memory) => bytes.flatMap((list) => memory.list(list));
+}
+
+export function pgcryptoDecryptValues(cipher, key, values, options = {}, ...more) {
+  refuseMore(more);
+  const { iv, errors = "throw" } = optionsOf(options, "iv", "errors");
+  const [wanted, column] = [errorsOf(errors), valuesOf(values)];
+  return readColumn("internal_pgcrypto_decrypt_values", pgcryptoOf(cipher, key, iv), column, wanted);
+}
+
+// The algorithms of Jasypt, the first of which it takes if it is told nothing, before version 3, each with the class of its cipher.
+const JASYPT = new Map([["PBEWithMD5AndDES", Des], ["PBEWithMD5AndTripleDES", TdesEde3], ["PBEWithSHA1AndDESede", TdesEde3]]);
+const [[JASYPT_ALGORITHM]] = JASYPT;
+const JASYPT_ITERATIONS = 1000;
+
+/** The class of the cipher of an algorithm of Jasypt. */
+function jasyptOf(algorithm) {
+  if (typeof algorithm !== "string") throw new TypeError("an algorithm: a string is needed");
+  if (!JASYPT.has(algorithm)) throw faultOf(ALGORITHM);
+  return JASYPT.get(algorithm);
+}
+
+/** What a function makes by the cipher of an algorithm under a password, and the vector, which are wiped after it. */
+function byPassword(algorithm, password, salt, iterations, use) {
+  const Class = jasyptOf(algorithm);
+  const { keySize } = kinds.get(Class);
+  const made = pbeKey(algorithm, password, salt, iterations, keySize + BLOCK_SIZE);
+  const cipher = new Class(made.subarray(0, keySize));
+  try {
+    return use(cipher, { iv: made.subarray(keySize) });
+  } finally {
+    cipher.close();
+    made.fill(0);
+  }
+}
+
+// The sentences of strings, where those of the statuses are of other bytes too.
+const OF_A_STRING = new Map([
+  [SALT_LENGTH, "the value ends within the salt"],
+  [BLOCKS, "what is encrypted is not whole blocks of 8 bytes"],
+]);
+
+export function jasyptDecryptValues(password, values, options = {}, ...more) {
+  refuseMore(more);
+  const named = optionsOf(options, "algorithm", "iterations", "errors");
+  const { algorithm = JASYPT_ALGORITHM, iterations = JASYPT_ITERATIONS, errors = "throw" } = named;
+  jasyptOf(algorithm);
+  const count = iterationsOf(iterations);
+  if (count >= TOO_MANY_ITERATIONS) throw faultOf(ITERATIONS);
+  const wanted = errorsOf(errors);
+  const column = columnOf(values, (value) => textOf(value, "a string of Jasypt"));
+  const secret = bytesOf(password, "a password");
+  const lay = (memory) => [...memory.list(nameOf(algorithm, "an algorithm")), count, ...memory.list(secret)];
+  return readColumn("internal_jasypt_decrypt_values", lay, column, wanted, OF_A_STRING);
+}
+
+export function jasyptEncrypt(password, text, options = {}, ...more) {
+  refuseMore(more);
+  const named = optionsOf(options, "algorithm", "iterations", "salt");
+  const { algorithm = JASYPT_ALGORITHM, iterations = JASYPT_ITERATIONS, salt } = named;
+  const grains = salt === undefined ? crypto.getRandomValues(new Uint8Array(BLOCK_SIZE)) : bytesOf(salt, "a salt");
+  if (grains.length !== BLOCK_SIZE) throw new SaltLength(`the salt of Jasypt has ${BLOCK_SIZE} bytes, not ${grains.length}`);
+  const data = pad(text, "pkcs7");
+  const made = byPassword(algorithm, password, grains, iterations, (cipher, vector) => cipher.encryptCbc(data, vector));
+  return btoa(charactersOf(grains) + charactersOf(made));
+}
+
+// The lengths of key and vector together.
+const PBE_LENGTHS = new Map([[KEY_LENGTH, ": 16, 24 or 32 bytes, as the algorithm has it"]]);
+
+export function pbeKey(algorithm, password, salt, iterations, length, ...more) {
+  refuseMore(more);
+  const [name, count, size] = [nameOf(algorithm, "an algorithm"), iterationsOf(iterations), derivedLengthOf(length)];
+  const [secret, grains] = [bytesOf(password, "a password"), bytesOf(salt, "a salt")];
+  return inside((memory) => {
+    const laid = [...memory.list(name), count, ...memory.list(secret), ...memory.list(grains)];
+    const at = memory.allocate(size);
+    const status = memory.ask("pbe_key", ...laid, at, BigInt(size));
+    if (status === SALT_LENGTH) throw new SaltLength(`by this algorithm a salt has 8 bytes, not ${grains.length}`);
+    check(status, PBE_LENGTHS);
+    return memory.taken(at, size);
+  });
+}
+
 /** The kind of a class of MACs, with the number of its padding method. */
 function macsOf(Class, padding) {
   const kind = kindOf(Class, Mac, "the first argument");
@@ -1908,7 +2119,7 @@ function macsOf(Class, padding) {
 /** The tags of messages that stand one after the other, by a call. `lay` gives what it takes of keys. */
 function tagsOf(call, { algorithm, method }, lay, lengths, bytes) {
   return inside((memory) => {
-    const tags = memory.room(TAG_SIZE * lengths.length);
+    const tags = memory.allocate(TAG_SIZE * lengths.length);
     let next = Number(memory.put(bytes));
     const pairs = [];
     for (const length of lengths) {
@@ -1932,19 +2143,19 @@ export function macs(mac, key, padding, lengths, messages, ...more) {
   refuseMore(more);
   const kind = macsOf(mac, padding);
   const numbers = numbersOf(lengths, "lengths");
-  const held = keyOf(key, kind.keySize);
+  const keyBytes = keyOf(key, kind.keySize);
   const bytes = messagesOf(messages, numbers);
-  return tagsOf("internal_macs", kind, (memory) => memory.list(held), numbers, bytes);
+  return tagsOf("internal_macs", kind, (memory) => memory.list(keyBytes), numbers, bytes);
 }
 
 export function macsEach(mac, keys, padding, lengths, messages, ...more) {
   refuseMore(more);
   const kind = macsOf(mac, padding);
   const numbers = numbersOf(lengths, "lengths");
-  const held = listOf(keys, kind.keySize, KeyLength, "keys");
+  const keyBytes = listOf(keys, kind.keySize, KeyLength, "keys");
   const bytes = messagesOf(messages, numbers);
-  if (held.length / kind.keySize !== numbers.length) throw new CountMismatch("the numbers of keys and messages differ");
-  const lay = (memory) => [BigInt(kind.keySize), ...memory.list(held)];
+  if (keyBytes.length / kind.keySize !== numbers.length) throw new CountMismatch("the numbers of keys and messages differ");
+  const lay = (memory) => [BigInt(kind.keySize), ...memory.list(keyBytes)];
   return tagsOf("internal_macs_each", kind, lay, numbers, bytes);
 }
 
@@ -1954,7 +2165,7 @@ export function wrongTags(tags, expected, ...more) {
   if (given.length !== wanted.length) throw new CountMismatch("the numbers of tags and expected tags differ");
   const count = given.length / TAG_SIZE;
   const right = inside((memory) => {
-    const at = memory.room(count);
+    const at = memory.allocate(count);
     memory.call("internal_compare_tags", ...memory.list(given, 8), ...memory.list(wanted, 8), at, BigInt(count));
     return memory.taken(at, count);
   });
