@@ -68,7 +68,7 @@ struct Counter {
 }
 
 impl Counter {
-    // Whether so many bytes came, and none of them was zero.
+    // Whether this many bytes came, and none of them was zero.
     fn has(&self, bytes: usize) -> bool {
         self.bytes == bytes && self.not_zero == bytes
     }
