@@ -93,8 +93,8 @@ public final class Threads {
     }
   }
 
-  static void wraps(int calls, Cipher cipher) throws Exception {
-    Random random = new Random();
+  static void wraps(int number, int calls, Cipher cipher) throws Exception {
+    Random random = new Random(number);
     Key[] keys = {new SecretKeySpec(KEY, "DESede"), new SecretKeySpec(KEY, 0, 16, "DESede")};
     IvParameterSpec iv = new IvParameterSpec(new byte[8]);
     byte[][] wrapped = new byte[2][];
@@ -127,6 +127,6 @@ public final class Threads {
     four(number -> shared(number, Integer.parseInt(arguments[1]), cipher, mac));
     Cipher wrap = Cipher.getInstance("DESedeWrap", OURS);
     wrap.init(Cipher.WRAP_MODE, new SecretKeySpec(KEY, "DESede"));
-    four(number -> wraps(Integer.parseInt(arguments[1]), wrap));
+    four(number -> wraps(number, Integer.parseInt(arguments[1]), wrap));
   }
 }

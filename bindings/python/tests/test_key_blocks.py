@@ -3,6 +3,7 @@
 import enum
 import inspect
 import os
+import random
 import unittest
 from dataclasses import replace
 from unittest import mock
@@ -28,7 +29,7 @@ from cukvashe_des import (
     wrap_key_block,
 )
 
-from .values import BLOCK, BLOCK_HEADER, BLOCK_KEY, PROTECTION
+from .values import BLOCK, BLOCK_HEADER, BLOCK_KEY, PROTECTION, SEED, random_bytes
 
 LONG = bytes.fromhex("3132333435363738393a3b3c3d3e3f404142434445464748")
 LONG_KEY = bytes(range(24))
@@ -201,22 +202,24 @@ class BesideCryptography(unittest.TestCase):
         return front.decode() + encrypted.hex().upper() + mac.hex().upper()
 
     def test_random_blocks(self):
+        chance = random.Random(SEED)
         for number in range(300):
-            protection, key = os.urandom(16 + 8 * (number % 2)), os.urandom(8 + 8 * (number // 2 % 3))
-            padding = os.urandom(30 - len(key) - 8 * (number // 12 % 2 if len(key) < 24 else 0))
+            protection, key = random_bytes(chance, 16 + 8 * (number % 2)), random_bytes(chance, 8 + 8 * (number // 2 % 3))
+            padding = random_bytes(chance, 30 - len(key) - 8 * (number // 12 % 2 if len(key) < 24 else 0))
             header = KeyBlockHeader("BC"[number // 6 % 2], "D0", "T", "B", "00", "N")
             optional = [("KS", "0123456789ab"), ("CT", "x" * 300 + "yz")][: number // 24 % 3]
             data = bytes([0, 8 * len(key)]) + key + padding
             texts = ["KS10" + "0123456789ab", "CT00020138" + "x" * 300 + "yz"][: len(optional)]
             block = self.block(protection, header.version, "D0TB00N", texts, data)
-            self.assertEqual(wrap_key_block(protection, header, key, optional=optional, padding=padding), block)
+            self.assertEqual(wrap_key_block(protection, header, key, optional=optional, padding=padding), block, (SEED, number))
             self.assertEqual(unwrap_key_block(protection, block), (header, key))
             self.assertEqual(key_block_optional_blocks(block), optional)
 
     def test_version_a(self):
         """It is read: as version C, by the same keys."""
+        chance = random.Random(SEED)
         for size in (8, 16, 24):
-            key = os.urandom(size)
-            data = bytes([0, 8 * size]) + key + os.urandom(6)
+            key = random_bytes(chance, size)
+            data = bytes([0, 8 * size]) + key + random_bytes(chance, 6)
             self.assertEqual(unwrap_key_block(PROTECTION, self.block(PROTECTION, "A", "P0TE00E", [], data)),
                              (changed(version="A"), key))

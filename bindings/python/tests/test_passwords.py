@@ -2,14 +2,14 @@
 
 import hashlib
 import inspect
-import os
+import random
 import shutil
 import subprocess
 import unittest
 
 from cukvashe_des import Des, TdesEde2, TdesEde3, bytes_to_key, open_salted, pbkdf2
 
-from .values import SALTED, SALTED_TEXT
+from .values import SALTED, SALTED_TEXT, SEED, random_bytes
 
 SALT = bytes.fromhex("0123456789abcdef")
 
@@ -61,12 +61,13 @@ class Files(unittest.TestCase):
     @unittest.skipIf(shutil.which("openssl") is None, "the program `openssl` is not there")
     def test_beside_openssl(self):
         """Files of each cipher, hash function and length about that of a block."""
+        chance = random.Random(SEED)
         for cipher, word in CIPHERS.items():
             for name, count in DERIVATIONS:
                 for length in (0, 1, 7, 8, 9, 100, 5000):
-                    text = os.urandom(length)
+                    text = random_bytes(chance, length)
                     words = ["openssl", "enc", f"-{word}", "-md", name, "-pass", "pass:secret", "-provider", "legacy",
                              "-provider", "default"]
                     words += [] if count is None else ["-iter", str(count)]
                     data = subprocess.run(words, input=text, stdout=subprocess.PIPE, stderr=subprocess.DEVNULL, check=True).stdout
-                    self.assertEqual(open_salted(cipher, b"secret", data, hash_name=name, iterations=count), text)
+                    self.assertEqual(open_salted(cipher, b"secret", data, hash_name=name, iterations=count), text, (SEED, word, name, length))

@@ -3,6 +3,7 @@
 import functools
 import inspect
 import os
+import random
 
 import cukvashe_des
 from cukvashe_des import (
@@ -17,7 +18,16 @@ from cukvashe_des import (
     TdesEde3,
 )
 
+# Random values are those of a seed, which a failure tells; SEED=NUMBER repeats them.
+SEED = int(os.environ.get("SEED") or random.SystemRandom().randrange(2**32))
+
 TOP = os.path.join(os.path.dirname(os.path.abspath(__file__)), os.pardir, os.pardir, os.pardir)
+
+
+
+def random_bytes(chance, length):
+    return bytes(chance.getrandbits(8) for _ in range(length))
+
 
 KEY = bytes.fromhex("0123456789abcdef23456789abcdef01456789abcdef0123")
 PAIR = bytes.fromhex("0123456789abcdeffedcba9876543210")
