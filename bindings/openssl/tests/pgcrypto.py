@@ -3,6 +3,7 @@ again, and the answers are the same: pgcrypto.py MODULE OURS OWN.
 
 OURS and OWN are configurations of OpenSSL, with the provider and with its own of single DES."""
 
+import os
 import random
 import shutil
 import sys
@@ -36,7 +37,9 @@ def main():
         if server.client(f"select {asked[0]}").returncode == 0:
             sys.exit("pgcrypto.py: single DES works without a provider that has it")
         # The user of the server may not be able to read where it lies.
-        ours = ours.replace(module, shutil.copy(module, server.path))
+        copied = shutil.copy(module, server.path)
+        os.chmod(copied, 0o644)
+        ours = ours.replace(module, copied)
         answers = []
         for configuration in (ours, own):
             server.configure(configuration)

@@ -97,7 +97,8 @@ def store():
     with tempfile.TemporaryDirectory() as folder:
         place, key = f"{folder}/store", words(6, 40)
         make = ["-genkeypair", "-alias", "key", "-keyalg", "RSA", "-dname", "CN=test", "-storetype", "JCEKS", "-keystore", place]
-        subprocess.run(["keytool", *make, "-storepass:env", "KEY"], env={**os.environ, "KEY": key}, check=True, capture_output=True)
+        make += ["-storepass:env", "KEY", "-keypass:env", "KEY"]
+        subprocess.run(["keytool", *make], env={**os.environ, "KEY": key}, check=True, capture_output=True)
         with open(place, "rb") as file:
             parts = re.search(rb"\x06\x09\x2b\x06\x01\x04\x01\x2a\x02\x13\x01\x30.\x04\x08(.{8})\x02(.)(.*)", file.read(), re.DOTALL)
         salt, size, rest = parts[1], parts[2][0], parts[3]

@@ -9,6 +9,7 @@ import json
 import os
 import pathlib
 import re
+import shutil
 import signal
 import subprocess
 import sys
@@ -37,7 +38,7 @@ class Browser:
 
     def __init__(self, *words):
         self.place = None
-        self.folder = tempfile.TemporaryDirectory()
+        self.folder = tempfile.mkdtemp()
         self.driver = subprocess.Popen(["chromedriver", "--port=0"], stdout=subprocess.PIPE, text=True)
         atexit.register(self.close)
         for line in self.driver.stdout:
@@ -46,12 +47,13 @@ class Browser:
                 break
         else:
             raise SystemExit("chromedriver does not start")
-        arguments = ["--headless=new", "--disable-gpu", "--window-size=1180,1000", "--host-resolver-rules=MAP * ~NOTFOUND",
-                     f"--user-data-dir={self.folder.name}", *words]
+        # Shared memory lies in files, since a container may have little of its own.
+        arguments = ["--headless=new", "--disable-gpu", "--disable-dev-shm-usage", "--window-size=1180,1000",
+                     "--host-resolver-rules=MAP * ~NOTFOUND", f"--user-data-dir={self.folder}", *words]
         if os.geteuid() == 0:
             arguments.append("--no-sandbox")
         options = {"args": arguments, "binary": "/usr/bin/chromium"} if os.path.exists("/usr/bin/chromium") else {"args": arguments}
-        wanted = {"browserName": "chrome", "goog:chromeOptions": options,
+        wanted = {"browserName": "chrome", "goog:chromeOptions": options, "timeouts": {"script": 600_000, "pageLoad": 600_000},
                   "goog:loggingPrefs": {"browser": "ALL", "performance": "ALL"}}
         session = self.ask("POST", "/session", {"capabilities": {"alwaysMatch": wanted}})
         self.place = f"/session/{session['sessionId']}"
@@ -103,7 +105,8 @@ class Browser:
         finally:
             self.driver.terminate()
             self.driver.wait()
-        self.folder.cleanup()
+            # Processes of the browser end a moment after it, and may still write there.
+            shutil.rmtree(self.folder, ignore_errors=True)
 
 
 count = 0
