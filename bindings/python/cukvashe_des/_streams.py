@@ -157,5 +157,5 @@ class Cfb(Stream):
         if self._mode != CFB1:
             raise SegmentSizeError("bits are taken with segments of 1 bit alone")
         if not 0 <= _number_of(bits, "the number of bits") <= 8 * len(given):
-            raise DataLengthError(f"{len(given)} bytes do not have so many bits")
+            raise DataLengthError(f"{len(given)} bytes have fewer bits than that")
         return self._answer(call, given, int(bits))

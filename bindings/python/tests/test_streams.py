@@ -226,7 +226,7 @@ class Refused(unittest.TestCase):
         stream = Cfb(TdesEde3(KEY), iv=IV, segment_size=1)
         for call in (stream.encrypt_bits, stream.decrypt_bits):
             for bits in (-1, 25, 2**64, 2**64 + 1):
-                self.assertRaisesRegex(DataLengthError, "^3 bytes do not have so many bits$", call, bytes(3), bits)
+                self.assertRaisesRegex(DataLengthError, "^3 bytes have fewer bits than that$", call, bytes(3), bits)
             for bits in (None, 1.0, True, "1"):
                 self.assertRaisesRegex(TypeError, "^the number of bits is a number$", call, bytes(3), bits)
         for segment in SEGMENTS[1:]:

@@ -24,7 +24,6 @@ SEED = int(os.environ.get("SEED") or random.SystemRandom().randrange(2**32))
 TOP = os.path.join(os.path.dirname(os.path.abspath(__file__)), os.pardir, os.pardir, os.pardir)
 
 
-
 def random_bytes(chance, length):
     return bytes(chance.getrandbits(8) for _ in range(length))
 

@@ -89,7 +89,7 @@ pub enum BitsError {
 }
 
 sentences!(BitsError:
-    BitsError::TooFew => "the data do not have so many bits",
+    BitsError::TooFew => "the data have fewer bits than that",
     BitsError::Segment => "the stream does not have segments of 1 bit",
 );
 

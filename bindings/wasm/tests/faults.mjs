@@ -211,7 +211,7 @@ for (const [Cipher, size] of CIPHERS) {
   }
   for (const bits of [-1, 0.5, NaN, 65, 2 ** 32, 2 ** 64]) {
     const stream = new library.Cfb(cipher, { iv: IV, segmentSize: 1 });
-    throwsFault(() => stream.decryptBits(IV, bits), "DataLength", "8 bytes do not have so many bits");
+    throwsFault(() => stream.decryptBits(IV, bits), "DataLength", "8 bytes have fewer bits than that");
   }
   for (const segmentSize of [8, 64]) {
     const stream = new library.Cfb(cipher, { iv: IV, segmentSize });

@@ -288,7 +288,7 @@ fn errors_are_sentences() {
         (&DeriveError::KeyLength, "the key is longer than 2^32 - 1 digests"),
         (&OpenError::NotBlocks, "what is encrypted is not whole blocks of 8 bytes"),
         (&OpenError::BufferTooSmall, "the buffer is too small for what is opened"),
-        (&BitsError::TooFew, "the data do not have so many bits"),
+        (&BitsError::TooFew, "the data have fewer bits than that"),
         (&BitsError::Segment, "the stream does not have segments of 1 bit"),
         (&WrapError::KeyLength, "the key does not have a length that is wrapped"),
         (&WrapError::BufferTooSmall, "the buffer is too small for the wrapped key"),
