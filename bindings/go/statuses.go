@@ -163,6 +163,6 @@ const (
 	// ErrBase64: the value is not Base64.
 	ErrBase64 Error = 52
 
-	// ErrKeyNumber: the number is not one of a key.
+	// ErrKeyNumber: the number is not 0 to 9, or the file has no key of that number.
 	ErrKeyNumber Error = 53
 )

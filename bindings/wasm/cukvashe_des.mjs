@@ -163,7 +163,7 @@ const SENTENCES = [
   "some values can't be read: their statuses say why",
   "the algorithm is not one that the call takes",
   "the value is not Base64",
-  "the number is not one of a key",
+  "the number is not 0 to 9, or the file has no key of that number",
 ];
 export const KeyLength = fault("KeyLength");
 export const BlockLength = fault("BlockLength");

@@ -52,4 +52,4 @@
 [CUKVASHE_ERR_VALUES] = "some values can't be read: their statuses say why",
 [CUKVASHE_ERR_ALGORITHM] = "the algorithm is not one that the call takes",
 [CUKVASHE_ERR_BASE64] = "the value is not Base64",
-[CUKVASHE_ERR_KEY_NUMBER] = "the number is not one of a key",
+[CUKVASHE_ERR_KEY_NUMBER] = "the number is not 0 to 9, or the file has no key of that number",

@@ -482,7 +482,7 @@ static const char *const words[] = {
     "padding of the key", "no optional block at this place", "hash function is not one", "number of iterations", "do not begin with Salted__",
     "end within the salt, or it does not have 0 or 8 bytes", "context is not one", "mode is not one", "stream is not one",
     "wrapped key does not have a length", "no key that was wrapped", "none that MySQL encrypted", "some values can't be read",
-    "algorithm is not one", "is not Base64", "not one of a key",
+    "algorithm is not one", "is not Base64", "has no key of that number",
 };
 
 /* Every status was returned by some call, and has a sentence of its own; other numbers have one sentence. */

@@ -244,7 +244,7 @@ class Base64Error(Error, ValueError):
 
 
 class KeyNumberError(Error, ValueError):
-    """The number is not one of a key."""
+    """The number is not 0 to 9, or the file has no key of that number."""
 
 
 # This ends what bindings/describe made.

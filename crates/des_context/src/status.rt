@@ -163,5 +163,5 @@ pub const ERR_ALGORITHM: i32 = 51;
 /// The value is not Base64.
 pub const ERR_BASE64: i32 = 52;
 
-/// The number is not one of a key.
+/// The number is not 0 to 9, or the file has no key of that number.
 pub const ERR_KEY_NUMBER: i32 = 53;

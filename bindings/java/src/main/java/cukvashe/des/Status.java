@@ -112,8 +112,8 @@ public enum Status {
   ALGORITHM("the algorithm is not one that the call takes"),
   /** The value is not Base64. */
   BASE64("the value is not Base64"),
-  /** The number is not one of a key. */
-  KEY_NUMBER("the number is not one of a key");
+  /** The number is not 0 to 9, or the file has no key of that number. */
+  KEY_NUMBER("the number is not 0 to 9, or the file has no key of that number");
 
   private static final Status[] BY_NUMBER = values();
 
