@@ -51,12 +51,12 @@ All-reverse P xs all = λ i d within.
     let inside : i < length xs = omega (arith, length-reverse xs) in
     rw (get_or-reverse xs i d inside) (all (length xs - 1 - i) d (omega arith))
 
-All-reversed : (blocks : List (List ℕ)) → All IsBlock blocks → All IsBlock (reversed blocks)
-All-reversed blocks are =
-    let turned : All IsBlock (reverse blocks) = All-reverse IsBlock blocks are in
-    All-map IsBlock reverse (reverse blocks) (λ i d within.
-    let is : IsBlock (get_or (reverse blocks) i d) = turned i d within in
-    (length-reverse _ ∙ is.0, All-reverse (λ byte. byte < 256) _ is.1))
+All-reversed : (iv : List ℕ) (blocks : List (List ℕ)) → IsBlock iv → All IsBlock blocks → All IsBlock (reversed (iv ∷ blocks))
+All-reversed iv blocks is are =
+    let turned : All IsBlock (reverse (iv ∷ blocks)) = All-reverse IsBlock (iv ∷ blocks) (All-cons IsBlock iv blocks is are) in
+    All-map IsBlock reverse (reverse (iv ∷ blocks)) (λ i d within.
+    let it : IsBlock (get_or (reverse (iv ∷ blocks)) i d) = turned i d within in
+    (length-reverse _ ∙ it.0, All-reverse (λ byte. byte < 256) _ it.1))
 
 -- ---- what was enclosed
 
@@ -73,10 +73,8 @@ module _ {E D : List ℕ → List ℕ} (laws : Undoes E D) where
   Encloses-one iv vector p other enclosed is_iv is_vector first second =
       let same : iv ∷ first.temp1 ≡ vector ∷ second.temp1 =
       sym (reversed-reversed (iv ∷ first.temp1))
-      ∙ ap reversed (Cbc-one second_iv _ _ enclosed is_second_iv
-      (All-reversed (iv ∷ first.temp1) (All-cons IsBlock iv first.temp1 is_iv first.are_blocks.1))
-      (All-reversed (vector ∷ second.temp1) (All-cons IsBlock vector second.temp1 is_vector second.are_blocks.1)) first.second
-      second.second)
+      ∙ ap reversed (Cbc-one second_iv _ _ enclosed is_second_iv (All-reversed iv first.temp1 is_iv first.are_blocks.1)
+      (All-reversed vector second.temp1 is_vector second.are_blocks.1) first.second second.second)
       ∙ reversed-reversed (vector ∷ second.temp1) in
       let P : List (List ℕ) → Type 0 = λ blocks. Cbc E (get_or blocks 0 []) other (drop 1 blocks) in
       Cbc-one iv p other first.temp1 is_iv first.are_blocks.0 second.are_blocks.0 first.first (subst P (sym same) second.first)
@@ -134,8 +132,8 @@ Encloses-opened E D first last x y iv behind check middle p turned key enclosed 
 
 -- ---- by the relation of a cipher's key
 
-module _ (Answers : List ℕ → List ℕ → Type 0) (E : List ℕ → List ℕ) (graph : IsGraphOf E Answers) (iv : List ℕ)
-    (p enclosed : List (List ℕ)) where
+module _ {Answers : List ℕ → List ℕ → Type 0} {E : List ℕ → List ℕ} (graph : IsGraphOf E Answers) {iv : List ℕ}
+    {p enclosed : List (List ℕ)} where
   pub Encloses-related : IsBlock iv → ((block : List ℕ) → IsBlock block → IsBlock (E block))
       → Encloses (λ block answer. answer ≡ E block) iv p enclosed → Encloses Answers iv p enclosed
   Encloses-related is_iv makes_blocks encloses = record {
@@ -144,18 +142,14 @@ module _ (Answers : List ℕ → List ℕ → Type 0) (E : List ℕ → List ℕ
     first = Chains-related Answers E graph iv p encloses.temp1 is_iv encloses.are_blocks.0 makes_blocks encloses.first;
     second =
         Chains-related Answers E graph second_iv (reversed (iv ∷ encloses.temp1)) enclosed is_second_iv
-        (All-reversed (iv ∷ encloses.temp1) (All-cons IsBlock iv encloses.temp1 is_iv encloses.are_blocks.1)) makes_blocks
-        encloses.second;
+        (All-reversed iv encloses.temp1 is_iv encloses.are_blocks.1) makes_blocks encloses.second;
   }
 
   pub Encloses-from_related : Encloses Answers iv p enclosed → Encloses (λ block answer. answer ≡ E block) iv p enclosed
-  Encloses-from_related encloses = record {
-    temp1 = encloses.temp1;
-    are_blocks = encloses.are_blocks;
-    first =
-        Chains-weaker Answers (λ block answer. answer ≡ E block) iv p encloses.temp1
-        (λ x y related. sym ((graph x y).0 related).1) encloses.first;
-    second =
-        Chains-weaker Answers (λ block answer. answer ≡ E block) second_iv (reversed (iv ∷ encloses.temp1)) enclosed
-        (λ x y related. sym ((graph x y).0 related).1) encloses.second;
-  }
+  Encloses-from_related encloses =
+      let answers : (x y : List ℕ) → Answers x y → y ≡ E x = λ x y related. sym ((graph x y).0 related).1 in record {
+        temp1 = encloses.temp1;
+        are_blocks = encloses.are_blocks;
+        first = Chains-weaker _ _ _ _ _ answers encloses.first;
+        second = Chains-weaker _ _ _ _ _ answers encloses.second;
+      }

@@ -5,7 +5,7 @@ ghost use Rattle.std.specs.Prelude.{◌≡◌, ◌<◌, ◌≤◌, ◌+◌, ◌*
 ghost use Rattle.std.specs.List.{All};
 ghost use Rattle.std.specs.Int.{w32, to_be_bytes};
 ghost use Rattle.des.specs.Cbc.{xor_blocks};
-ghost use Rattle.des_modes.specs.Tkw.{IsSemiblock, tkw, tw, tw_steps};
+ghost use Rattle.des_modes.specs.Tkw.{IsSemiblock, TkwUnder, tkw, tw, tw_steps};
 
 use crate::checks::are_equal;
 use crate::unwrap_error::UnwrapError;
@@ -125,7 +125,8 @@ pub fn unwrap<C: BlockCipher>(
     requires room { length wrapped.now ≡ length key.old + 1 }
     ensures unwrapped { OnOk result (tkw (C.encrypted cipher.now) key.new ≡ wrapped.now) }
     ensures accepted { (other : List (List ℕ)) → All IsSemiblock other
-        → tkw (C.encrypted cipher.now) other ≡ wrapped.now → IsOk result × (key.new ≡ other) }
+        → TkwUnder (λ block answer. answer ≡ C.encrypted cipher.now block) other wrapped.now
+        → IsOk result × (key.new ≡ other) }
     ensures none { OnErr result (key.new ≡ replicate (length key.old) (replicate 4 0)) }
 {
     let mut first = wrapped[0];

@@ -1,6 +1,4 @@
-use Rattle.std.proofs.Common.{[], ◌∷◌, ◌++◌}
 use Rattle.std.proofs.lemmas.Result.{on_ok_weaker}
-use Rattle.des_modes.specs.CmsKeyWrap.{checksum}
 use Rattle.des_modes.proofs.Enclosed.{Encloses-related, Encloses-from_related}
 use Rattle.des_modes.proofs.by_key.unwrap_cms.Goals as goal
 
@@ -9,14 +7,11 @@ returns-clause-unwrapped g c = λ protection made.
     on_ok_weaker c.unwrap.result (λ wraps. (
       wraps.0,
       wraps.1,
-      Encloses-related _ (g.C.BlockCipherEncrypt.encrypted c.args.cipher.now)
-          (g.met.C.Relating.encrypts_by_relation c.args.cipher.now protection made) wraps.0
-          (c.unwrap.new.key ++ checksum c.unwrap.new.key ∷ []) c.args.wrapped.now wraps.1
+      Encloses-related (g.met.C.Relating.encrypts_by_relation c.args.cipher.now protection made) wraps.1
           (g.met.C.BlockCipher.encrypted_is_block c.args.cipher.now) wraps.2,
     )) c.unwrap.ensures.unwrapped
 
 pub returns-clause-accepted : goal.returns-clause-accepted
 returns-clause-accepted g c = λ protection iv other made is_iv wraps.
     c.unwrap.ensures.accepted iv other is_iv
-    (Encloses-from_related _ (g.C.BlockCipherEncrypt.encrypted c.args.cipher.now)
-    (g.met.C.Relating.encrypts_by_relation c.args.cipher.now protection made) iv (other ++ checksum other ∷ []) c.args.wrapped.now wraps)
+    (Encloses-from_related (g.met.C.Relating.encrypts_by_relation c.args.cipher.now protection made) wraps)

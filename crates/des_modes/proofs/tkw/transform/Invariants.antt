@@ -1,9 +1,10 @@
 -- So many steps are done.
-use Rattle.std.proofs.Common.{◌≡◌, ◌%◌, ◌∷◌, ◌++◌, take, drop}
+use Rattle.std.proofs.Common.{◌≡◌, ◌%◌, ◌∷◌}
 use Rattle.des_modes.specs.Tkw.{tw_steps}
+use Rattle.des_modes.proofs.TkwSteps.{turned}
 use Rattle.des_modes.proofs.tkw.transform.Given as goal
 
 abbrev pub invariant-steps : goal.invariant-steps
 invariant-steps g l =
     tw_steps (g.C.BlockCipherEncrypt.encrypted l.cipher) l.t (l.initial.first ∷ l.initial.words)
-    ≡ l.first ∷ drop (l.t % l.count) l.words ++ take (l.t % l.count) l.words
+    ≡ l.first ∷ turned l.words (l.t % l.count)

@@ -1,11 +1,9 @@
 -- A step more.
-use Rattle.std.proofs.Common.{◌≡◌, ℕ, ◌+◌, ◌*◌, ◌-◌, ◌%◌, ◌<◌, List, [], ◌∷◌, ◌++◌, length, set, get_or, take, drop, ap, sym, ◌∙◌, arith}
-use Rattle.std.specs.Int.{w32, to_be_bytes}
+use Rattle.std.proofs.Common.{◌≡◌, ℕ, ◌+◌, ◌*◌, ◌-◌, ◌%◌, ◌<◌, List, [], ◌∷◌, length, set, get_or, ap, sym, ◌∙◌, arith}
 use Rattle.std.proofs.Math.Nat.{mod-lt, mul-mod_left, zero-mod}
-use Rattle.std.proofs.lemmas.List.{take_more, take-set, drop-set-lt, get_or-set_same, length-set}
-use Rattle.des.specs.Cbc.{xor_blocks}
+use Rattle.std.proofs.lemmas.List.{get_or-set_same, length-set, set-get_or, set-set}
 use Rattle.des_modes.specs.Tkw.{tw_step, tw_steps}
-use Rattle.des_modes.proofs.TkwSteps.{tw_steps-next, tw_step-at, first_place, next_place}
+use Rattle.des_modes.proofs.TkwSteps.{tw_steps-next, tw_step-in_place, turned, turned-none}
 use Rattle.des_modes.proofs.tkw.transform_back.Goals as goal
 
 pub steps-init : goal.steps-init
@@ -14,7 +12,7 @@ steps-init g c =
     let count : ℕ = length words in record {
       within = omega arith;
       undone = λ start same.
-          same ∙ ap (λ (xs : List (List ℕ)). c.args.first.now ∷ xs) (first_place words (6 * count % count) (mul-mod_left 6 count));
+          same ∙ ap (λ (xs : List (List ℕ)). c.args.first.now ∷ xs) (turned-none words (6 * count % count) (mul-mod_left 6 count));
     }
 
 pub steps-preserved : goal.steps-preserved
@@ -25,23 +23,18 @@ steps-preserved g c =
     let i : ℕ = t % count in
     let words : List (List ℕ) = c.steps.words in
     let word : List ℕ = c.step_back.new.word in
-    let first : List ℕ = c.step_back.new.first in
-    let next : List (List ℕ) = set words i word in
     let within : i < length words = omega (arith, mod-lt t c.requires.some) in
     let place : t + 1 ≡ c.steps.left = omega arith in
-    let there : get_or next i [] ≡ word = get_or-set_same words i word [] within in record {
+    let back : set (set words i word) i (get_or words i []) ≡ words = set-set words i word (get_or words i []) ∙ set-get_or words i [] in record {
       within = omega (arith, c.steps.invariant.within);
       undone = λ start same.
           c.steps.invariant.undone start
           (ap (λ (n : ℕ). tw_steps E n start) (sym place) ∙ tw_steps-next E t start ∙ ap (tw_step E (t + 1)) same
-          ∙ tw_step-at E (t + 1) i first c.steps.first next words (omega (arith, length-set words i word))
-          (sym (drop-set-lt (i + 1) words i word (omega arith)))
-          (take_more words i [] within
-          ∙ ap (λ (xs : List (List ℕ)). xs ++ get_or words i [] ∷ []) (sym (take-set words i word))
-          ∙ ap (λ (x : List ℕ). take i next ++ x ∷ []) (sym (ap (λ (x : List ℕ). drop 4 (E (first ++ x))) there ∙ c.step_back.ensures.word)))
-          (ap (λ (x : List ℕ). xor_blocks (take 4 (E (first ++ x))) (to_be_bytes w32 (t + 1))) there ∙ c.step_back.ensures.first)
-          ∙ ap (λ (xs : List (List ℕ)). c.steps.first ∷ xs) (next_place words t count (omega arith) c.requires.some)
-          ∙ ap (λ (n : ℕ). c.steps.first ∷ drop (n % count) words ++ take (n % count) words) place);
+          ∙ tw_step-in_place E t count c.step_back.new.first c.steps.first word (get_or words i []) (set words i word)
+          (omega (arith, length-set words i word)) c.requires.some (get_or-set_same words i word [] within)
+          c.step_back.ensures.first c.step_back.ensures.word
+          ∙ ap (λ (xs : List (List ℕ)). c.steps.first ∷ turned xs ((t + 1) % count)) back
+          ∙ ap (λ (n : ℕ). c.steps.first ∷ turned words (n % count)) place);
     }
 
 pub returns : goal.returns
@@ -53,4 +46,4 @@ returns g c =
     let all : 6 * (length (c.steps.first ∷ words) - 1) ≡ 6 * count = omega arith in
     ap (λ (n : ℕ). tw_steps E n (c.steps.first ∷ words)) all
     ∙ (rw none at c.steps.invariant.undone) (c.steps.first ∷ words)
-    (ap (λ (xs : List (List ℕ)). c.steps.first ∷ xs) (sym (first_place words (0 % count) (zero-mod count))))
+    (ap (λ (xs : List (List ℕ)). c.steps.first ∷ xs) (sym (turned-none words (0 % count) (zero-mod count))))

@@ -1,13 +1,14 @@
 -- What the steps up to the index make the semiblocks of, all steps make the list of that was given.
-use Rattle.std.proofs.Common.{◌≡◌, ℕ, ◌≤◌, ◌*◌, ◌%◌, List, ◌∷◌, ◌++◌, take, drop}
+use Rattle.std.proofs.Common.{◌≡◌, ℕ, ◌≤◌, ◌*◌, ◌%◌, List, ◌∷◌}
 use Rattle.des_modes.specs.Tkw.{tw_steps}
+use Rattle.des_modes.proofs.TkwSteps.{turned}
 use Rattle.des_modes.proofs.tkw.transform_back.Given as goal
 
 abbrev pub invariant-steps : goal.invariant-steps
 invariant-steps g l = record {
   within : l.left ≤ 6 * l.count;
   undone : (start : List (List ℕ)) → tw_steps (g.C.BlockCipherEncrypt.encrypted l.cipher) l.left start
-      ≡ l.first ∷ drop (l.left % l.count) l.words ++ take (l.left % l.count) l.words
+      ≡ l.first ∷ turned l.words (l.left % l.count)
       → tw_steps (g.C.BlockCipherEncrypt.encrypted l.cipher) (6 * l.count) start ≡ l.initial.first ∷ l.initial.words;
 }
 
