@@ -1,29 +1,15 @@
 -- Bytes that go through a stream cipher, piece after piece.
-use Rattle.std.proofs.Common.{◌≡◌, ℕ, ◌+◌, ◌≤◌, List, [], ◌++◌, Option, length, take, drop, refl, subst, arith, append_assoc, append-nil, take-append-drop, take_all, length-append}
+use Rattle.std.proofs.Common.{◌≡◌, ℕ, ◌+◌, ◌≤◌, List, [], ◌++◌, Option, length, take, drop, refl, subst, ◌∙◌, arith, append_assoc, append-nil, take-append-drop, take_all, length-append}
 use Rattle.std.specs.Io.KnownBytes.{Consumes, Appends}
 use Rattle.std.proofs.KnownBytes.{Consumes-trans, Appends-trans, Consumes-nil, Appends-nil}
 use Rattle.des_io.specs.Streams.{Passage, passage_of}
-use Rattle.des_io.specs.StreamCiphers.{AreOfOneMode, Becomes, AppliesPrefix}
+use Rattle.des_io.specs.StreamCiphers.{Becomes, AppliesPrefix}
 use Rattle.des_io.specs.declared.stream_cipher.StreamCipher.{StreamCipher}
-use Rattle.des_io.specs.declared.stream_cipher.StreamCipher.TheVariants.{Ctr as CtrAt, Ofb as OfbAt, EncryptCfb, DecryptCfb}
-
-AreOfOneMode-refl : (state : StreamCipher) → AreOfOneMode state state
-AreOfOneMode-refl (CtrAt state) = (state, refl)
-AreOfOneMode-refl (OfbAt state) = (state, refl)
-AreOfOneMode-refl (EncryptCfb state) = (state, refl)
-AreOfOneMode-refl (DecryptCfb state) = (state, refl)
-
-AreOfOneMode-trans : (state next last : StreamCipher) → AreOfOneMode state next → AreOfOneMode next last
-    → AreOfOneMode state last
-AreOfOneMode-trans (CtrAt state) next last first second = rw first.1 at second
-AreOfOneMode-trans (OfbAt state) next last first second = rw first.1 at second
-AreOfOneMode-trans (EncryptCfb state) next last first second = rw first.1 at second
-AreOfOneMode-trans (DecryptCfb state) next last first second = rw first.1 at second
 
 Becomes-append : {E : List ℕ → List ℕ} {state : StreamCipher} {next last : StreamCipher} {p c more answers : List ℕ}
     → Becomes E state p c next → Becomes E next more answers last → Becomes E state (p ++ more) (c ++ answers) last
 Becomes-append {E} {state} {next} {last} {p} {c} {more} {answers} first second = record {
-  mode = AreOfOneMode-trans state next last first.mode second.mode;
+  mode = second.mode ∙ first.mode;
   goes_on = λ s iv before made behind.
       rw (← append_assoc before p more, ← append_assoc made c answers)
       (second.goes_on s iv (before ++ p) (made ++ c) (first.goes_on s iv before made behind));
@@ -45,7 +31,7 @@ AppliesAll-none E state r u = record {
   from = [];
   to = [];
   read = Consumes-nil r;
-  became = record { mode = AreOfOneMode-refl state; goes_on = λ s iv p c behind. simp append-nil behind };
+  became = record { mode = refl; goes_on = λ s iv p c behind. simp append-nil behind };
   written = Appends-nil u;
   size = refl;
 }

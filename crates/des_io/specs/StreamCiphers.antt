@@ -5,9 +5,6 @@ use Rattle.des_modes.specs.Ctr.{Ctr}
 use Rattle.des_modes.specs.Ofb.{Ofb}
 use Rattle.des_modes.specs.Cfb.{Cfb}
 use Rattle.des_modes.specs.States.{IsCtrAt, IsOfbAt, IsCfbAt}
-use Rattle.des_modes.specs.declared.ctr.Counter.{Counter}
-use Rattle.des_modes.specs.declared.ofb.Feedback.{Feedback}
-use Rattle.des_modes.specs.declared.cfb.Register.{Register}
 use Rattle.des_io.specs.Streams.{Passage}
 use Rattle.des_io.specs.declared.stream_cipher.StreamCipher.{StreamCipher}
 use Rattle.des_io.specs.declared.stream_cipher.StreamCipher.TheVariants.{Ctr as CtrAt, Ofb as OfbAt, EncryptCfb, DecryptCfb}
@@ -20,18 +17,18 @@ IsBehind encryption s iv from to (OfbAt state) = IsOfbAt encryption iv (length f
 IsBehind encryption s iv from to (EncryptCfb state) = IsCfbAt s encryption iv to state × Cfb s encryption iv from to
 IsBehind encryption s iv from to (DecryptCfb state) = IsCfbAt s encryption iv from state × Cfb s encryption iv to from
 
--- the states are of one mode
-abbrev pub AreOfOneMode : (state next : StreamCipher) → Type 0
-AreOfOneMode (CtrAt state) next = (after : Counter) × (next ≡ CtrAt after)
-AreOfOneMode (OfbAt state) next = (after : Feedback) × (next ≡ OfbAt after)
-AreOfOneMode (EncryptCfb state) next = (after : Register) × (next ≡ EncryptCfb after)
-AreOfOneMode (DecryptCfb state) next = (after : Register) × (next ≡ DecryptCfb after)
+-- a number for each mode
+abbrev pub mode_of : StreamCipher → ℕ
+mode_of (CtrAt state) = 0
+mode_of (OfbAt state) = 1
+mode_of (EncryptCfb state) = 2
+mode_of (DecryptCfb state) = 3
 
 -- the bytes that come next, `from`, become `to`: behind all that is behind the state, they and what they become are of the
 -- same stream, and the state goes on to `next`
 pub record Becomes (encryption : List ℕ → List ℕ) (state : StreamCipher) (from to : List ℕ) (next : StreamCipher)
     : Type 0 where
-  pub mode : AreOfOneMode state next
+  pub mode : mode_of next ≡ mode_of state
   pub goes_on : (s : ℕ) (iv p c : List ℕ) → IsBehind encryption s iv p c state
       → IsBehind encryption s iv (p ++ from) (c ++ to) next
 
