@@ -3,7 +3,6 @@ pub mod Absorbing
 pub mod ChainedBytes
 pub mod Doubling
 pub mod MaskedTags
-pub mod Differences
 pub mod PaddedBytes
 pub mod RelatedMacs
 pub mod RelatedRetailMacs

@@ -29,11 +29,11 @@ pub(crate) fn are_equal(bytes: &[u8], others: &[u8]) -> bool
     requires { length bytes.now ≡ length others.now }
     ensures { IsTrue result ↔ (bytes.now ≡ others.now) }
 {
-    let mut differences = 0;
+    let mut same = true;
     for (i, byte) in bytes.iter().enumerate() {
-        differences |= byte ^ others[i];
+        same &= *byte == others[i];
     }
-    differences == 0
+    same
 }
 
 /// Accepts the first 4 to 8 bytes of a tag and nothing else: `MacError` if they are others, and
