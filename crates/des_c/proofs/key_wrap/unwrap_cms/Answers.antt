@@ -1,32 +1,15 @@
-use Rattle.std.proofs.Common.{◌≡◌, ℕ, List, length, IsOk, OnOk, rules}
-use Rattle.des.specs.Blocks.{IsBlock}
-use Rattle.des_modes.specs.CmsKeyWrap.{WrapsUnder}
+use Rattle.std.proofs.Common.{rules}
 use Rattle.des_c.proofs.ProtectionKeys.{by_length}
 use Rattle.des_c.proofs.key_wrap.unwrap_cms.Goals as goal
 
 pub returns-in-16-clause-unwrapped : goal.returns-in-16-clause-unwrapped
-returns-in-16-clause-unwrapped c =
-    let size : length c.args.protection.now ≡ 16 = search rules in
-    by_length (λ relation. OnOk c.unwrap_cms_as.result ((iv : List ℕ) × IsBlock iv
-    × WrapsUnder relation iv c.unwrap_cms_as.new.key c.args.wrapped.now)) 16 c.args.protection.now size
-    c.unwrap_cms_as.ensures.unwrapped
+returns-in-16-clause-unwrapped c = rw (by_length 16 c.args.protection.now (search rules)) c.unwrap_cms_as.ensures.unwrapped
 
 pub returns-in-16-clause-accepted : goal.returns-in-16-clause-accepted
-returns-in-16-clause-accepted c =
-    let size : length c.args.protection.now ≡ 16 = search rules in
-    by_length (λ relation. (iv : List ℕ) (other : List (List ℕ)) → IsBlock iv → WrapsUnder relation iv other c.args.wrapped.now
-    → IsOk c.unwrap_cms_as.result × (c.unwrap_cms_as.new.key ≡ other)) 16 c.args.protection.now size c.unwrap_cms_as.ensures.accepted
+returns-in-16-clause-accepted c = rw (by_length 16 c.args.protection.now (search rules)) c.unwrap_cms_as.ensures.accepted
 
 pub returns-in_default-clause-unwrapped : goal.returns-in_default-clause-unwrapped
-returns-in_default-clause-unwrapped c =
-    let size : length c.args.protection.now ≡ 24 = search rules in
-    by_length (λ relation. OnOk c.unwrap_cms_as-in_default.result ((iv : List ℕ) × IsBlock iv
-    × WrapsUnder relation iv c.unwrap_cms_as-in_default.new.key c.args.wrapped.now)) 24 c.args.protection.now size
-    c.unwrap_cms_as-in_default.ensures.unwrapped
+returns-in_default-clause-unwrapped c = rw (by_length 24 c.args.protection.now (search rules)) c.unwrap_cms_as-in_default.ensures.unwrapped
 
 pub returns-in_default-clause-accepted : goal.returns-in_default-clause-accepted
-returns-in_default-clause-accepted c =
-    let size : length c.args.protection.now ≡ 24 = search rules in
-    by_length (λ relation. (iv : List ℕ) (other : List (List ℕ)) → IsBlock iv → WrapsUnder relation iv other c.args.wrapped.now
-    → IsOk c.unwrap_cms_as-in_default.result × (c.unwrap_cms_as-in_default.new.key ≡ other)) 24 c.args.protection.now size
-    c.unwrap_cms_as-in_default.ensures.accepted
+returns-in_default-clause-accepted c = rw (by_length 24 c.args.protection.now (search rules)) c.unwrap_cms_as-in_default.ensures.accepted
