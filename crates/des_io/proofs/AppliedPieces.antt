@@ -15,6 +15,9 @@ Becomes-append {E} {state} {next} {last} {p} {c} {more} {answers} first second =
       (second.goes_on s iv (before ++ p) (made ++ c) (first.goes_on s iv before made behind));
 }
 
+Becomes-none : (E : List ℕ → List ℕ) (state : StreamCipher) → Becomes E state [] [] state
+Becomes-none E state = record { mode = refl; goes_on = λ s iv p c behind. simp append-nil behind }
+
 -- `count` bytes were read, and what they become was written
 pub record AppliesAll (encryption : List ℕ → List ℕ) (state next : StreamCipher) (count : ℕ) (passage : Passage)
     : Type 0 where
@@ -31,7 +34,7 @@ AppliesAll-none E state r u = record {
   from = [];
   to = [];
   read = Consumes-nil r;
-  became = record { mode = refl; goes_on = λ s iv p c behind. simp append-nil behind };
+  became = Becomes-none E state;
   written = Appends-nil u;
   size = refl;
 }
@@ -50,36 +53,26 @@ AppliesAll-more {r = r} {s} {t} {u} {v} {w} bytes answers last n k so_far read s
   size = omega (arith, length-append so_far.from bytes, so_far.size, size);
 }
 
--- after bytes that were read and not written
-pub AppliesPrefix-read : {E : List ℕ → List ℕ} {state next : StreamCipher} {count limit : ℕ}
-    {r s t u v : Option (List ℕ)} (bytes : List ℕ) → AppliesAll E state next count (passage_of r s u v)
-    → Consumes s t bytes → count ≤ limit → AppliesPrefix E state limit (passage_of r t u v)
-AppliesPrefix-read {next = next} {r = r} {s} {t} bytes so_far read within = record {
-  from = so_far.from;
-  rest = bytes;
-  put = so_far.to;
-  missing = [];
-  next = next;
-  read = Consumes-trans r s t _ _ so_far.read read;
-  became = rw append-nil so_far.became;
-  written = so_far.written;
-  within = omega (arith, so_far.size, within);
-}
-
--- after a piece that was written, perhaps not the whole of it
-pub AppliesPrefix-written : {E : List ℕ → List ℕ} {state next : StreamCipher} {count limit : ℕ}
-    {r s t u v w : Option (List ℕ)} (bytes answers : List ℕ) (last : StreamCipher) (n k : ℕ)
-    → AppliesAll E state next count (passage_of r s u v) → Consumes s t bytes → length bytes ≡ n
-    → Becomes E next bytes answers last → Appends v w (take k answers) → count + n ≤ limit
-    → AppliesPrefix E state limit (passage_of r t u w)
-AppliesPrefix-written {r = r} {s} {t} {u} {v} {w} bytes answers last n k so_far read size became written within = record {
+-- after a piece that was written, perhaps not the whole of it, and bytes that were read behind it
+pub AppliesPrefix-more : {E : List ℕ → List ℕ} {state next last : StreamCipher} {count limit : ℕ}
+    {r s t u v w : Option (List ℕ)} {answers : List ℕ} (bytes rest : List ℕ) (k : ℕ)
+    → AppliesAll E state next count (passage_of r s u v) → Consumes s t (bytes ++ rest) → Becomes E next bytes answers last
+    → Appends v w (take k answers) → count + length bytes ≤ limit → AppliesPrefix E state limit (passage_of r t u w)
+AppliesPrefix-more {last = last} {r = r} {s} {t} {u} {v} {w} {answers} bytes rest k so_far read became written within = record {
   from = so_far.from ++ bytes;
-  rest = [];
+  rest = rest;
   put = so_far.to ++ take k answers;
   missing = drop k answers;
   next = last;
-  read = rw append-nil (Consumes-trans r s t _ _ so_far.read read);
+  read = rw append_assoc (Consumes-trans r s t _ _ so_far.read read);
   became = rw (append_assoc, take-append-drop) (Becomes-append so_far.became became);
   written = Appends-trans u v w _ _ so_far.written written;
-  within = omega (arith, length-append so_far.from bytes, so_far.size, size, within);
+  within = omega (arith, length-append so_far.from bytes, so_far.size, within);
 }
+
+-- after bytes that were read alone
+pub AppliesPrefix-read : {E : List ℕ → List ℕ} {state next : StreamCipher} {count limit : ℕ}
+    {r s t u v : Option (List ℕ)} (bytes : List ℕ) → AppliesAll E state next count (passage_of r s u v)
+    → Consumes s t bytes → count ≤ limit → AppliesPrefix E state limit (passage_of r t u v)
+AppliesPrefix-read {v = v} bytes so_far read within =
+    AppliesPrefix-more [] bytes 0 so_far read (Becomes-none _ _) (Appends-nil v) (omega arith)

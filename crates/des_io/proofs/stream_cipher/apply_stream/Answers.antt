@@ -1,7 +1,7 @@
-use Rattle.std.proofs.Common.{◌+◌, ◌≤◌, inl, inr, true, [], rules, refl, arith, length-take-le}
+use Rattle.std.proofs.Common.{◌≡◌, ℕ, ◌+◌, ◌≤◌, List, inl, inr, true, [], length, take, rules, refl, append-nil, arith, length-take-le}
 use Rattle.std.proofs.KnownBytes.{Consumes-nil}
 use Rattle.std.proofs.Math.Nat.{eq-or-lt_of_le}
-use Rattle.des_io.proofs.AppliedPieces.{AppliesAll-none, AppliesAll-more, AppliesPrefix-read, AppliesPrefix-written}
+use Rattle.des_io.proofs.AppliedPieces.{AppliesAll-none, AppliesAll-more, AppliesPrefix-read, AppliesPrefix-more}
 use Rattle.des_io.proofs.stream_cipher.apply_stream.Goals as goal
 
 pub loop-init : goal.loop-init
@@ -15,8 +15,10 @@ returns-in_err-n-clause-prefix g c =
 pub returns-in_err-write_whole-clause-prefix : goal.returns-in_err-write_whole-clause-prefix
 returns-in_err-write_whole-clause-prefix g c =
     let (k, within, written, full) = c.write_whole.ensures.written in
-    AppliesPrefix-written _ _ _ c.in_ok-n.n k c.loop.invariant.so_far c.in_ok-n.ensures.read
-    (length-take-le _ _ (search rules)) c.apply.ensures written (omega (arith, c.min-most.ensures, c.in_ok-n.ensures.within))
+    let bytes : List ℕ = take c.in_ok-n.n c.fill_prefix.new.buffer in
+    let long : length bytes ≡ c.in_ok-n.n = length-take-le _ _ (search rules) in
+    AppliesPrefix-more bytes [] k c.loop.invariant.so_far (rw append-nil c.in_ok-n.ensures.read) c.apply.ensures written
+    (omega (arith, c.min-most.ensures, c.in_ok-n.ensures.within, long))
 
 pub returns-then-n-capacity : goal.returns-then-n-capacity
 returns-then-n-capacity g c =
