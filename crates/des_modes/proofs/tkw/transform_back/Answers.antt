@@ -25,7 +25,8 @@ steps-preserved g c =
     let word : List ℕ = c.step_back.new.word in
     let within : i < length words = omega (arith, mod-lt t c.requires.some) in
     let place : t + 1 ≡ c.steps.left = omega arith in
-    let back : set (set words i word) i (get_or words i []) ≡ words = set-set words i word (get_or words i []) ∙ set-get_or words i [] in record {
+    let back : set (set words i word) i (get_or words i []) ≡ words =
+    set-set words i word (get_or words i []) ∙ set-get_or words i [] in record {
       within = omega (arith, c.steps.invariant.within);
       undone = λ start same.
           c.steps.invariant.undone start
