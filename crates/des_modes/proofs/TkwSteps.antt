@@ -4,7 +4,7 @@ use Rattle.std.specs.Int.{w32, to_be_bytes}
 use Rattle.std.specs.List.{All}
 use Rattle.std.proofs.lemmas.Bool.{cases_lt}
 use Rattle.std.proofs.lemmas.List.{append-nil, drop_all, drop_more, drop-set-lt, length-set, same_from_push, take_all, take_more_set, take-append-drop}
-use Rattle.std.proofs.Math.Nat.{mod-eq_of_lt, mod-lt, mod_self}
+use Rattle.std.proofs.Math.Nat.{mod-add-mod, mod-eq_of_lt, mod-lt, mod_self}
 use Rattle.std.proofs.lemmas.List.Elements.{All-cons, All-append, All-push, All-take, All-drop, All-from_get_or}
 use Rattle.std.proofs.lemmas.Nat.{xor_lt}
 use Rattle.std.specs.Simd.Lanes.{zip2}
@@ -14,7 +14,6 @@ use Rattle.des.specs.Cbc.{xor_blocks}
 use Rattle.des.specs.Laws.BlockBits.{AreBytes-bytes_high_first}
 use Rattle.des.proofs.XoredBlocks.{xor_blocks-undone}
 use Rattle.des.specs.Relations.{IsGraphOf}
-use Rattle.des_modes.proofs.Segments.{further-mod}
 use Rattle.des_modes.specs.Tkw.{IsSemiblock, TkwUnder, icv3, tw_step, tw_steps, tw, tkw}
 
 -- a step more
@@ -33,7 +32,7 @@ turned-none words i none = ap (turned words) none ∙ append-nil words
 -- the place after the last is the first
 turned-next : (words : List (List ℕ)) (t n : ℕ) → length words ≡ n → 1 ≤ n
     → turned words (t % n + 1) ≡ turned words ((t + 1) % n)
-turned-next words t n size some = rw (further-mod n t 1) (elim (cases_lt (t % n + 1) n) [
+turned-next words t n size some = rw (← mod-add-mod t n 1) (elim (cases_lt (t % n + 1) n) [
   | inl inside ↦ ap (turned words) (sym (mod-eq_of_lt inside))
   | inr past ↦
       let full : t % n + 1 ≡ n = omega (arith, mod-lt t some) in
