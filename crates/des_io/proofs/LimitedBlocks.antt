@@ -47,18 +47,18 @@ ends_alone r count (inr is) = cc
 pub IsLeft-fits : (limit left : Option ℕ) (q more : List (List ℕ)) (count : ℕ) → IsLeft limit (length q) left
     → IfSome left (λ left. count ≤ left)
     → length more ≤ count → IsWithin limit (length (q ++ more))
-IsLeft-fits None None q more count first room fits = tt
-IsLeft-fits None (Some left) q more count first room fits = absurd first
-IsLeft-fits (Some limit) None q more count first room fits = absurd first
-IsLeft-fits (Some limit) (Some left) q more count first room fits = omega
-    (arith, length-append q more, first, room, fits)
+IsLeft-fits None None q more count first enough fits = tt
+IsLeft-fits None (Some left) q more count first enough fits = absurd first
+IsLeft-fits (Some limit) None q more count first enough fits = absurd first
+IsLeft-fits (Some limit) (Some left) q more count first enough fits = omega
+    (arith, length-append q more, first, enough, fits)
 
 -- and so does a block of which only some bytes are there, after others
 pub IsLeft-begun : (limit left : Option ℕ) (done count n bytes : ℕ) → IsLeft limit done left
     → IfSome left (λ left. count ≤ left) → n < 8 * count
     → bytes ≡ 8 * done + n → IsWithin limit (bytes / 8 + 1)
-IsLeft-begun None None done count n bytes first room below total = tt
-IsLeft-begun None (Some left) done count n bytes first room below total = absurd first
-IsLeft-begun (Some limit) None done count n bytes first room below total = absurd first
-IsLeft-begun (Some limit) (Some left) done count n bytes first room below total = omega
-    (arith, first, room, below, total)
+IsLeft-begun None None done count n bytes first enough below total = tt
+IsLeft-begun None (Some left) done count n bytes first enough below total = absurd first
+IsLeft-begun (Some limit) None done count n bytes first enough below total = absurd first
+IsLeft-begun (Some limit) (Some left) done count n bytes first enough below total = omega
+    (arith, first, enough, below, total)

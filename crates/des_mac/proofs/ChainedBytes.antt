@@ -7,8 +7,8 @@ use Rattle.des_mac.specs.CbcMac.{block_after, chain_after}
 -- a block of a list is that of a longer one
 pub block_after-append : (m x : List ℕ) (n : ℕ) → 8 * n + 8 ≤ length m → block_after (m ++ x) n ≡ block_after m n
 block_after-append m x n fits =
-    let room : 8 ≤ length (drop (8 * n) m) = omega (arith, length-drop (8 * n) m) in
-    rw (drop-append-le (8 * n) m x (omega arith)) (take-append-le 8 (drop (8 * n) m) x room)
+    let whole : 8 ≤ length (drop (8 * n) m) = omega (arith, length-drop (8 * n) m) in
+    rw (drop-append-le (8 * n) m x (omega arith)) (take-append-le 8 (drop (8 * n) m) x whole)
 
 -- past as many whole blocks the blocks of a list are those of what comes after them
 pub block_after-past : (p q : List ℕ) (k i : ℕ) → length p ≡ 8 * k → block_after (p ++ q) (k + i) ≡ block_after q i

@@ -48,10 +48,10 @@ module _ (subkey m : List ℕ) (width : length subkey ≡ 8) (whole : AreWholeBl
       let place : ℕ = 8 * i in
       let bytes : List ℕ = front ++ last in
       let inside : place + 8 ≤ length m - 8 = omega (arith, before) in
-      let room : length (drop place bytes) ≡ length bytes - place = length-drop place bytes in
+      let left : length (drop place bytes) ≡ length bytes - place = length-drop place bytes in
       let size : length bytes ≡ length m = length-masked in
       bytes-from (take 8 (drop place bytes)) m place
-      (length-take-le 8 (drop place bytes) (omega (arith, room, size, inside)))
+      (length-take-le 8 (drop place bytes) (omega (arith, left, size, inside)))
       (omega (arith, inside))
       (λ k low.
       get_or-take 8 (drop place bytes) k 0 low

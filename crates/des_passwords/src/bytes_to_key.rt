@@ -62,15 +62,15 @@ pub fn bytes_to_key<H: HashFunction>(
     let count = bytes.len() / size;
     let mut digest = [0; 32];
     let last = &mut digest[..size];
-    let mut held = 0;
+    let mut previous_size = 0;
     'digests: for i in 0..count {
-        write_next::<H>(held, password, salt, iterations, last);
-        held = size;
+        write_next::<H>(previous_size, password, salt, iterations, last);
+        previous_size = size;
         bytes[size * i..size * i + size].copy_from_slice(last);
     }
     let rest = bytes.len() - size * count;
     if rest > 0 {
-        write_next::<H>(held, password, salt, iterations, last);
+        write_next::<H>(previous_size, password, salt, iterations, last);
         bytes[size * count..].copy_from_slice(&last[..rest]);
     }
     Ok(())

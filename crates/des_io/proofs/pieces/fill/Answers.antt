@@ -11,10 +11,10 @@ pub loop-preserved : goal.loop-preserved
 loop-preserved g c = elim c.match-read.branch [
   | in-Ok w ↦
       let from = c.loop.at in
-      let room = length c.loop.buffer - from in
+      let capacity = length c.loop.buffer - from in
       let within = c.loop.invariant.within in
-      let part = slice_range-put_mid from room w.in-Ok.n c.loop.buffer c.read.new.buf within w.in-Ok.ensures.bound.0 in
-      let joined = take_split from (from + w.in-Ok.n) c.loop.buffer (put_mid from room c.loop.buffer c.read.new.buf)
+      let part = slice_range-put_mid from capacity w.in-Ok.n c.loop.buffer c.read.new.buf within w.in-Ok.ensures.bound.0 in
+      let joined = take_split from (from + w.in-Ok.n) c.loop.buffer (put_mid from capacity c.loop.buffer c.read.new.buf)
       (omega arith) (take-put_mid_below _ _ _ _ _ (le_refl _) within) in
       rw w.at-is (record {
         count = search rules;

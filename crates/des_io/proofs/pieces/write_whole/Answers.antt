@@ -12,10 +12,10 @@ loop-preserved g c = elim c.match-write.branch [
       let at = c.loop.at in
       let bytes = c.args.bytes.now in
       let n = w.in-Ok.n in
-      let room : ℕ = length c.args.bytes.now - c.loop.at in
-      let fits : n ≤ room = search rules in
-      let joined : take at bytes ++ take n (take room (drop at bytes)) ≡ take (at + n) bytes =
-      ap (λ (x : List ℕ). take at bytes ++ x) (take-take n room (drop at bytes) fits) ∙ sym (take-add at n bytes) in
+      let pending : ℕ = length c.args.bytes.now - c.loop.at in
+      let fits : n ≤ pending = search rules in
+      let joined : take at bytes ++ take n (take pending (drop at bytes)) ≡ take (at + n) bytes =
+      ap (λ (x : List ℕ). take at bytes ++ x) (take-take n pending (drop at bytes) fits) ∙ sym (take-add at n bytes) in
       rw w.at-is (record {
         within = omega (arith, fits);
         written = subst (Appends _ _) joined (Appends-trans _ _ _ _ _ c.loop.invariant.written w.in-Ok.ensures.bytes);

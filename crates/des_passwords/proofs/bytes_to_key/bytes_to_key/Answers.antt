@@ -14,7 +14,7 @@ digests-init g c =
     record {
       width = length-take-le c.SIZE-size.result _ short ∙ c.SIZE-size.ensures;
       fits = omega arith;
-      held = sym (d-none digest c.args.iterations c.args.password.now c.args.salt.now);
+      previous = sym (d-none digest c.args.iterations c.args.password.now c.args.salt.now);
       written = ap (λ n. take n c.args.bytes.now) none
           ∙ sym (ds-none digest c.args.iterations c.args.password.now c.args.salt.now);
     }
@@ -34,7 +34,7 @@ digests-preserved g c =
     let next : last ≡ d digest c.args.iterations c.args.password.now c.args.salt.now (i + 1) =
     c.write_next.ensures.digest
     ∙ ap (λ (l : List ℕ). repeated digest c.args.iterations (l ++ c.args.password.now ++ c.args.salt.now))
-    c.digests.invariant.held
+    c.digests.invariant.previous
     ∙ sym (d-next digest c.args.iterations c.args.password.now c.args.salt.now i) in
     let copied = c.copy_from_slice.new.self in
     let long : length copied ≡ size =
@@ -46,7 +46,7 @@ digests-preserved g c =
     record {
       width = c.write_next.ensures.length;
       fits = omega (arith, is);
-      held = take_all size last (omega (arith, is, c.write_next.ensures.length)) ∙ next;
+      previous = take_all size last (omega (arith, is, c.write_next.ensures.length)) ∙ next;
       written = part_more (size * i) (size * i + size - size * i) (g.H.HashFunction.SIZE * (i + 1)) xs copied front
           (omega arith) end written
           ∙ ap (λ l. front ++ l) (c.copy_from_slice.ensures.after ∙ next)
@@ -71,7 +71,7 @@ returns-then-rest-gt0-clause-ok g c =
     let next : last ≡ d digest c.args.iterations c.args.password.now c.args.salt.now (count + 1) =
     c.write_next-then-rest-gt0.ensures.digest
     ∙ ap (λ (l : List ℕ). repeated digest c.args.iterations (l ++ c.args.password.now ++ c.args.salt.now))
-    c.digests.invariant.held
+    c.digests.invariant.previous
     ∙ sym (d-next digest c.args.iterations c.args.password.now c.args.salt.now c.digests.i)
     ∙ ap (λ n. d digest c.args.iterations c.args.password.now c.args.salt.now (n + 1)) ended in
     let wide : length last ≡ size = c.write_next-then-rest-gt0.ensures.length ∙ sym is in

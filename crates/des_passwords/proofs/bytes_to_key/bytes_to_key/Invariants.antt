@@ -8,7 +8,7 @@ invariant-digests g l =
     let digest = g.H.HashFunction.digest in let size = g.H.HashFunction.SIZE in
     record {
       width : length l.last ≡ size;
-      fits : l.held ≤ size;
-      held : take l.held l.last ≡ d digest l.iterations l.password l.salt l.i;
+      fits : l.previous_size ≤ size;
+      previous : take l.previous_size l.last ≡ d digest l.iterations l.password l.salt l.i;
       written : take (size * l.i) l.bytes ≡ ds digest l.iterations l.password l.salt l.i;
     }
