@@ -18,8 +18,8 @@ moved : {count other : ℕ} {value xs ys : List ℕ} → IsWritten count value x
     → IsWritten other value ys
 moved is same same_list = record {
   count_is = same ∙ is.count_is ∙ ap length (sym same_list);
-  written = λ k room below.
-      is.written k room (omega (arith, same)) ∙ ap (λ (zs : List ℕ). get_or zs k 0) (sym same_list);
+  written = λ k inside below.
+      is.written k inside (omega (arith, same)) ∙ ap (λ (zs : List ℕ). get_or zs k 0) (sym same_list);
 }
 
 -- a digit is written after them: it counts if it is chosen
@@ -27,13 +27,13 @@ module _ (count : ℕ) (value after xs : List ℕ) (digit : ℕ) (is : IsWritten
     (long : length after ≡ length value)
     (writes : (k : ℕ) → k < length value → get_or after k 0 ≡ (if k == count then digit else get_or value k 0)) where
   kept : (k : ℕ) → k < length value → k < count → get_or after k 0 ≡ get_or value k 0
-  kept k room below =
+  kept k inside below =
       let other : (k == count) ≡ false = ne_eqb k count (λ same. omega arith) in
-      writes k room ∙ ap (λ (b : Bool). if b then digit else get_or value k 0) other
+      writes k inside ∙ ap (λ (b : Bool). if b then digit else get_or value k 0) other
 
   last : (k : ℕ) → k < length value → k ≡ count → get_or after k 0 ≡ digit
-  last k room same =
-      writes k room ∙ ap (λ (b : Bool). if b then digit else get_or value k 0) (eq-eqb k count same)
+  last k inside same =
+      writes k inside ∙ ap (λ (b : Bool). if b then digit else get_or value k 0) (eq-eqb k count same)
 
   at_end : (k : ℕ) → k ≡ count → get_or (xs ++ digit ∷ []) k 0 ≡ digit
   at_end k same =
@@ -43,23 +43,23 @@ module _ (count : ℕ) (value after xs : List ℕ) (digit : ℕ) (is : IsWritten
   passed : IsWritten count after xs
   passed = record {
     count_is = is.count_is;
-    written = λ k room below.
+    written = λ k inside below.
         let place : k < length value = omega (arith, long) in kept k place below ∙ is.written k place below;
   }
 
   more : (k : ℕ) → k < length value → k < count + 1 → get_or after k 0 ≡ get_or (xs ++ digit ∷ []) k 0
-  more k room below =
+  more k inside below =
       elim (cases_lt k count) [
         | inl less ↦
-            kept k room less ∙ is.written k room less
+            kept k inside less ∙ is.written k inside less
             ∙ sym (get_or_append_left xs (digit ∷ []) 0 k (omega (arith, is.count_is)))
-        | inr least ↦ let same : k ≡ count = omega arith in last k room same ∙ sym (at_end k same)
+        | inr least ↦ let same : k ≡ count = omega arith in last k inside same ∙ sym (at_end k same)
       ]
 
   taken : IsWritten (count + 1) after (xs ++ digit ∷ [])
   taken = record {
     count_is = omega (arith, is.count_is, length-append xs (digit ∷ []));
-    written = λ k room below. more k (omega (arith, long)) below;
+    written = λ k inside below. more k (omega (arith, long)) below;
   }
 
   pub IsWritten-more : (chosen : Bool) (others : List ℕ) (next : ℕ) → next ≡ count + cond chosen 1 0
@@ -72,8 +72,8 @@ module _ (count : ℕ) (value after xs : List ℕ) (digit : ℕ) (is : IsWritten
 -- all digits of a list are found, so the first of them are written
 pub IsWritten-all : (count : ℕ) (value xs : List ℕ) → IsWritten count value xs → length value ≤ length xs
     → value ≡ take (length value) xs
-IsWritten-all count value xs is room =
-    same_number_lists value (take (length value) xs) (sym (length-take-le (length value) xs room))
+IsWritten-all count value xs is inside =
+    same_number_lists value (take (length value) xs) (sym (length-take-le (length value) xs inside))
     (λ k within.
     is.written k within (omega (arith, is.count_is))
     ∙ sym (get_or-take (length value) xs k 0 within))

@@ -19,18 +19,18 @@ stage-fault protection block _ is fault = (is, inr fault)
 module _ (protection block front rest : List ℕ) (size : ℕ) (is_front : front ≡ take size block)
     (is_rest : rest ≡ drop size block) where
   -- what is sealed in a block that holds a key, after the front that was found
-  pub held-sealed : (version : Version) (header : Header) (blocks : List (List ℕ × List ℕ)) (key padding : List ℕ)
-      → (held : IsKeyBlock protection header blocks key padding block) → size ≡ length held.front
+  pub sealed-there : (version : Version) (header : Header) (blocks : List (List ℕ × List ℕ)) (key padding : List ℕ)
+      → (is : IsKeyBlock protection header blocks key padding block) → size ≡ length is.front
       → version ≡ header.version → IsSealed version protection front (key_data key padding) rest
-  held-sealed version header blocks key padding held count same =
-      let fronts : held.front ≡ front =
-      sym (is_front ∙ front-there block held.front held.sealed size held.parts.is_block count) in
-      let rests : held.sealed ≡ rest =
-      sym (is_rest ∙ rest-there block held.front held.sealed size held.parts.is_block count) in
+  sealed-there version header blocks key padding is count same =
+      let fronts : is.front ≡ front =
+      sym (is_front ∙ front-there block is.front is.sealed size is.parts.is_block count) in
+      let rests : is.sealed ≡ rest =
+      sym (is_rest ∙ rest-there block is.front is.sealed size is.parts.is_block count) in
       subst (λ (v : Version). IsSealed v protection front (key_data key padding) rest) (sym same)
       (subst (λ (r : List ℕ). IsSealed header.version protection front (key_data key padding) r) rests
-      (subst (λ (f : List ℕ). IsSealed header.version protection f (key_data key padding) held.sealed) fronts
-      held.is_sealed))
+      (subst (λ (f : List ℕ). IsSealed header.version protection f (key_data key padding) is.sealed) fronts
+      is.is_sealed))
 
   parts-moved : (header : Header) (blocks : List (List ℕ × List ℕ))
       → HasParts header blocks (take size block) (drop size block) block → HasParts header blocks front rest block

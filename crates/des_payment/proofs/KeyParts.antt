@@ -27,6 +27,6 @@ pub three_parts-of_two : (first second third : List ℕ) → length first ≡ 8 
 three_parts-of_two first second third is_first is_second =
     let both : List ℕ = first ++ second in
     let count : length both ≡ 16 = omega (arith, length-append first second) in
-    let room : 24 - length both ≡ 8 = omega arith in
+    let rest : 24 - length both ≡ 8 = omega arith in
     sym (ap three_parts (take_at both third 16 count) ∙ three_parts-front both (omega arith)
-    ∙ ap (λ (back : List ℕ). both ++ back) (ap (λ n. take n both) room ∙ take_at first second 8 is_first))
+    ∙ ap (λ (back : List ℕ). both ++ back) (ap (λ n. take n both) rest ∙ take_at first second 8 is_first))

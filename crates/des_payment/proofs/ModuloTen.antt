@@ -15,8 +15,8 @@ use Rattle.des_payment.proofs.TextDigits.{digit_at}
 -- the first n digits are those of a function of the digits of two lists
 zipped : (f : ℕ → ℕ → ℕ) (xs ys digits : List ℕ) (n : ℕ) → length xs ≡ n → length ys ≡ n → n ≤ length digits
     → ((k : ℕ) → k < n → get_or digits k 0 ≡ f (get_or xs k 0) (get_or ys k 0)) → take n digits ≡ zip2 f xs ys
-zipped f xs ys digits n first second room made =
-    let size : length (take n digits) ≡ n = length-take-le n digits room in
+zipped f xs ys digits n first second fits made =
+    let size : length (take n digits) ≡ n = length-take-le n digits fits in
     same_number_lists (take n digits) (zip2 f xs ys)
     (omega (arith, size, first, length-zip2 f xs ys (omega arith)))
     (λ k within.
@@ -28,7 +28,7 @@ value_at : (text : List ℕ) (k : ℕ) → k < length text → get_or (values te
 value_at text k within = get_or-map (λ (c : ℕ). c - 48) text k 0 0 within
 
 module _ (natural other digits : List ℕ) (is_natural : IsPin natural) (is_other : IsPin other)
-    (same : length natural ≡ length other) (room : length other ≤ length digits) where
+    (same : length natural ≡ length other) (fits : length other ≤ length digits) where
   long : (text : List ℕ) → length text ≡ length other → length (values text) ≡ length other
   long text is = length-map text (λ (c : ℕ). c - 48) ∙ is
 
@@ -37,7 +37,7 @@ module _ (natural other digits : List ℕ) (is_natural : IsPin natural) (is_othe
   offset-made made =
       ap text_of
       (zipped (λ digit other. (digit + 10 - other) % 10) (values other) (values natural) digits (length other)
-      (long other refl) (long natural same) room
+      (long other refl) (long natural same) fits
       (λ k within.
       let there : k < length natural = omega arith in
       let first = digit_at natural k is_natural.2 there in
@@ -55,7 +55,7 @@ module _ (natural other digits : List ℕ) (is_natural : IsPin natural) (is_othe
       → text_of (take (length other) digits) ≡ sum_of natural other
   sum-made made =
       ap text_of (zipped (λ digit other. (digit + other) % 10) (values natural) (values other) digits (length other)
-      (long natural same) (long other refl) room
+      (long natural same) (long other refl) fits
       (λ k within.
       let there : k < length natural = omega arith in
       made k within
@@ -64,8 +64,8 @@ module _ (natural other digits : List ℕ) (is_natural : IsPin natural) (is_othe
 -- digits that are below ten at each place are decimal
 pub decimal-made : (digits : List ℕ) (n : ℕ) → n ≤ length digits → ((k : ℕ) → k < n → get_or digits k 0 < 10)
     → IsTrue (list_all (λ digit. nat_lt digit 10) (take n digits))
-decimal-made digits n room small =
-    let size : length (take n digits) ≡ n = length-take-le n digits room in
+decimal-made digits n fits small =
+    let size : length (take n digits) ≡ n = length-take-le n digits fits in
     list_all-from_AllPass (λ (digit : ℕ). nat_lt digit 10) (take n digits)
     (All-from_get_or (λ (digit : ℕ). nat_lt digit 10 ≡ true) (take n digits) 0 (λ k within.
     let below : k < n = omega arith in

@@ -16,14 +16,14 @@ last_bytes-changed front last two low =
     ∙ from_be_bytes-to_be_bytes_8 last low
 
 -- there is room for each counter
-pub room : (last counter : ℕ) → last < 2 ^ 64 → counter < 2 ^ 21 → last - last % 2 ^ 21 + counter < 2 ^ 64
-room last counter low small = omega (arith, low, small)
+pub counted-fits : (last counter : ℕ) → last < 2 ^ 64 → counter < 2 ^ 21 → last - last % 2 ^ 21 + counter < 2 ^ 64
+counted-fits last counter low small = omega (arith, low, small)
 
 pub last_bytes-with_counter : (serial : List ℕ) (counter : ℕ) → length serial ≡ 10 → last_bytes serial < 2 ^ 64
     → counter < 2 ^ 21 → last_bytes (with_counter serial counter) ≡ register_of serial + counter
 last_bytes-with_counter serial counter ten low small =
     last_bytes-changed (take 2 serial) (register_of serial + counter) (length-take-le 2 serial (omega arith))
-    (room (last_bytes serial) counter low small)
+    (counted-fits (last_bytes serial) counter low small)
 
 module _ (old new counter : ℕ) (is_next : IsNextCounter (old % 2 ^ 21) counter)
     (is : new ≡ old - old % 2 ^ 21 + counter) where

@@ -63,10 +63,10 @@ pub eight-zeros : (at n : ℕ) → n ≡ (12 - at % 8) % 8
 eight-zeros at n is = take-replicate n 8 48 (omega arith) ∙ ap (λ (k : ℕ). replicate k 48) is
 
 -- there is room for it
-pub last-room : (blocks : List (List ℕ × List ℕ)) (at n : ℕ) (text : List ℕ) → at ≡ size_of_all blocks → at % 8 ≢ 0
+pub last-fits : (blocks : List (List ℕ × List ℕ)) (at n : ℕ) (text : List ℕ) → at ≡ size_of_all blocks → at % 8 ≢ 0
     → n ≡ (12 - at % 8) % 8 → length text ≡ size_of_all (filled blocks)
     → length text ≡ at + 4 + n
-last-room blocks at n text is_at part is_n count =
+last-fits blocks at n text is_at part is_n count =
     let size : ℕ = size_of_all blocks in
     let same : at % 8 ≡ size % 8 = ap (λ (k : ℕ). k % 8) is_at in
     omega (arith, size-filled blocks (λ whole. part (omega arith)))

@@ -29,7 +29,7 @@ loop-digit-preserved g c =
       is_written =
           IsWritten-more c.loop-digit.count c.loop-digit.value c.write_at.new.bytes (filter is_decimal (take i digits))
           digit c.loop-digit.invariant.is_written c.write_at.ensures.long
-          (λ k room. c.write_at.ensures.written k (omega (arith, c.loop-digit.invariant.long)))
+          (λ k inside. c.write_at.ensures.written k (omega (arith, c.loop-digit.invariant.long)))
           (is_decimal digit) (filter is_decimal (take (i + 1) digits))
           (c.loop-digit.count + bool_byte (is_decimal digit))
           (ap (λ (n : ℕ). c.loop-digit.count + n) (counted (is_decimal digit)))
@@ -52,7 +52,7 @@ loop-digit-2-preserved g c =
           IsWritten-more c.loop-digit-2.count c.loop-digit-2.value c.write_at-in-loop-digit-2.new.bytes
           (front ++ less (filter is_letter (take i digits))) written c.loop-digit-2.invariant.is_written
           c.write_at-in-loop-digit-2.ensures.long
-          (λ k room. c.write_at-in-loop-digit-2.ensures.written k (omega (arith, c.loop-digit-2.invariant.long)))
+          (λ k inside. c.write_at-in-loop-digit-2.ensures.written k (omega (arith, c.loop-digit-2.invariant.long)))
           (is_letter digit) (front ++ less (filter is_letter (take (i + 1) digits)))
           (c.loop-digit-2.count + bool_byte (nat_le 10 digit))
           (ap (λ (n : ℕ). c.loop-digit-2.count + n) (ap bool_byte (letter_is digit) ∙ counted (is_letter digit)))

@@ -5,18 +5,18 @@ use Rattle.std.proofs.lemmas.Result.{err_from_is_err_and}
 use Rattle.des_payment.specs.KeyBlocks.{IsKeyBlock}
 use Rattle.des_payment.specs.KeyBlockReading.{is_sealed_length}
 use Rattle.des_payment.specs.declared.key_block_header.Header.{Header}
-use Rattle.des_payment.proofs.HeldKeys.{held-sealed, seal-fault}
+use Rattle.des_payment.proofs.HeldKeys.{sealed-there, seal-fault}
 use Rattle.des_payment.proofs.KeyDataLengths.{key-data-sealed}
 use Rattle.des_payment.proofs.NamedHeaders.{named-same}
 use Rattle.des_payment.proofs.key_blocks.unwrap.Goals as goal
 use Rattle.des_payment.proofs.key_blocks.unwrap.Goals.{else-protection-ne16-via-then-protection-ne16+else-protection-ne24, else-protection-ne16-via-else-protection-ne16}
 
 -- what is sealed in a block that holds a key has the length of it
-held-length : (protection : List ℕ) (header : Header) (blocks : List (List ℕ × List ℕ)) (key padding block : List ℕ)
-    → (held : IsKeyBlock protection header blocks key padding block)
-    → IsTrue (is_sealed_length header.version (length held.sealed))
-held-length protection header blocks key padding block held =
-    key-data-sealed header.version protection held.front key padding held.sealed held.is_clear held.is_sealed
+sealed-length : (protection : List ℕ) (header : Header) (blocks : List (List ℕ × List ℕ)) (key padding block : List ℕ)
+    → (is : IsKeyBlock protection header blocks key padding block)
+    → IsTrue (is_sealed_length header.version (length is.sealed))
+sealed-length protection header blocks key padding block is =
+    key-data-sealed header.version protection is.front key padding is.sealed is.is_clear is.is_sealed
 
 is-protection : (n : ℕ) → (n ≡ 16) ⊎ (n ≡ 24) → IsTrue (n == 16 || n == 24)
 is-protection n (inl two) = grind (arith, nat_tests)
@@ -24,35 +24,35 @@ is-protection n (inr three) = grind (arith, nat_tests)
 
 pub returns-in_err-header-clause-only : goal.returns-in_err-header-clause-only
 returns-in_err-header-clause-only c = λ header key holds.
-    let held = holds.1.1 in
-    absurd (c.in_err-header.ensures.only header holds.0 held.front held.sealed held.parts
-    (held-length c.args.protection.now header holds.0 key holds.1.0 c.args.block.now held))
+    let is = holds.1.1 in
+    absurd (c.in_err-header.ensures.only header holds.0 is.front is.sealed is.parts
+    (sealed-length c.args.protection.now header holds.0 key holds.1.0 c.args.block.now is))
 
 pub returns-in_err-header-clause-exact : goal.returns-in_err-header-clause-exact
 returns-in_err-header-clause-exact c = λ header key named holds.
-    let held = holds.1.1 in
-    absurd (c.in_err-header.ensures.only header holds.0 held.front held.sealed held.parts
-    (held-length c.args.protection.now header holds.0 key holds.1.0 c.args.block.now held))
+    let is = holds.1.1 in
+    absurd (c.in_err-header.ensures.only header holds.0 is.front is.sealed is.parts
+    (sealed-length c.args.protection.now header holds.0 key holds.1.0 c.args.block.now is))
 
 pub returns-in_err-key-clause-only : goal.returns-in_err-key-clause-only
 returns-in_err-key-clause-only c = λ header key holds.
-    let held = holds.1.1 in
-    let found = c.in_ok-header.ensures.only header holds.0 held.front held.sealed held.parts
-    (held-length c.args.protection.now header holds.0 key holds.1.0 c.args.block.now held) in
-    absurd (c.in_err-key.ensures.only key holds.1.0 held.is_clear
-    (held-sealed c.args.protection.now c.args.block.now c.split_at.result.0.now c.split_at.result.1.now
+    let is = holds.1.1 in
+    let found = c.in_ok-header.ensures.only header holds.0 is.front is.sealed is.parts
+    (sealed-length c.args.protection.now header holds.0 key holds.1.0 c.args.block.now is) in
+    absurd (c.in_err-key.ensures.only key holds.1.0 is.is_clear
+    (sealed-there c.args.protection.now c.args.block.now c.split_at.result.0.now c.split_at.result.1.now
     c.in_ok-header.size c.split_at.ensures.front c.split_at.ensures.back c.in_ok-header.header.version header holds.0
-    key holds.1.0 held found.1 found.0.0))
+    key holds.1.0 is found.1 found.0.0))
 
 pub returns-in_err-key-clause-exact : goal.returns-in_err-key-clause-exact
 returns-in_err-key-clause-exact c = λ header key named holds.
-    let held = holds.1.1 in
-    let found = c.in_ok-header.ensures.only header holds.0 held.front held.sealed held.parts
-    (held-length c.args.protection.now header holds.0 key holds.1.0 c.args.block.now held) in
-    absurd (c.in_err-key.ensures.only key holds.1.0 held.is_clear
-    (held-sealed c.args.protection.now c.args.block.now c.split_at.result.0.now c.split_at.result.1.now
+    let is = holds.1.1 in
+    let found = c.in_ok-header.ensures.only header holds.0 is.front is.sealed is.parts
+    (sealed-length c.args.protection.now header holds.0 key holds.1.0 c.args.block.now is) in
+    absurd (c.in_err-key.ensures.only key holds.1.0 is.is_clear
+    (sealed-there c.args.protection.now c.args.block.now c.split_at.result.0.now c.split_at.result.1.now
     c.in_ok-header.size c.split_at.ensures.front c.split_at.ensures.back c.in_ok-header.header.version header holds.0
-    key holds.1.0 held found.1 found.0.0))
+    key holds.1.0 is found.1 found.0.0))
 
 pub returns-in_err-key-clause-fault : goal.returns-in_err-key-clause-fault
 returns-in_err-key-clause-fault c =
@@ -72,14 +72,14 @@ returns-in_err-key-clause-fault c =
 
 pub returns-clause-only : goal.returns-clause-only
 returns-clause-only c = λ header key holds.
-    let held = holds.1.1 in
-    let found = c.in_ok-header.ensures.only header holds.0 held.front held.sealed held.parts
-    (held-length c.args.protection.now header holds.0 key holds.1.0 c.args.block.now held) in (
+    let is = holds.1.1 in
+    let found = c.in_ok-header.ensures.only header holds.0 is.front is.sealed is.parts
+    (sealed-length c.args.protection.now header holds.0 key holds.1.0 c.args.block.now is) in (
       found.0,
-      c.in_ok-key.ensures.only key holds.1.0 held.is_clear
-          (held-sealed c.args.protection.now c.args.block.now c.split_at.result.0.now c.split_at.result.1.now
+      c.in_ok-key.ensures.only key holds.1.0 is.is_clear
+          (sealed-there c.args.protection.now c.args.block.now c.split_at.result.0.now c.split_at.result.1.now
           c.in_ok-header.size c.split_at.ensures.front c.split_at.ensures.back c.in_ok-header.header.version header
-          holds.0 key holds.1.0 held found.1 found.0.0),
+          holds.0 key holds.1.0 is found.1 found.0.0),
     )
 
 -- the header that was found has its names, as the other has

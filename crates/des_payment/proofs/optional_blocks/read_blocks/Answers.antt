@@ -9,7 +9,7 @@ use Rattle.des_payment.proofs.optional_blocks.read_blocks.Goals as goal
 pub loop-at-init : goal.loop-at-init
 unfolding AreOptionalBlocks
 loop-at-init c = record {
-  room = search rules;
+  capacity = search rules;
   few = omega arith;
   within = omega arith;
   are = refl;
@@ -58,9 +58,9 @@ loop-at-preserved c =
     let size : ℕ = c.in-Some.size in
     let first = c.in-Some.ensures.first in
     let within = c.in-Some.ensures.within in
-    let room = c.loop-at.invariant.room in
+    let capacity = c.loop-at.invariant.capacity in
     record {
-      room = length-set _ count c.in-Some.block ∙ room;
+      capacity = length-set _ count c.in-Some.block ∙ capacity;
       few = omega arith;
       within = omega (
         arith,
@@ -69,7 +69,7 @@ loop-at-preserved c =
         length-drop at text,
         c.loop-at-test.true,
       );
-      are = read-step _ count c.in-Some.block at size text (omega (arith, room)) c.loop-at.invariant.are
+      are = read-step _ count c.in-Some.block at size text (omega (arith, capacity)) c.loop-at.invariant.are
           (subst (λ (rest : List ℕ). IsOptionalBlock c.in-Some.block.name c.in-Some.block.content.now (take size rest))
           (take_rest text at) first);
       rest = rest-step _ _ c.loop-at.count c.in-Some.block c.loop-at.invariant.rest;

@@ -6,7 +6,7 @@ use Rattle.des_payment.proofs.optional_blocks.read_blocks.Given as goal
 -- the characters so far are those of the blocks so far, which all blocks of the text begin with; the list after them stays
 abbrev pub invariant-loop-at : goal.invariant-loop-at
 invariant-loop-at l = record {
-  room : length l.blocks ≡ 99;
+  capacity : length l.blocks ≡ 99;
   few : l.count ≤ 99;
   within : l.at ≤ length l.text;
   are : AreOptionalBlocks (map (λ block. (block.name, block.content.now)) (take l.count l.blocks)) (take l.at l.text);

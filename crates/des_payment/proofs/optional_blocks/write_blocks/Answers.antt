@@ -1,7 +1,7 @@
 use Rattle.std.proofs.Common.{ℕ, ◌+◌, ◌-◌, ◌≤◌, List, length, take, get_or, refl, ap, ◌∙◌, subst, arith, rules}
 use Rattle.des_payment.specs.OptionalBlocks.{AreOptionalBlocks, blocks_text, size_of_all}
 use Rattle.des_payment.proofs.OptionalBlockSizes.{no_block, pairs_of, size-within, size-more, size_of-least, size-filled_least, all-pairs}
-use Rattle.des_payment.proofs.OptionalBlockWrites.{are-step, are-filled, eight-zeros, last-room, last-size}
+use Rattle.des_payment.proofs.OptionalBlockWrites.{are-step, are-filled, eight-zeros, last-fits, last-size}
 use Rattle.des_payment.proofs.WrittenTexts.{text-step, text-filled, text-whole}
 use Rattle.des_payment.proofs.optional_blocks.write_blocks.Goals as goal
 
@@ -70,9 +70,9 @@ write_block-requires-then-at-ne0-clause-size c =
     let at : ℕ = c.loop-block.at in
     let n : ℕ = c.zeros_after.result in
     let text : List ℕ = c.loop-block.text in
-    let room = last-room (pairs_of c.args.blocks.now) at n text all c.if-at-ne0.true c.zeros_after.ensures
+    let fits = last-fits (pairs_of c.args.blocks.now) at n text all c.if-at-ne0.true c.zeros_after.ensures
     (c.loop-block.auto.text ∙ c.requires.size) in
-    last-size at n text _ c.zeros_after.ensures room (eight-zeros at n c.zeros_after.ensures)
+    last-size at n text _ c.zeros_after.ensures fits (eight-zeros at n c.zeros_after.ensures)
 
 pub returns-then-at-ne0-clause-are : goal.returns-then-at-ne0-clause-are
 returns-then-at-ne0-clause-are c =

@@ -21,8 +21,8 @@ returns c =
     let long_known = ap length c.text-known.ensures.text in
     let long_text = ap length c.text-text.ensures.text in
     let same : length known ≡ length text = omega (arith, long_known, long_text, c.requires) in
-    let room : length text ≤ length c.places.digits = omega (arith, is_text.1, c.places.invariant.long) in
+    let fits : length text ≤ length c.places.digits = omega (arith, is_text.1, c.places.invariant.long) in
     c.of_digits.ensures
-    ∙ sum-made known text c.places.digits is_known is_text same room
+    ∙ sum-made known text c.places.digits is_known is_text same fits
     (λ k within. c.places.invariant.made k (omega arith))
     ∙ ap₂ sum_of c.text-known.ensures.text c.text-text.ensures.text
