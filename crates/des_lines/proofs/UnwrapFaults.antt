@@ -12,15 +12,15 @@ use Rattle.des_lines.specs.KeyBlockLines.{IsReadable, protection_fault, FailsAsU
 
 module _ (protection block : List ℕ) (header : Header) (key : List ℕ) (holds : HoldsKey protection block header key) where
   -- it can be read without its key
-  pub held-readable : IsReadable header holds.0 block
-  held-readable =
-      let held = holds.1.1 in (
-        held.front,
+  pub key_block-readable : IsReadable header holds.0 block
+  key_block-readable =
+      let is = holds.1.1 in (
+        is.front,
         (
-          held.sealed,
+          is.sealed,
           (
-            held.parts,
-            key-data-sealed header.version protection held.front key holds.1.0 held.sealed held.is_clear held.is_sealed,
+            is.parts,
+            key-data-sealed header.version protection is.front key holds.1.0 is.sealed is.is_clear is.is_sealed,
           ),
         ),
       )

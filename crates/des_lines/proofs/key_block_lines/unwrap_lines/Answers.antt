@@ -3,7 +3,7 @@ use Rattle.std.specs.Result.{result_err}
 use Rattle.std.proofs.lemmas.Result.{err_from_is_err_and}
 use Rattle.des_lines.specs.KeyBlockLines.{check_lines}
 use Rattle.des_lines.specs.Texts.{hex_line}
-use Rattle.des_lines.proofs.UnwrapFaults.{held-readable, unwrap-refuses-memory}
+use Rattle.des_lines.proofs.UnwrapFaults.{key_block-readable, unwrap-refuses-memory}
 use Rattle.des_lines.proofs.key_block_lines.unwrap_lines.Goals as goal
 
 -- memory is refused for the line of the key
@@ -34,7 +34,7 @@ returns-in_err-lines-clause-fault c =
     let none = sym c.protection_of.ensures.fault ∙ ap result_err c.in_ok-protection.was in
     let opened = c.in_ok-header.ensures.opened in
     let holds = rw (c.bytes.ensures.value ∙ c.in_ok-protection.ensures.key) at opened in
-    let memory = c.in_err-lines.ensures.only _ _ (held-readable _ c.args.block.now _ _ opened) in
+    let memory = c.in_err-lines.ensures.only _ _ (key_block-readable _ c.args.block.now _ _ opened) in
     unwrap-refuses-memory c.args.protection.now c.args.block.now _ _ none holds _ p.0 p.1 (p.2 ∙ memory)
 
 -- memory is refused for the check value
