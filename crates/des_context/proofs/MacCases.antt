@@ -34,9 +34,9 @@ two-contexts algorithm words key three made =
 
 pub joined-contexts : (first second key : List ℕ) → length first ≡ 17 → length key ≡ 16 → IsContextOf first (take 8 key)
     → IsContextOf second (drop 8 key) → AreMacWordsOf 3 (first ++ second) key
-joined-contexts first second key room size made second_made =
+joined-contexts first second key width size made second_made =
     record {
       by = inr (inl refl);
-      chain = rw (take_at first second 17 room) made;
-      second = λ _. (size, rw (drop_at first second 17 room) second_made);
+      chain = rw (take_at first second 17 width) made;
+      second = λ _. (size, rw (drop_at first second 17 width) second_made);
     }

@@ -151,7 +151,7 @@ module _ {forth back : List ℕ → List ℕ} {Relates : List ℕ → List ℕ �
 -- ---- what a call does that opens
 
 pub Opens-refused : {Holds : List ℕ → Type 0} {IsFault : ℤ → Type 0} {old : List ℕ} {size : ℕ} {status : ℤ}
-    → status ≢ OK → IsFault status → ((held : List ℕ) → Holds held → length old < length held)
+    → status ≢ OK → IsFault status → ((text : List ℕ) → Holds text → length old < length text)
     → Opens Holds IsFault old old size size status
 Opens-refused failed fault none =
     record { opened = λ done. absurd (failed done); refused = λ failed. (fault, none, refl, refl) }

@@ -17,12 +17,12 @@ pads method Zeros is = absurd is
 pads method Unpadded is = absurd is
 
 -- bytes that begin with others and their padding
-pub counted : (padding : Padding) (bytes room : List ℕ) (n count : ℕ) → taken_off padding ≢ Unpadded
-    → count ≤ length room → n ≤ length bytes → take n bytes ≡ padded padding (take count room)
+pub counted : (padding : Padding) (bytes buffer : List ℕ) (n count : ℕ) → taken_off padding ≢ Unpadded
+    → count ≤ length buffer → n ≤ length bytes → take n bytes ≡ padded padding (take count buffer)
     → n ≡ padded_length_of count
-counted padding bytes room n count adds within fits same =
-    sym (length-take-le n bytes fits) ∙ ap length same ∙ length-padded padding (take count room) adds
-    ∙ ap padded_length_of (length-take-le count room within)
+counted padding bytes buffer n count adds within fits same =
+    sym (length-take-le n bytes fits) ∙ ap length same ∙ length-padded padding (take count buffer) adds
+    ∙ ap padded_length_of (length-take-le count buffer within)
 
 -- the last block of bytes with their padding is what it holds of the bytes, with the padding
 pub last_padded : (padding : Padding) (plain prefix last : List ℕ) → taken_off padding ≢ Unpadded

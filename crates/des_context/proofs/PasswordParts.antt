@@ -47,9 +47,9 @@ module _ {size : ℕ} {derivation : Option Derivation} {password bytes key vecto
       (parts.0, parts.1, salt.1)
 
   -- so what is opened under it is what the bytes hold
-  opened-held : (plain : List ℕ) → HoldsPlain size derivation password bytes plain
+  opened-plain : (plain : List ℕ) → HoldsPlain size derivation password bytes plain
       → IsOpened (relation_of key) vector encrypted plain
-  opened-held plain holds = let same = once holds.under in rw (same.0, same.1, same.2) holds.opened
+  opened-plain plain holds = let same = once holds.under in rw (same.0, same.1, same.2) holds.opened
 
   pub Opens-salted : {old new : List ℕ} {old_size new_size : ℕ} {status : ℤ}
       → Opens (IsOpened (relation_of key) vector encrypted)
@@ -61,11 +61,11 @@ module _ {size : ℕ} {derivation : Option Derivation} {password bytes key vecto
         let plain = opens.opened done in
         let holds : HoldsPlain size derivation password bytes plain.0 =
         record { key = key; vector = vector; encrypted = encrypted; under = under; opened = plain.1.0 } in
-        (plain.0, (holds, λ other held. plain.1.1 other (opened-held other held)), plain.2, plain.3);
+        (plain.0, (holds, λ other is. plain.1.1 other (opened-plain other is)), plain.2, plain.3);
     refused = λ failed.
         let refused = opens.refused failed in (
           inr (key, (vector, (encrypted, (under, refused.0)))),
-          λ plain holds. refused.1 plain (opened-held plain holds),
+          λ plain holds. refused.1 plain (opened-plain plain holds),
           refused.2,
           refused.3,
         );

@@ -83,54 +83,6 @@ fn decrypt_cbc_by<C: ContextCipher + ManyBlocks, S: Slice>(
     C::of(context).decrypt_cbc_list_by::<S>(no_tables, iv, blocks);
 }
 
-// Encrypts each block by itself, by the cipher of a type.
-fn encrypt_blocks<S: Slice>(
-    cipher: CipherType,
-    no_tables: bool,
-    context: &[u64],
-    blocks: &mut [[u8; 8]],
-)
-    requires cipher_type { HasCipherType cipher context.now }
-    requires made { (key : List ℕ) × IsContextOf context.now key }
-    ensures { (key : List ℕ) → IsContextOf context.now key
-        → IsTheOne (λ answers. AnswersEach (relation_of key) blocks.old answers) blocks.new }
-{
-    dispatch_cipher!(cipher, encrypt_by::<S>(context, no_tables, blocks))
-}
-
-// Decrypts each block by itself, by the cipher of a type.
-fn decrypt_blocks<S: Slice>(
-    cipher: CipherType,
-    no_tables: bool,
-    context: &[u64],
-    blocks: &mut [[u8; 8]],
-)
-    requires cipher_type { HasCipherType cipher context.now }
-    requires made { (key : List ℕ) × IsContextOf context.now key }
-    ensures { (key : List ℕ) → IsContextOf context.now key
-        → IsTheOne (λ answers. AnswersEach (relation_of key) answers blocks.old) blocks.new }
-{
-    dispatch_cipher!(cipher, decrypt_by::<S>(context, no_tables, blocks))
-}
-
-// Encrypts blocks by CBC from the vector, which becomes the last ciphertext block, by the cipher of a
-// type.
-fn encrypt_cbc_blocks(
-    cipher: CipherType,
-    no_tables: bool,
-    context: &[u64],
-    iv: &mut [u8; 8],
-    blocks: &mut [[u8; 8]],
-)
-    requires cipher_type { HasCipherType cipher context.now }
-    requires made { (key : List ℕ) × IsContextOf context.now key }
-    ensures chained { (key : List ℕ) → IsContextOf context.now key
-        → Chains (relation_of key) iv.old blocks.old blocks.new }
-    ensures goes_on { iv.new ≡ next_vector iv.old blocks.new }
-{
-    dispatch_cipher!(cipher, encrypt_cbc_by(context, no_tables, iv, blocks))
-}
-
 /// Decrypts blocks that CBC chained from the vector.
 pub(crate) fn decrypt_cbc_blocks<S: Slice>(
     cipher: CipherType,
@@ -165,7 +117,7 @@ pub fn encrypt_ecb<S: Slice>(context: &[u64], blocks: &mut [[u8; 8]], size: usiz
     if size != blocks.as_flattened().len() {
         return ERR_BLOCKS;
     }
-    encrypt_blocks::<S>(cipher, no_tables, context, blocks);
+    dispatch_cipher!(cipher, encrypt_by::<S>(context, no_tables, blocks));
     OK
 }
 
@@ -186,7 +138,7 @@ pub fn decrypt_ecb<S: Slice>(context: &[u64], blocks: &mut [[u8; 8]], size: usiz
     if size != blocks.as_flattened().len() {
         return ERR_BLOCKS;
     }
-    decrypt_blocks::<S>(cipher, no_tables, context, blocks);
+    dispatch_cipher!(cipher, decrypt_by::<S>(context, no_tables, blocks));
     OK
 }
 
@@ -210,7 +162,7 @@ pub fn encrypt_cbc(context: &[u64], iv: &mut [u8; 8], blocks: &mut [[u8; 8]], si
     if size != blocks.as_flattened().len() {
         return ERR_BLOCKS;
     }
-    encrypt_cbc_blocks(cipher, no_tables, context, iv, blocks);
+    dispatch_cipher!(cipher, encrypt_cbc_by(context, no_tables, iv, blocks));
     OK
 }
 

@@ -8,7 +8,7 @@ ghost use Rattle.des_context.specs.CipherTypes.{relation_of};
 ghost use Rattle.des_context.specs.Contexts.{HasCipherType, HasMark, IsContextOf, IsSoundIfMarked};
 ghost use Rattle.des_context.specs.Records.{AreSizesOf, ChainRecords, ChainsEach};
 
-use crate::ciphers::{CipherType, ContextCipher, dispatch_cipher};
+use crate::ciphers::{ContextCipher, dispatch_cipher};
 use crate::contexts::{NO_MAC, opened};
 use crate::status::{ERR_BLOCKS, ERR_CONTEXT, ERR_COUNTS, OK};
 use des_fast::many::{Slice, SpreadOnce};
@@ -33,25 +33,6 @@ fn encrypt_records<C: ContextCipher + SpreadOnce, S: Slice>(
     }
 }
 
-// Encrypts records in place by CBC, by the cipher of a type.
-fn encrypt_records_of<S: Slice>(
-    cipher: CipherType,
-    context: &[u64],
-    vectors: &mut [[u8; 8]],
-    sizes: &[usize],
-    blocks: &mut [[u8; 8]],
-) -> i32
-    requires cipher_type { HasCipherType cipher context.now }
-    requires made { (key : List ℕ) × IsContextOf context.now key }
-    ensures { ChainRecords context.now sizes.now vectors.old vectors.new blocks.old blocks.new
-        blocks.old blocks.new result }
-{
-    dispatch_cipher!(
-        cipher,
-        encrypt_records::<S>(context, vectors, sizes, blocks)
-    )
-}
-
 // Decrypts records in place that CBC chained.
 #[inline(never)]
 fn decrypt_records<C: ContextCipher + SpreadOnce, S: Slice>(
@@ -70,25 +51,6 @@ fn decrypt_records<C: ContextCipher + SpreadOnce, S: Slice>(
         Ok(()) => OK,
         Err(_) => ERR_COUNTS,
     }
-}
-
-// Decrypts records in place that CBC chained, by the cipher of a type.
-fn decrypt_records_of<S: Slice>(
-    cipher: CipherType,
-    context: &[u64],
-    vectors: &mut [[u8; 8]],
-    sizes: &[usize],
-    blocks: &mut [[u8; 8]],
-) -> i32
-    requires cipher_type { HasCipherType cipher context.now }
-    requires made { (key : List ℕ) × IsContextOf context.now key }
-    ensures { ChainRecords context.now sizes.now vectors.old vectors.new blocks.old blocks.new
-        blocks.new blocks.old result }
-{
-    dispatch_cipher!(
-        cipher,
-        decrypt_records::<S>(context, vectors, sizes, blocks)
-    )
 }
 
 /// Encrypts records in place by CBC, in step: `sizes[k]` blocks are record k, one record after
@@ -124,7 +86,10 @@ pub fn encrypt_cbc_records<S: Slice>(
     if size != blocks.as_flattened().len() {
         return ERR_BLOCKS;
     }
-    encrypt_records_of::<S>(cipher, context, vectors, sizes, blocks)
+    dispatch_cipher!(
+        cipher,
+        encrypt_records::<S>(context, vectors, sizes, blocks)
+    )
 }
 
 /// Decrypts records in place that CBC chained, as `encrypt_cbc_records` does. The status is as of
@@ -157,5 +122,8 @@ pub fn decrypt_cbc_records<S: Slice>(
     if size != blocks.as_flattened().len() {
         return ERR_BLOCKS;
     }
-    decrypt_records_of::<S>(cipher, context, vectors, sizes, blocks)
+    dispatch_cipher!(
+        cipher,
+        decrypt_records::<S>(context, vectors, sizes, blocks)
+    )
 }

@@ -7,7 +7,7 @@ pub returns-in-None : goal.returns-in-None
 returns-in-None c key made =
     let never = c.in-None.ensures.none refl key made in
     Opens-refused (λ same. cc) (inr (inl (refl, c.if-encrypted-ne0.false, never)))
-    (λ held opened. absurd (never held opened))
+    (λ text opened. absurd (never text opened))
 
 length-ended : (start block : List ℕ) (size count : ℕ) → length start ≡ size → count ≤ 8 → length block ≡ 8
     → length (start ++ take count block) ≡ size + count
@@ -24,7 +24,7 @@ returns-then-plain-size c key made =
     c.in-Some.ensures.size.1 (search rules) in
     Opens-refused (λ same. cc)
     (inr (inr (refl, (start ++ take count block, (one.0, omega (arith, size, c.if-plain-size.true))))))
-    (λ held opened. omega (arith, c.if-plain-size.true, size, ap length (one.1 held opened)))
+    (λ text opened. omega (arith, c.if-plain-size.true, size, ap length (one.1 text opened)))
 
 pub returns : goal.returns
 returns c key made =
