@@ -7,7 +7,7 @@ use des::cipher::BlockCipher;
 
 /// Encrypts a list of blocks by CBC, in place: each block as it was is the decryption of the new
 /// one, xor the new block before it, or for the first the initialization vector.
-pub fn chain<C: BlockCipher>(cipher: &C, iv: &[u8; 8], blocks: &mut [[u8; 8]])
+pub fn encrypt_cbc<C: BlockCipher>(cipher: &C, iv: &[u8; 8], blocks: &mut [[u8; 8]])
     ensures { Unchains (C.decrypted cipher.now) iv.now blocks.new blocks.old }
 {
     cbc::encrypt(cipher, iv, blocks);
@@ -15,7 +15,7 @@ pub fn chain<C: BlockCipher>(cipher: &C, iv: &[u8; 8], blocks: &mut [[u8; 8]])
 
 /// Decrypts a list of blocks by CBC, in place: CBC encryption takes the new blocks to the blocks as
 /// they were.
-pub fn unchain<C: BlockCipher>(cipher: &C, iv: &[u8; 8], blocks: &mut [[u8; 8]])
+pub fn decrypt_cbc<C: BlockCipher>(cipher: &C, iv: &[u8; 8], blocks: &mut [[u8; 8]])
     ensures { Cbc (C.encrypted cipher.now) iv.now blocks.new blocks.old }
 {
     cbc::decrypt(cipher, iv, blocks);

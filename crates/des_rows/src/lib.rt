@@ -10,6 +10,6 @@ pub mod related_lists;
 #[cfg(test)]
 mod tests;
 
-pub use chaining::{chain, unchain};
+pub use chaining::{decrypt_cbc, encrypt_cbc};
 pub use lists::there_and_back;
 pub use odd_ciphers::{Reverse, XorKey};

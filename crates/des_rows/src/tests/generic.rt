@@ -3,7 +3,7 @@
 
 ghost use Rattle.std.specs.Prelude.{◌≤◌};
 
-use crate::chaining::{chain, unchain};
+use crate::chaining::{decrypt_cbc, encrypt_cbc};
 use crate::lists::there_and_back;
 use crate::odd_ciphers::{Reverse, XorKey};
 use crate::tests::known::{IV, Known, PLAINTEXT, blocks};
@@ -30,9 +30,9 @@ fn chain_goes_there_and_back<C: BlockCipher>(cipher: &C, count: usize, chained: 
     requires { count ≤ 3 }
 {
     let mut blocks = PLAINTEXT;
-    chain(cipher, &IV, &mut blocks[..count]);
+    encrypt_cbc(cipher, &IV, &mut blocks[..count]);
     let is_chained = blocks[..count] == chained[..count] && blocks[count..] == PLAINTEXT[count..];
-    unchain(cipher, &IV, &mut blocks[..count]);
+    decrypt_cbc(cipher, &IV, &mut blocks[..count]);
     is_chained && blocks == PLAINTEXT
 }
 
@@ -100,9 +100,9 @@ const REVERSED: List = [*b"cfuq ehT", *b" nworb k", *b"pmuj xof"];
 
 fn chains_by_reversal() -> bool {
     let mut blocks = [ONE_TO_EIGHT, [0; 8]];
-    chain(&Reverse, &[0; 8], &mut blocks);
+    encrypt_cbc(&Reverse, &[0; 8], &mut blocks);
     let is_chained = blocks == [EIGHT_TO_ONE, ONE_TO_EIGHT];
-    unchain(&Reverse, &[0; 8], &mut blocks);
+    decrypt_cbc(&Reverse, &[0; 8], &mut blocks);
     is_chained && blocks == [ONE_TO_EIGHT, [0; 8]]
 }
 
