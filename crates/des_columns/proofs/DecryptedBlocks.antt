@@ -5,6 +5,7 @@ use Rattle.std.specs.Simd.{first_chunks}
 use Rattle.std.specs.Simd.Lanes.{zip2}
 use Rattle.std.proofs.lemmas.List.{drop-drop, drop-take, map-append, take-take}
 use Rattle.des.specs.Cbc.{xor_blocks, next_vector}
+use Rattle.des.proofs.ChainedPieces.{next_vector-append}
 use Rattle.des_columns.specs.Forms.{unchained, mode_after}
 use Rattle.des_columns.specs.declared.form.BlockMode.{BlockMode}
 use Rattle.des_columns.specs.declared.form.BlockMode.TheVariants.{Ecb, Cbc}
@@ -29,15 +30,10 @@ pub unchained-append : (f : List ℕ → List ℕ) (mode : BlockMode) (blocks mo
 unchained-append f Ecb blocks more = map-append f blocks more
 unchained-append f (Cbc iv) blocks more = unchained-from f iv blocks more
 
-next_vector-more : (iv : List ℕ) (blocks more : List (List ℕ))
-    → next_vector (next_vector iv blocks) more ≡ next_vector iv (blocks ++ more)
-next_vector-more iv [] more = refl
-next_vector-more iv (block ∷ blocks) more = next_vector-more block blocks more
-
 pub mode_after-append : (mode : BlockMode) (blocks more : List (List ℕ))
     → mode_after (mode_after mode blocks) more ≡ mode_after mode (blocks ++ more)
 mode_after-append Ecb blocks more = refl
-mode_after-append (Cbc iv) blocks more = ap Cbc (next_vector-more iv blocks more)
+mode_after-append (Cbc iv) blocks more = ap Cbc (sym (next_vector-append iv blocks more))
 
 -- the chunks from one on, and those before one
 pub drop-chunks : (k m total : ℕ) (bytes : List ℕ) → total ≡ k + m

@@ -3,7 +3,7 @@ use Rattle.std.proofs.Common.{◌≡◌, ℕ, suc, ◌+◌, ◌-◌, ◌≤◌, 
 use Rattle.std.specs.List.{All}
 use Rattle.std.specs.Simd.Lanes.{zip2}
 use Rattle.std.proofs.lemmas.List.{drop-drop, length-drop, length-map, length-replicate, length-take-le}
-use Rattle.std.proofs.lemmas.Simd.{length-zip2}
+use Rattle.std.proofs.lemmas.Simd.{zip2_splat_left}
 use Rattle.std.proofs.lemmas.Slice.{take-put_mid}
 use Rattle.des.specs.Blocks.{IsBlock}
 use Rattle.des.specs.TripleCiphers.{ede3_decryption}
@@ -29,32 +29,13 @@ drop-further m n xs ys within same =
     ∙ drop-drop (n - m) m ys
     ∙ ap (λ k. drop k ys) whole
 
--- elements that meet one alone
-zip2-replicate : {A B C : Type 0} (f : A → B → C) (x : A) (ys : List B) (count : ℕ) → length ys ≡ count
-    → zip2 f (replicate count x) ys ≡ map (f x) ys
-zip2-replicate f x [] count long = rw (← long)
-zip2-replicate f x (y ∷ ys) count long =
-    rw (← long) (ap (λ l. f x y ∷ l) (zip2-replicate f x ys (length ys) refl))
-
 -- the blocks at the front, once others are written behind them
 front-written : (keys blocks part : List (List ℕ)) (done size end k : ℕ) → end ≡ done + size → end ≤ length blocks
     → length part ≡ size → decrypted_by keys (put_mid done k blocks part) end 0 ≡ take done blocks ++ part
 front-written keys blocks part done size end k is within long =
     append-nil _ ∙ take-put_mid done k blocks part end (omega (arith, is, long)) (omega (arith, is, within))
 
--- those whose keys were kept are decrypted
-pub decrypted_by-all : (keys blocks part : List (List ℕ)) (done kept end k : ℕ) → end ≡ done + kept → kept ≤ length keys
-    → end ≤ length blocks → part ≡ zip2 ede3_decryption (take kept keys) (take kept (drop done blocks))
-    → decrypted_by keys (put_mid done k blocks part) end 0 ≡ decrypted_by keys blocks done kept
-decrypted_by-all keys blocks part done kept end k is fits within are =
-    let these : length (take kept keys) ≡ kept = length-take-le kept keys fits in
-    let those : length (take kept (drop done blocks)) ≡ kept =
-    length-take-le kept (drop done blocks) (omega (arith, is, within, length-drop done blocks)) in
-    front-written keys blocks part done kept end k is within
-    (ap length are ∙ length-zip2 ede3_decryption (take kept keys) (take kept (drop done blocks)) (these ∙ sym those) ∙ these)
-    ∙ ap (λ (l : List (List ℕ)). take done blocks ++ l) are
-
--- others are, under one key
+-- more are decrypted, under one key
 pub decrypted_by-one : (keys blocks part : List (List ℕ)) (key : List ℕ) (done count end k : ℕ) → end ≡ done + count
     → end ≤ length blocks → part ≡ map (ede3_decryption key) (take count (drop done blocks))
     → decrypted_by keys (put_mid done k blocks part) end 0
@@ -84,6 +65,6 @@ decrypted_by-more keys blocks key done kept count k fits within =
     ∙ ap (λ (l : List (List ℕ)). take kept (drop done blocks) ++ take count l) (drop-drop kept done blocks))
     ∙ zip2-append ede3_decryption (take kept keys) (replicate count key) (take kept (drop done blocks)) those few
     ∙ ap (λ (l : List (List ℕ)). zip2 ede3_decryption (take kept keys) (take kept (drop done blocks)) ++ l)
-    (zip2-replicate ede3_decryption key those count
+    (zip2_splat_left ede3_decryption key count those
     (length-take-le count (drop (done + kept) blocks) (omega (arith, within, length-drop (done + kept) blocks)))))
     ∙ sym (append_assoc (take done blocks) _ _)

@@ -1,6 +1,6 @@
 pub mod JoinedBlocks
 pub mod Pieces
-pub mod ReadTexts
+pub mod ReadColumns
 pub mod DecryptedBlocks
 pub mod ReadValues
 pub mod KeptBlocks
@@ -9,9 +9,8 @@ pub mod ValuesByNumber
 pub mod KnownAnswers
 pub mod KnownJasypt
 pub mod Base64Groups
-pub mod ColumnsByValue
-pub mod EncipheredBlocks
+pub mod EncryptedBlocks
 pub mod PaddedTexts
-pub mod WrittenValues
+pub mod WrittenColumns
 pub mod SchemeRelations
 pub mod TextsOfValues

@@ -1,13 +1,14 @@
 -- The values of a column: each, those before one, those from one on.
-use Rattle.std.proofs.Common.{◌≡◌, ℕ, zero, suc, ◌+◌, ◌-◌, ◌≤◌, ◌<◌, Bool, true, false, min, nat_le, List, [], ◌∷◌, ◌++◌, length, take, drop, get_or, sum, refl, ap, ap₂, sym, ◌∙◌, arith, take-add}
+use Rattle.std.proofs.Common.{◌≡◌, ℕ, zero, suc, ◌+◌, ◌-◌, ◌/◌, ◌≤◌, ◌<◌, min, List, [], ◌∷◌, ◌++◌, length, take, drop, get_or, sum, refl, ap, ap₂, sym, ◌∙◌, arith, take-add}
 use Rattle.std.specs.List.{flat_map}
 use Rattle.std.specs.Simd.{first_chunks}
-use Rattle.std.proofs.lemmas.List.{drop_all, drop_more, take_all, append-nil, take_more, take_rest, take-append-le, drop-drop, take_at, drop_at, length-append, length-drop, length-take-le, drop-take, take-take}
-use Rattle.std.proofs.lemmas.Bool.Decides.{nat_tests}
+use Rattle.std.proofs.lemmas.List.{drop_more, drop_min, take_min, append-nil, take_more, take_rest, take-append-le, drop-drop, take_at, drop_at, length-append, length-drop, length-take-le, drop-take, take-take}
 use Rattle.std.proofs.lemmas.List.Concat.{flat_map-append}
 use Rattle.std.proofs.lemmas.List.Sums.{sum_by-cons, sum_by-take-drop}
 use Rattle.std.proofs.lemmas.Slice.{take-put_mid_below}
 use Rattle.des_columns.specs.Columns.{pieces}
+use Rattle.des_columns.specs.Forms.{blocks_of, part_of}
+use Rattle.des_columns.specs.declared.form.Form.{Form}
 use borrow.Rule.Slice.PartMut.{put_mid}
 
 pub length-pieces : (lengths bytes : List ℕ) → length (pieces lengths bytes) ≡ length lengths
@@ -69,29 +70,6 @@ flat_map-at f (value ∷ values) (suc k) n below at =
     ∙ ap (drop (length before)) (drop_at (f value) rest _ refl))
     ∙ flat_map-at f values k (length before) (omega (arith, below)) refl
 
--- it ends within the whole
-pub flat_map-within : {X : Type 0} (f : List ℕ → List X) (values : List (List ℕ)) (k : ℕ) → k < length values
-    → length (flat_map f (take k values)) + length (f (get_or values k [])) ≤ length (flat_map f values)
-flat_map-within f [] k below = absurd (omega arith)
-flat_map-within f (value ∷ values) zero below = omega (arith, length-append (f value) (flat_map f values))
-flat_map-within f (value ∷ values) (suc k) below =
-    omega (
-      arith,
-      length-append (f value) (flat_map f values),
-      length-append (f value) (flat_map f (take k values)),
-      flat_map-within f values k (omega (arith, below)),
-    )
-
--- two functions that make lists of one length of each value
-pub flat_map-length : {X Y : Type 0} (f : List ℕ → List X) (g : List ℕ → List Y)
-    → ((value : List ℕ) → length (f value) ≡ length (g value)) → (values : List (List ℕ))
-    → length (flat_map f values) ≡ length (flat_map g values)
-flat_map-length f g same [] = refl
-flat_map-length f g same (value ∷ values) =
-    length-append (f value) (flat_map f values)
-    ∙ ap₂ ◌+◌ (same value) (flat_map-length f g same values)
-    ∙ sym (length-append (g value) (flat_map g values))
-
 -- the bytes at a value's place are the value
 pub value-at : (lengths bytes : List ℕ) (k start size : ℕ) → k < length lengths → start ≡ sum (take k lengths)
     → size ≡ get_or lengths k 0 → take size (drop start bytes) ≡ get_or (pieces lengths bytes) k []
@@ -101,6 +79,12 @@ value-at lengths bytes k start size below at is =
 pub length-first_chunks : {X : Type 0} (n k : ℕ) (xs : List X) → length (first_chunks n k xs) ≡ k
 length-first_chunks n zero xs = refl
 length-first_chunks n (suc k) xs = ap suc (length-first_chunks n k (drop n xs))
+
+-- the blocks of a value are as many as its part has
+pub length-blocks : (form : Form) (value same part : List ℕ) → value ≡ same → part ≡ part_of form value
+    → length part / 8 ≡ length (blocks_of form same)
+length-blocks form value same part is of =
+    ap (λ (l : List ℕ). length l / 8) (of ∙ ap (part_of form) is) ∙ sym (length-first_chunks 8 _ (part_of form same))
 
 -- the values from one on
 pub pieces-rest : (lengths bytes : List ℕ) (k start : ℕ) → k ≤ length lengths → start ≡ sum (take k lengths)
@@ -128,20 +112,6 @@ take-rest a k b xs ys within long =
     ∙ ap₂ ◌++◌ (take-put_mid_below a k xs ys a (omega arith) from)
     (ap (take b) (drop_at (take a xs) _ a (length-take-le a xs from)) ∙ take-append-le b ys _ to)
 
--- the first `size` bytes, or as many as there are
-least-part : (size mid : ℕ) (rest : List ℕ) (fits : Bool) → nat_le size (length rest) ≡ fits → mid ≡ min size (length rest)
-    → (take mid rest ≡ take size rest) × (drop mid rest ≡ drop size rest)
-least-part size mid rest true is least =
-    let within : size ≤ length rest = grind (arith, nat_tests, is) in
-    let same : mid ≡ size = omega (arith, least, within) in
-    (ap (λ n. take n rest) same, ap (λ n. drop n rest) same)
-least-part size mid rest false is least =
-    let past : length rest ≤ size = grind (arith, nat_tests, is) in
-    let same : mid ≡ length rest = omega (arith, least, past) in (
-      take_all mid rest (omega (arith, same)) ∙ sym (take_all size rest past),
-      drop_all mid rest (omega (arith, same)) ∙ sym (drop_all size rest past),
-    )
-
 -- the first of the values from one on, and those behind it
 pub pieces-next : (lengths bytes rest : List ℕ) (k mid : ℕ) → k < length lengths → mid ≡ min (get_or lengths k 0) (length rest)
     → pieces (drop k lengths) rest ≡ drop k (pieces lengths bytes)
@@ -151,9 +121,9 @@ pieces-next lengths bytes rest k mid below least are =
     let vs : List (List ℕ) = pieces lengths bytes in
     let size : ℕ = get_or lengths k 0 in
     let inside : k < length vs = omega (arith, length-pieces lengths bytes, below) in
-    let part = least-part size mid rest (nat_le size (length rest)) refl least in
     let both : take size rest ∷ pieces (drop (k + 1) lengths) (drop size rest) ≡ get_or vs k [] ∷ drop (k + 1) vs =
     sym (ap (λ l. pieces l rest) (drop_more lengths k 0 below)) ∙ are ∙ drop_more vs k [] inside in (
-      part.0 ∙ ap (λ (l : List (List ℕ)). get_or l 0 []) both,
-      ap (pieces (drop (k + 1) lengths)) part.1 ∙ ap (λ (l : List (List ℕ)). drop 1 l) both,
+      ap (λ n. take n rest) least ∙ take_min size rest ∙ ap (λ (l : List (List ℕ)). get_or l 0 []) both,
+      ap (λ n. pieces (drop (k + 1) lengths) (drop n rest)) least
+          ∙ ap (pieces (drop (k + 1) lengths)) (drop_min size rest) ∙ ap (λ (l : List (List ℕ)). drop 1 l) both,
     )

@@ -1,5 +1,5 @@
 -- A value that is written of a text is read as that text.
-use Rattle.std.proofs.Common.{◌≡◌, ℕ, ℤ, zero, suc, ◌+◌, ◌-◌, ◌*◌, ◌/◌, ◌%◌, ◌≤◌, ◌==◌, nat_le, Bool, true, false, if◌then◌else◌, Option, Some, None, List, codes, [], ◌∷◌, ◌++◌, length, take, drop, replicate, get_or, refl, ap, ap₂, sym, ◌∙◌, subst, arith, length-append, append_assoc, eq-eqb}
+use Rattle.std.proofs.Common.{◌≡◌, ℕ, ℤ, zero, suc, ◌+◌, ◌-◌, ◌*◌, ◌/◌, ◌%◌, ◌≤◌, ◌==◌, nat_le, Bool, true, if◌then◌else◌, Option, Some, None, List, [], ◌∷◌, ◌++◌, length, take, drop, replicate, get_or, refl, ap, ap₂, sym, ◌∙◌, subst, arith, length-append, append_assoc, eq-eqb}
 use Rattle.std.specs.List.{list_all}
 use Rattle.std.specs.Option.{option_map, option_map_or}
 use Rattle.std.proofs.lemmas.Bool.{and_from, le-leb}
@@ -7,18 +7,20 @@ use Rattle.std.proofs.lemmas.Option.{none-some}
 use Rattle.std.proofs.lemmas.List.{drop_at, get_or_at, length-replicate, nil_from_length, replicate_more, take_all, take_at}
 use Rattle.des.specs.Triple.{EnciphersEde3}
 use Rattle.des_columns.specs.Forms.{fault_before, part_after, pkcs7_size, size_in, status_after, text_after}
-use Rattle.des_columns.specs.Mysql.{Enciphered, has_form, last_of, number_of, padded, tail_after}
+use Rattle.des_columns.specs.Mysql.{Enciphered, last_of, padded, tail_after}
 use Rattle.des_columns.specs.MysqlColumns.{Reads as ReadsMysql, Writes as WritesMysql}
-use Rattle.des_columns.specs.PgcryptoColumns.{Reads as ReadsPgcrypto, Writes as WritesPgcrypto, before_padding, cipher_of, ends_in, form_of, mode_by, relation_by, scheme_of}
-use Rattle.des_columns.specs.Readings.{IsEncrypted, IsReading}
+use Rattle.des_columns.specs.PgcryptoColumns.{Reads as ReadsPgcrypto, Writes as WritesPgcrypto, before_padding, cipher_of, form_of, mode_by, relation_by, scheme_of}
+use Rattle.des_columns.specs.EncryptedBytes.{IsEncrypted}
+use Rattle.des_columns.specs.Readings.{IsReading}
 use Rattle.des_columns.specs.Writings.{IsTextSize, IsWriting, value_size}
 use Rattle.des_columns.specs.declared.form.BlockMode.{BlockMode}
 use Rattle.des_columns.specs.declared.form.BlockMode.TheVariants.{Cbc}
 use Rattle.des_columns.specs.declared.form.Form.{Form}
-use Rattle.des_columns.specs.declared.form.Form.TheVariants.{Mysql, MysqlByNumber, Pkcs7, Unpadded}
+use Rattle.des_columns.specs.declared.form.Form.TheVariants.{Mysql, Pkcs7, Unpadded}
 use Rattle.des_columns.specs.declared.pgcrypto.Cipher.{Cipher}
 use Rattle.des_columns.specs.declared.pgcrypto.Scheme.{Scheme}
-use Rattle.des_columns.specs.declared.status.TheConstants.{OK, ERR_BLOCKS, ERR_KEY_NUMBER, ERR_NOT_ENCRYPTED}
+use Rattle.des_columns.specs.declared.status.TheConstants.{OK, ERR_BLOCKS, ERR_NOT_ENCRYPTED}
+use Rattle.des_columns.proofs.EncryptedBlocks.{AreEncrypted-none}
 use Rattle.des_columns.proofs.PaddedTexts.{length-starred, value_size-some}
 
 -- ---- the last byte, which counts the padding
@@ -74,30 +76,13 @@ size-counted text n some few =
 
 -- ---- a value is none that can't be decrypted
 
-has_form-of : (byte : ℕ) (blocks : List ℕ) → 128 ≤ byte → 8 ≤ length blocks → length blocks % 8 ≡ 0
-    → has_form (byte ∷ blocks) ≡ true
-has_form-of byte blocks high some whole =
-    and_from _ _
-    (and_from _ _ (le-leb 9 (length (byte ∷ blocks)) (omega arith)) (eq-eqb (length (byte ∷ blocks) % 8) 1 (omega arith)))
-    (le-leb 128 byte high)
-
 no_fault-mysql : (byte : ℕ) (blocks : List ℕ) → 128 ≤ byte → 8 ≤ length blocks → length blocks % 8 ≡ 0
     → fault_before Mysql (byte ∷ blocks) ≡ None
 no_fault-mysql byte blocks high some whole =
     let P : Bool → Option ℤ = λ t. if t then None else Some ERR_NOT_ENCRYPTED in
-    ap P (has_form-of byte blocks high some whole)
-
-no_fault-number : (numbers : List Bool) (number : ℕ) (blocks : List ℕ) → get_or numbers number false ≡ true
-    → 8 ≤ length blocks → length blocks % 8 ≡ 0
-    → fault_before (MysqlByNumber numbers) ((128 + number) ∷ blocks) ≡ None
-no_fault-number numbers number blocks has some whole =
-    let P : Bool → Option ℤ =
-    λ t. if t
-    then (if get_or numbers (number_of ((128 + number) ∷ blocks)) false then None else Some ERR_KEY_NUMBER)
-    else Some ERR_NOT_ENCRYPTED in
-    let Q : Bool → Option ℤ = λ t. if t then None else Some ERR_KEY_NUMBER in
-    let same : number_of ((128 + number) ∷ blocks) ≡ number = omega arith in
-    ap P (has_form-of (128 + number) blocks (omega arith) some whole) ∙ ap Q (ap (λ n. get_or numbers n false) same ∙ has)
+    ap P (and_from _ _
+    (and_from _ _ (le-leb 9 (length (byte ∷ blocks)) (omega arith)) (eq-eqb (length (byte ∷ blocks) % 8) 1 (omega arith)))
+    (le-leb 128 byte high))
 
 no_fault-whole : (value : List ℕ) → length value % 8 ≡ 0 → fault_before Unpadded value ≡ None
 no_fault-whole value whole =
@@ -109,13 +94,6 @@ no_fault-pkcs7 [] some whole = absurd (omega (arith, some))
 no_fault-pkcs7 (byte ∷ value) some whole = no_fault-whole (byte ∷ value) whole
 
 -- ---- the law
-
--- the key of a number is among those by which values are read
-abbrev pub HasNumber : Form → ℕ → Type 0
-HasNumber Mysql number = Unit {0}
-HasNumber (MysqlByNumber numbers) number = get_or numbers number false ≡ true
-HasNumber Pkcs7 number = Unit {0}
-HasNumber Unpadded number = Unit {0}
 
 module _ (mode : BlockMode) (Relates : List ℕ → List ℕ → Type 0) where
   reading : (form : Form) (value blocks plain text : List ℕ) → fault_before form value ≡ None
@@ -132,14 +110,14 @@ module _ (mode : BlockMode) (Relates : List ℕ → List ℕ → Type 0) where
   }
 
   -- what is written of a text is read as it
-  pub writing-read : (form : Form) (number : ℕ) (text value : List ℕ) → HasNumber form number → IsTextSize form (length text)
+  pub writing-read : (form : Form) (number : ℕ) (text value : List ℕ) → IsTextSize form (length text)
       → length value ≡ value_size form (length text) → IsWriting form number mode Relates text value
       → IsReading form mode Relates value OK text
-  writing-read Mysql number [] value has is size writes =
+  writing-read Mysql number [] value is size writes =
       let none : value ≡ [] = nil_from_length value size in
       reading Mysql value writes.blocks [] [] (ap (fault_before Mysql) none)
       (ap (drop 1) none ∙ sym none ∙ writes.value_is) refl refl writes.encrypted
-  writing-read Mysql number (byte ∷ text) value has is size writes =
+  writing-read Mysql number (byte ∷ text) value is size writes =
       let blocks : List ℕ = writes.blocks in
       let long : length blocks ≡ (length (byte ∷ text) / 8 + 1) * 8 =
       omega (arith, ap length writes.value_is, size, value_size-some byte text) in
@@ -148,26 +126,13 @@ module _ (mode : BlockMode) (Relates : List ℕ → List ℕ → Type 0) where
       ∙ no_fault-mysql (128 + number) blocks (omega arith) (omega (arith, long)) (omega (arith, long)))
       (ap (drop 1) writes.value_is) (size-starred (byte ∷ text))
       (take_at (byte ∷ text) (tail_after (length (byte ∷ text) % 8)) (length (byte ∷ text)) refl) writes.encrypted
-  writing-read (MysqlByNumber numbers) number [] value has is size writes =
-      let none : value ≡ [] = nil_from_length value size in
-      reading (MysqlByNumber numbers) value writes.blocks [] [] (ap (fault_before (MysqlByNumber numbers)) none)
-      (ap (drop 1) none ∙ sym none ∙ writes.value_is) refl refl writes.encrypted
-  writing-read (MysqlByNumber numbers) number (byte ∷ text) value has is size writes =
-      let blocks : List ℕ = writes.blocks in
-      let long : length blocks ≡ (length (byte ∷ text) / 8 + 1) * 8 =
-      omega (arith, ap length writes.value_is, size, value_size-some byte text) in
-      reading (MysqlByNumber numbers) value blocks (padded (byte ∷ text)) (byte ∷ text)
-      (ap (fault_before (MysqlByNumber numbers)) writes.value_is
-      ∙ no_fault-number numbers number blocks has (omega (arith, long)) (omega (arith, long)))
-      (ap (drop 1) writes.value_is) (size-starred (byte ∷ text))
-      (take_at (byte ∷ text) (tail_after (length (byte ∷ text) % 8)) (length (byte ∷ text)) refl) writes.encrypted
-  writing-read Pkcs7 number text value has is size writes =
+  writing-read Pkcs7 number text value is size writes =
       let count : ℕ = 8 - length text % 8 in
       reading Pkcs7 value writes.blocks (text ++ replicate count count) text
       (no_fault-pkcs7 value (omega (arith, size)) (omega (arith, size))) writes.value_is
       (size-counted text count (omega arith) (omega arith)) (take_at text (replicate count count) (length text) refl)
       writes.encrypted
-  writing-read Unpadded number text value has is size writes =
+  writing-read Unpadded number text value is size writes =
       reading Unpadded value writes.blocks text text (no_fault-whole value (ap (λ n. n % 8) size ∙ is)) writes.value_is refl
       (take_all (length text) text (omega arith)) writes.encrypted
 
@@ -197,11 +162,7 @@ mysql-writing key number [] value size writes = record {
     q_blocks = [];
     of_p = refl;
     of_q = refl;
-    chained = record {
-      count = refl;
-      widths = λ n from to. absurd (omega (arith, from, to));
-      chained = λ n from to. absurd (omega (arith, from, to));
-    };
+    encrypted = AreEncrypted-none (EnciphersEde3 key) (Cbc (replicate 8 0));
   };
 }
 mysql-writing key number (byte ∷ text) value size writes = record {
@@ -214,7 +175,7 @@ mysql-writing key number (byte ∷ text) value size writes = record {
 pub mysql-read : (key : List ℕ) (number : ℕ) (text value : List ℕ) → length value ≡ value_size Mysql (length text)
     → WritesMysql key number text value → ReadsMysql key value OK text
 mysql-read key number text value size writes =
-    writing-read (Cbc (replicate 8 0)) (EnciphersEde3 key) Mysql number text value tt tt size
+    writing-read (Cbc (replicate 8 0)) (EnciphersEde3 key) Mysql number text value tt size
     (mysql-writing key number text value size writes)
 
 -- ---- of pgcrypto
@@ -229,17 +190,8 @@ form-found form (Some cipher) by named =
 pub form-named : (name : List ℕ) (by : Scheme) → scheme_of name ≡ Some by → by.form ≡ form_of name
 form-named name by named = form-found (form_of name) (cipher_of (before_padding name)) by named
 
--- and its values bear no number of a key
-has-number : (bare : Bool) → HasNumber (if bare then Unpadded else Pkcs7) 0
-has-number true = tt
-has-number false = tt
-
-pub has-number-named : (name : List ℕ) (by : Scheme) → scheme_of name ≡ Some by → HasNumber by.form 0
-has-number-named name by named =
-    subst (λ (form : Form). HasNumber form 0) (sym (form-named name by named)) (has-number (ends_in name (codes "/pad:none")))
-
-pub pgcrypto-read : (by : Scheme) (key iv text value : List ℕ) → HasNumber by.form 0 → IsTextSize by.form (length text)
+pub pgcrypto-read : (by : Scheme) (key iv text value : List ℕ) → IsTextSize by.form (length text)
     → length value ≡ value_size by.form (length text) → WritesPgcrypto by key iv text value
     → ReadsPgcrypto by key iv value OK text
-pgcrypto-read by key iv text value has is size writes =
-    writing-read (mode_by by.cipher iv) (relation_by by.cipher key) by.form 0 text value has is size writes
+pgcrypto-read by key iv text value is size writes =
+    writing-read (mode_by by.cipher iv) (relation_by by.cipher key) by.form 0 text value is size writes

@@ -1,11 +1,12 @@
 -- Columns: values, one after another, and what is read of them.
-use Rattle.std.specs.Prelude.{◌≡◌, ℕ, ℤ, ◌/◌, List, [], ◌∷◌, length, take, drop, map}
-use Rattle.std.specs.List.{flat_map}
+use Rattle.std.specs.Prelude.{◌≡◌, ℕ, ℤ, ◌/◌, Bool, true, false, Option, Some, List, [], ◌∷◌, length, take, drop, map}
+use Rattle.std.specs.Option.{option_or}
 use Rattle.std.specs.Simd.{first_chunks}
-use Rattle.des_columns.specs.ChainedBytes.{joined}
-use Rattle.des_columns.specs.Forms.{blocks_of, unchained, status_of, text_of, filled_to}
+use Rattle.des_columns.specs.EncryptedBytes.{joined}
+use Rattle.des_columns.specs.Forms.{blocks_of, fault_before, size_in, status_after, text_after, unchained}
 use Rattle.des_columns.specs.declared.form.BlockMode.{BlockMode}
 use Rattle.des_columns.specs.declared.form.Form.{Form}
+use Rattle.des_columns.specs.declared.status.TheConstants.{ERR_KEY_NUMBER}
 
 -- the values of a column, by their lengths
 abbrev pub pieces : List ℕ → List ℕ → List (List ℕ)
@@ -27,9 +28,21 @@ abbrev pub plain_of : Form → BlockMode → (List ℕ → List ℕ → List ℕ
 plain_of form mode decryption value =
     joined (unchained mode (blocks_of form value) (decrypted form decryption value))
 
--- what is read of values, by what each is decrypted: the texts in the places of their values, their lengths and the statuses
-pub record AreTexts (form : Form) (plain : List ℕ → List ℕ) (values : List (List ℕ)) (texts text_lengths : List ℕ)
-    (statuses : List ℤ) : Type 0 where
-  pub texts_are : texts ≡ flat_map (λ value. filled_to (length value) (text_of form value (plain value))) values
-  pub lengths_are : text_lengths ≡ map (λ value. length (text_of form value (plain value))) values
-  pub statuses_are : statuses ≡ map (λ value. status_of form value (plain value)) values
+-- why a value has no text, by whether there is a key for it
+abbrev pub fault_under : Bool → Form → List ℕ → Option ℤ
+fault_under true form value = fault_before form value
+fault_under false form value = option_or (fault_before form value) (Some ERR_KEY_NUMBER)
+
+-- status and text of a value, by whether there is a key for it, and what this decrypts each block to
+abbrev pub status_as : Form → BlockMode → (List ℕ → Bool) → (List ℕ → List ℕ → List ℕ) → List ℕ → ℤ
+status_as form mode has_key decryption value =
+    status_after (fault_under (has_key value) form value) (size_in form (plain_of form mode decryption value))
+
+abbrev pub text_as : Form → BlockMode → (List ℕ → Bool) → (List ℕ → List ℕ → List ℕ) → List ℕ → List ℕ
+text_as form mode has_key decryption value =
+    let plain = plain_of form mode decryption value in
+    text_after (fault_under (has_key value) form value) (size_in form plain) plain
+
+abbrev pub ReadsAs : Form → BlockMode → (List ℕ → Bool) → (List ℕ → List ℕ → List ℕ) → List ℕ → ℤ → List ℕ → Type 0
+ReadsAs form mode has_key decryption value status text =
+    (status ≡ status_as form mode has_key decryption value) × (text ≡ text_as form mode has_key decryption value)

@@ -1,16 +1,16 @@
 -- What a value of a column is around its encrypted blocks, and what its blocks are around the text.
-use Rattle.std.specs.Prelude.{ℕ, ℤ, ◌==◌, nat_le, false, ◌&&◌, ◌-◌, ◌/◌, ◌%◌, if◌then◌else◌, List, [], ◌∷◌, ◌++◌, Option, Some, None, length, take, drop, replicate, get_or}
+use Rattle.std.specs.Prelude.{ℕ, ℤ, ◌==◌, nat_le, ◌&&◌, ◌-◌, ◌/◌, ◌%◌, if◌then◌else◌, List, [], ◌∷◌, ◌++◌, Option, Some, None, length, take, drop, replicate}
 use Rattle.std.specs.List.{list_all}
 use Rattle.std.specs.Simd.{first_chunks}
 use Rattle.std.specs.Simd.Lanes.{zip2}
 use Rattle.des.specs.Blocks.{IsBlock}
 use Rattle.des.specs.Cbc.{xor_blocks, next_vector}
-use Rattle.des_columns.specs.Mysql.{has_form, last_of, number_of}
+use Rattle.des_columns.specs.Mysql.{has_form, last_of}
 use Rattle.des_columns.specs.declared.form.BlockMode.{BlockMode}
 use Rattle.des_columns.specs.declared.form.BlockMode.TheVariants.{Ecb, Cbc}
 use Rattle.des_columns.specs.declared.form.Form.{Form}
-use Rattle.des_columns.specs.declared.form.Form.TheVariants.{Mysql, MysqlByNumber, Pkcs7, Unpadded}
-use Rattle.des_columns.specs.declared.status.TheConstants.{OK, ERR_BLOCKS, ERR_KEY_NUMBER, ERR_NOT_ENCRYPTED, ERR_PADDING}
+use Rattle.des_columns.specs.declared.form.Form.TheVariants.{Mysql, Pkcs7, Unpadded}
+use Rattle.des_columns.specs.declared.status.TheConstants.{OK, ERR_BLOCKS, ERR_NOT_ENCRYPTED, ERR_PADDING}
 
 -- ---- around the blocks
 
@@ -18,11 +18,6 @@ use Rattle.des_columns.specs.declared.status.TheConstants.{OK, ERR_BLOCKS, ERR_K
 abbrev pub fault_before : Form → List ℕ → Option ℤ
 fault_before Mysql [] = None
 fault_before Mysql (byte ∷ value) = if has_form (byte ∷ value) then None else Some ERR_NOT_ENCRYPTED
-fault_before (MysqlByNumber numbers) [] = None
-fault_before (MysqlByNumber numbers) (byte ∷ value) =
-    if has_form (byte ∷ value)
-    then (if get_or numbers (number_of (byte ∷ value)) false then None else Some ERR_KEY_NUMBER)
-    else Some ERR_NOT_ENCRYPTED
 fault_before Pkcs7 [] = Some ERR_BLOCKS
 fault_before Pkcs7 (byte ∷ value) = if length (byte ∷ value) % 8 == 0 then None else Some ERR_BLOCKS
 fault_before Unpadded value = if length value % 8 == 0 then None else Some ERR_BLOCKS
@@ -31,7 +26,6 @@ fault_before Unpadded value = if length value % 8 == 0 then None else Some ERR_B
 abbrev pub part_after : Option ℤ → Form → List ℕ → List ℕ
 part_after (Some fault) form value = []
 part_after None Mysql value = drop 1 value
-part_after None (MysqlByNumber numbers) value = drop 1 value
 part_after None Pkcs7 value = value
 part_after None Unpadded value = value
 
@@ -49,14 +43,9 @@ pkcs7_size n plain =
     if nat_le 1 n && nat_le n 8 && nat_le n (length plain) && list_all (λ byte. byte == n) (drop (length plain - n) plain)
     then Some (length plain - n) else None
 
--- before that of MySQL, whose last byte is the number of bytes
-abbrev pub mysql_size : List ℕ → Option ℕ
-mysql_size plain = if nat_le (last_of plain) 8 then Some (length plain - last_of plain) else None
-
--- how many bytes of text what was decrypted has, if it ends with the padding
+-- how many bytes of text what was decrypted has, if it ends with the padding: the last byte of MySQL's is the number of its bytes
 abbrev pub size_in : Form → List ℕ → Option ℕ
-size_in Mysql plain = mysql_size plain
-size_in (MysqlByNumber numbers) plain = mysql_size plain
+size_in Mysql plain = if nat_le (last_of plain) 8 then Some (length plain - last_of plain) else None
 size_in Pkcs7 plain = pkcs7_size (last_of plain) plain
 size_in Unpadded plain = Some (length plain)
 

@@ -1,9 +1,9 @@
 -- The server's file of keys (des-key-file), as MySQL up to 5.7 and MariaDB read it (load_des_key_file, sql/des_key_file.cc; my_b_gets,
 -- mysys/mf_iocache2.c).
-use Rattle.std.specs.Prelude.{ℕ, ◌+◌, ◌-◌, ◌==◌, ◌&&◌, ◌||◌, not, nat_le, Bool, if◌then◌else◌, List, [], ◌∷◌, ◌++◌, Option, Some, None, length, take, drop, map}
+use Rattle.std.specs.Prelude.{ℕ, ◌+◌, ◌-◌, ◌==◌, ◌&&◌, ◌||◌, not, nat_le, Bool, true, if◌then◌else◌, List, [], ◌∷◌, ◌++◌, Option, Some, None, length, take, drop, map, get_or, is_some}
 use Rattle.std.specs.List.{before_first, position_or_len, range_with_len, suffix_len}
 use Rattle.std.specs.Option.{option_map, option_or}
-use Rattle.des_columns.specs.Mysql.{key_of, last_of}
+use Rattle.des_columns.specs.Mysql.{key_of, last_of, number_of}
 
 -- ---- lines
 
@@ -53,3 +53,10 @@ string_in number (line ∷ lines) = option_or (string_in number lines) (string_a
 -- the keys of a file, by their numbers, 0 to 9
 abbrev pub keys_in : List ℕ → List (Option (List ℕ))
 keys_in file = map (λ number. option_map key_of (string_in number (lines_after [] file))) (range_with_len 0 10)
+
+-- ---- the key of a value
+
+-- there is one of its number; an empty value needs none
+abbrev pub has_key : List (Option (List ℕ)) → List ℕ → Bool
+has_key keys [] = true
+has_key keys (byte ∷ value) = is_some (get_or keys (number_of (byte ∷ value)) None)

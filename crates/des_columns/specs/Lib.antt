@@ -1,4 +1,4 @@
-pub mod ChainedBytes
+pub mod EncryptedBytes
 pub mod Mysql
 pub mod KeyFile
 pub mod KeptKeys

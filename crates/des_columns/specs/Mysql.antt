@@ -3,7 +3,8 @@ use Rattle.std.specs.Prelude.{◌≡◌, ℕ, ◌+◌, ◌-◌, ◌%◌, ◌==�
 use Rattle.md5.specs.Md5.{md5}
 use Rattle.des.specs.Triple.{EnciphersEde3}
 use Rattle.des_passwords.specs.BytesToKey.{bytes_to_key}
-use Rattle.des_columns.specs.ChainedBytes.{IsChained}
+use Rattle.des_columns.specs.EncryptedBytes.{IsEncrypted}
+use Rattle.des_columns.specs.declared.form.BlockMode.TheVariants.{Cbc}
 
 -- the key of a key string, as EVP_BytesToKey makes it by MD5, with no salt and one iteration
 abbrev pub key_of : List ℕ → List ℕ
@@ -18,7 +19,7 @@ padded text = text ++ tail_after (length text % 8)
 
 -- triple DES under a key takes padded text to the blocks of a value, chained from zeros
 abbrev pub Enciphered : List ℕ → List ℕ → List ℕ → Type 0
-Enciphered key plain blocks = IsChained (EnciphersEde3 key) (replicate 8 0) plain blocks
+Enciphered key plain blocks = IsEncrypted (Cbc (replicate 8 0)) (EnciphersEde3 key) plain blocks
 
 -- the value of a text that is not empty: 128 and the number of the key, and the encrypted blocks
 abbrev pub IsValueOf : List ℕ → ℕ → List ℕ → List ℕ → Type 0

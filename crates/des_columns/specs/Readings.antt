@@ -1,26 +1,11 @@
 -- What a column is read as: each value by its definition.
 use Rattle.std.specs.Prelude.{◌≡◌, ◌<◌, ℕ, ℤ, List, [], length, map, get_or}
 use Rattle.std.specs.Simd.Lanes.{zip2}
-use Rattle.des.specs.Blocks.{AnswersEach}
-use Rattle.des_columns.specs.ChainedBytes.{joined, IsChained}
+use Rattle.des_columns.specs.EncryptedBytes.{joined, IsEncrypted}
 use Rattle.des_columns.specs.Forms.{part_of, status_of, text_of, filled_to}
 use Rattle.des_columns.specs.declared.form.BlockMode.{BlockMode}
-use Rattle.des_columns.specs.declared.form.BlockMode.TheVariants.{Ecb, Cbc}
 use Rattle.des_columns.specs.declared.form.Form.{Form}
 use Rattle.des_columns.specs.declared.status.TheConstants.{OK}
-
--- the blocks of the bytes p are related to those of q, one by one
-pub record IsEach (Relates : List ℕ → List ℕ → Type 0) (p q : List ℕ) : Type 0 where
-  pub p_blocks : List (List ℕ)
-  pub q_blocks : List (List ℕ)
-  pub of_p : joined p_blocks ≡ p
-  pub of_q : joined q_blocks ≡ q
-  pub related : AnswersEach Relates p_blocks q_blocks
-
--- a mode takes the bytes p to q, if a relation takes a block to its encryption
-abbrev pub IsEncrypted : BlockMode → (List ℕ → List ℕ → Type 0) → List ℕ → List ℕ → Type 0
-IsEncrypted Ecb Relates p q = IsEach Relates p q
-IsEncrypted (Cbc iv) Relates p q = IsChained Relates iv p q
 
 -- status and text of a value: those of the bytes that were encrypted to its blocks
 pub record IsReading (form : Form) (mode : BlockMode) (Relates : List ℕ → List ℕ → Type 0) (value : List ℕ)

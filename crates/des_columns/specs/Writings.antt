@@ -1,21 +1,16 @@
 -- What is written of the texts of a column: each value by its definition.
-use Rattle.std.specs.Prelude.{◌≡◌, ◌<◌, ℕ, ◌+◌, ◌-◌, ◌*◌, ◌/◌, ◌%◌, ◌==◌, if◌then◌else◌, List, [], ◌∷◌, ◌++◌, length, map, replicate, get_or}
-use Rattle.std.specs.Simd.{first_chunks}
-use Rattle.des.specs.Cbc.{xor_blocks}
-use Rattle.des_columns.specs.ChainedBytes.{joined}
+use Rattle.std.specs.Prelude.{◌≡◌, ◌<◌, ℕ, ◌+◌, ◌-◌, ◌*◌, ◌/◌, ◌%◌, ◌==◌, if◌then◌else◌, List, [], ◌∷◌, ◌++◌, length, replicate, get_or}
+use Rattle.des_columns.specs.EncryptedBytes.{joined, IsEncrypted}
 use Rattle.des_columns.specs.Mysql.{padded}
-use Rattle.des_columns.specs.Readings.{IsEncrypted}
 use Rattle.des_columns.specs.declared.form.BlockMode.{BlockMode}
-use Rattle.des_columns.specs.declared.form.BlockMode.TheVariants.{Ecb, Cbc}
 use Rattle.des_columns.specs.declared.form.Form.{Form}
-use Rattle.des_columns.specs.declared.form.Form.TheVariants.{Mysql, MysqlByNumber, Pkcs7, Unpadded}
+use Rattle.des_columns.specs.declared.form.Form.TheVariants.{Mysql, Pkcs7, Unpadded}
 
 -- ---- around the text
 
 -- a text of `size` bytes can be written: without padding it is whole blocks
 abbrev pub IsTextSize : Form → ℕ → Type 0
 IsTextSize Mysql size = Unit {0}
-IsTextSize (MysqlByNumber numbers) size = Unit {0}
 IsTextSize Pkcs7 size = Unit {0}
 IsTextSize Unpadded size = size % 8 ≡ 0
 
@@ -23,8 +18,6 @@ IsTextSize Unpadded size = size % 8 ≡ 0
 abbrev pub padded_by : Form → List ℕ → List ℕ
 padded_by Mysql [] = []
 padded_by Mysql (byte ∷ text) = padded (byte ∷ text)
-padded_by (MysqlByNumber numbers) [] = []
-padded_by (MysqlByNumber numbers) (byte ∷ text) = padded (byte ∷ text)
 padded_by Pkcs7 text = text ++ replicate (8 - length text % 8) (8 - length text % 8)
 padded_by Unpadded text = text
 
@@ -34,15 +27,12 @@ padded_by Unpadded text = text
 abbrev pub head_of : Form → ℕ → List ℕ → List ℕ
 head_of Mysql number [] = []
 head_of Mysql number (byte ∷ text) = (128 + number) ∷ []
-head_of (MysqlByNumber numbers) number [] = []
-head_of (MysqlByNumber numbers) number (byte ∷ text) = (128 + number) ∷ []
 head_of Pkcs7 number text = []
 head_of Unpadded number text = []
 
 -- how many bytes the value of a text of `size` bytes has
 abbrev pub value_size : Form → ℕ → ℕ
 value_size Mysql size = if size == 0 then 0 else (size / 8 + 1) * 8 + 1
-value_size (MysqlByNumber numbers) size = if size == 0 then 0 else (size / 8 + 1) * 8 + 1
 value_size Pkcs7 size = (size / 8 + 1) * 8
 value_size Unpadded size = size
 
@@ -61,24 +51,3 @@ pub record IsColumnWritten (size_of : ℕ → ℕ) (Writes : List ℕ → List �
   pub sizes : (k : ℕ) → k < length texts → length (get_or written k []) ≡ size_of (length (get_or texts k []))
   pub writes : (k : ℕ) → k < length texts → Writes (get_or texts k []) (get_or written k [])
   pub places : values ≡ joined written
-
--- ---- by what a key makes of a block
-
--- blocks, chained from a vector
-abbrev pub chained : (List ℕ → List ℕ) → List ℕ → List (List ℕ) → List (List ℕ)
-chained encryption iv [] = []
-chained encryption iv (block ∷ blocks) =
-    let answer = encryption (xor_blocks block iv) in answer ∷ chained encryption answer blocks
-
-abbrev pub enciphered : BlockMode → (List ℕ → List ℕ) → List (List ℕ) → List (List ℕ)
-enciphered Ecb encryption blocks = map encryption blocks
-enciphered (Cbc iv) encryption blocks = chained encryption iv blocks
-
--- bytes that are whole blocks
-abbrev pub enciphered_bytes : BlockMode → (List ℕ → List ℕ) → List ℕ → List ℕ
-enciphered_bytes mode encryption bytes = joined (enciphered mode encryption (first_chunks 8 (length bytes / 8) bytes))
-
--- the value of a text
-abbrev pub value_of : Form → ℕ → BlockMode → (List ℕ → List ℕ) → List ℕ → List ℕ
-value_of form number mode encryption text =
-    head_of form number text ++ enciphered_bytes mode encryption (padded_by form text)

@@ -3,11 +3,12 @@
 
 ghost use Rattle.std.specs.Prelude.{◌≡◌, ◌≤◌, ◌*◌, ◌/◌, ◌%◌, ◌++◌, ◌↔◌, ℕ, IsTrue, List, length, take, drop, map, sum};
 ghost use Rattle.std.specs.List.{All, flat_map};
-ghost use Rattle.des_columns.specs.Forms.{blocks_of, filled_to, status_of, text_of};
-ghost use Rattle.des_columns.specs.Columns.{AreTexts, deciphered, decrypted, pieces, plain_of};
+ghost use Rattle.des_columns.specs.Forms.{blocks_of, filled_to};
+ghost use Rattle.des_columns.specs.Columns.{ReadsAs, deciphered, decrypted, fault_under, pieces, status_as, text_as};
+ghost use Rattle.des_columns.specs.Readings.{IsColumnRead};
 
 use crate::form::{BlockMode, Form, Reading, finish, write_text};
-use crate::status::OK;
+use crate::status::{ERR_KEY_NUMBER, OK};
 use crate::value_keys::ValueKeys;
 use des_fast::many::Slice;
 
@@ -53,43 +54,6 @@ fn gather(form: Form, values: &[u8], lengths: &[usize], buffer: &mut [[u8; 8]]) 
     }
 }
 
-// Writes what is read of values whose blocks are decrypted.
-fn write_texts(
-    form: Form,
-    mode: BlockMode,
-    values: &[u8],
-    lengths: &[usize],
-    answers: &mut [[u8; 8]],
-    texts: &mut [u8],
-    text_lengths: &mut [usize],
-    statuses: &mut [i32],
-)
-    requires whole { sum lengths.now ≡ length values.now }
-    requires answers { length answers.old
-        ≡ length (flat_map (blocks_of form) (pieces lengths.now values.now)) }
-    requires texts { length texts.old ≡ length values.now }
-    requires text_lengths { length text_lengths.old ≡ length lengths.now }
-    requires statuses { length statuses.old ≡ length lengths.now }
-    ensures { (decryption : List ℕ → List ℕ → List ℕ)
-        → answers.old ≡ flat_map (decrypted form decryption) (pieces lengths.now values.now)
-        → AreTexts form (plain_of form mode decryption) (pieces lengths.now values.now)
-        texts.new text_lengths.new statuses.new }
-{
-    let mut start = 0;
-    let mut first = 0;
-    'values: for k in 0..lengths.len() {
-        let end = start + lengths[k];
-        let value = &values[start..end];
-        let count = form.part_of(value).len() / 8;
-        let answers = &mut answers[first..first + count];
-        let reading = write_text(form, mode, value, answers, &mut texts[start..end]);
-        text_lengths[k] = reading.length;
-        statuses[k] = reading.status;
-        start = end;
-        first += count;
-    }
-}
-
 /// How the values of a column are read: under which keys, from which form, and by which mode.
 #[derive(Drop)]
 pub struct Reader<K> {
@@ -99,6 +63,56 @@ pub struct Reader<K> {
 }
 
 impl<K: ValueKeys> Reader<K> {
+    // Why a value has no text, but for its padding.
+    fn fault_of(&self, value: &[u8]) -> Option<i32>
+        ensures { result
+            ≡ fault_under (K.has_key self.now.keys value.now) self.now.form value.now }
+    {
+        let fault = self.form.fault_before(value);
+        if self.keys.has_key_for(value) {
+            fault
+        } else {
+            fault.or(Some(ERR_KEY_NUMBER))
+        }
+    }
+
+    // Writes what is read of values whose blocks are decrypted.
+    fn write_texts(
+        &self,
+        values: &[u8],
+        lengths: &[usize],
+        answers: &mut [[u8; 8]],
+        texts: &mut [u8],
+        text_lengths: &mut [usize],
+        statuses: &mut [i32],
+    )
+        requires whole { sum lengths.now ≡ length values.now }
+        requires answers { answers.old ≡ flat_map (decrypted self.now.form
+            (K.decryption self.now.keys)) (pieces lengths.now values.now) }
+        requires texts { length texts.old ≡ length values.now }
+        requires text_lengths { length text_lengths.old ≡ length lengths.now }
+        requires statuses { length statuses.old ≡ length lengths.now }
+        ensures { IsColumnRead (ReadsAs self.now.form self.now.mode (K.has_key self.now.keys)
+            (K.decryption self.now.keys)) (pieces lengths.now values.now)
+            texts.new text_lengths.new statuses.new }
+    {
+        let mut start = 0;
+        let mut first = 0;
+        'values: for k in 0..lengths.len() {
+            let end = start + lengths[k];
+            let value = &values[start..end];
+            let fault = self.fault_of(value);
+            let count = self.form.part_of(value).len() / 8;
+            let answers = &mut answers[first..first + count];
+            let place = &mut texts[start..end];
+            let reading = write_text(self.form, self.mode, fault, value, answers, place);
+            text_lengths[k] = reading.length;
+            statuses[k] = reading.status;
+            start = end;
+            first += count;
+        }
+    }
+
     /// Decrypts whole blocks of a value in place, however many they are, as many at a time as the
     /// buffer takes.
     pub(crate) fn decipher<S: Slice>(&self, value: &[u8], bytes: &mut [u8], buffer: &mut [[u8; 8]])
@@ -128,18 +142,18 @@ impl<K: ValueKeys> Reader<K> {
         requires buffer { 1 ≤ length buffer.old }
         requires place { length place.old ≡ length value.now }
         ensures buffer { length buffer.new ≡ length buffer.old }
-        ensures status { result.status ≡ status_of self.now.form value.now
-            (plain_of self.now.form self.now.mode (K.decryption self.now.keys) value.now) }
-        ensures length { result.length ≡ length (text_of self.now.form value.now
-            (plain_of self.now.form self.now.mode (K.decryption self.now.keys) value.now)) }
-        ensures text { place.new ≡ filled_to (length value.now) (text_of self.now.form value.now
-            (plain_of self.now.form self.now.mode (K.decryption self.now.keys) value.now)) }
+        ensures status { result.status ≡ status_as self.now.form self.now.mode
+            (K.has_key self.now.keys) (K.decryption self.now.keys) value.now }
+        ensures length { result.length ≡ length (text_as self.now.form self.now.mode
+            (K.has_key self.now.keys) (K.decryption self.now.keys) value.now) }
+        ensures text { place.new ≡ filled_to (length value.now) (text_as self.now.form self.now.mode
+            (K.has_key self.now.keys) (K.decryption self.now.keys) value.now) }
     {
         let part = self.form.part_of(value);
         let bytes = &mut place[..part.len()];
         bytes.copy_from_slice(part);
         self.decipher::<S>(value, bytes, buffer);
-        finish(self.form, self.form.fault_before(value), part.len(), place)
+        finish(self.form, self.fault_of(value), part.len(), place)
     }
 
     // Reads values, from the first one on: as many as fit into the buffer together, or else the first
@@ -163,10 +177,10 @@ impl<K: ValueKeys> Reader<K> {
         ensures within { result.count ≤ length lengths.now }
         ensures bytes { result.bytes ≡ sum (take result.count lengths.now) }
         ensures buffer { length buffer.new ≡ length buffer.old }
-        ensures read { AreTexts self.now.form
-            (plain_of self.now.form self.now.mode (K.decryption self.now.keys))
-            (take result.count (pieces lengths.now values.now)) (take result.bytes texts.new)
-            (take result.count text_lengths.new) (take result.count statuses.new) }
+        ensures read { IsColumnRead (ReadsAs self.now.form self.now.mode (K.has_key self.now.keys)
+            (K.decryption self.now.keys)) (take result.count (pieces lengths.now values.now))
+            (take result.bytes texts.new) (take result.count text_lengths.new)
+            (take result.count statuses.new) }
     {
         let taken = gather(self.form, values, lengths, buffer);
         if taken.count == 0 {
@@ -185,9 +199,7 @@ impl<K: ValueKeys> Reader<K> {
         let answers = &mut buffer[..taken.blocks];
         self.keys
             .decrypt_values::<S>(self.form, values, lengths, answers);
-        write_texts(
-            self.form,
-            self.mode,
+        self.write_texts(
             values,
             lengths,
             answers,
@@ -213,9 +225,9 @@ impl<K: ValueKeys> Reader<K> {
         requires texts { length texts.old ≡ length values.now }
         requires text_lengths { length text_lengths.old ≡ length lengths.now }
         requires statuses { length statuses.old ≡ length lengths.now }
-        ensures read { AreTexts self.now.form
-            (plain_of self.now.form self.now.mode (K.decryption self.now.keys))
-            (pieces lengths.now values.now) texts.new text_lengths.new statuses.new }
+        ensures read { IsColumnRead (ReadsAs self.now.form self.now.mode (K.has_key self.now.keys)
+            (K.decryption self.now.keys)) (pieces lengths.now values.now)
+            texts.new text_lengths.new statuses.new }
         ensures all { IsTrue result ↔ All (λ status. status ≡ OK) statuses.new }
     {
         let mut buffer = [[0; 8]; BLOCKS];

@@ -1,14 +1,14 @@
 //! What a value is around its encrypted blocks, and what its blocks are around the text.
 
-ghost use Rattle.std.specs.Prelude.{◌≡◌, ◌==◌, false, get_or, ◌≤◌, ◌*◌, ◌%◌, ◌∷◌, length, take};
+ghost use Rattle.std.specs.Prelude.{◌≡◌, ◌==◌, ◌≤◌, ◌*◌, ◌%◌, ◌∷◌, length, take};
 ghost use Rattle.std.specs.List.{list_all};
 ghost use Rattle.std.specs.Simd.Lanes.{zip2};
 ghost use Rattle.des.specs.Cbc.{xor_blocks};
-ghost use Rattle.des_columns.specs.ChainedBytes.{joined};
-ghost use Rattle.des_columns.specs.Forms.{HasVector, blocks_of, fault_before, filled_to, mode_after, part_of, pkcs7_size, size_in, status_after, status_of, text_after, text_of, unchained};
-ghost use Rattle.des_columns.specs.Mysql.{has_form, last_of, number_of};
+ghost use Rattle.des_columns.specs.EncryptedBytes.{joined};
+ghost use Rattle.des_columns.specs.Forms.{HasVector, blocks_of, fault_before, filled_to, mode_after, part_of, pkcs7_size, size_in, status_after, text_after, unchained};
+ghost use Rattle.des_columns.specs.Mysql.{has_form, last_of};
 
-use crate::status::{ERR_BLOCKS, ERR_KEY_NUMBER, ERR_NOT_ENCRYPTED, ERR_PADDING, OK};
+use crate::status::{ERR_BLOCKS, ERR_NOT_ENCRYPTED, ERR_PADDING, OK};
 use des::cbc;
 use des::cipher::are_blocks;
 
@@ -26,8 +26,6 @@ pub enum BlockMode {
 pub enum Form {
     /// A byte that names the key before the blocks, and MySQL's padding in them.
     Mysql,
-    /// As `Mysql`, if the byte names one of these keys.
-    MysqlByNumber([bool; 10]),
     /// The padding of PKCS#7 (RFC 5652, section 6.3).
     Pkcs7,
     /// The text alone, whole blocks.
@@ -47,14 +45,6 @@ fn is_encrypted(value: &[u8]) -> bool
     ensures { result ≡ has_form value.now }
 {
     value.len() >= 9 && value.len() % 8 == 1 && value[0] >= 128
-}
-
-// Whether the byte before the blocks of a value names one of these keys.
-fn names_key(numbers: &[bool; 10], value: &[u8]) -> bool
-    ensures { result ≡ get_or numbers.now (number_of value.now) false }
-{
-    let number = value.first().map_or(0, |byte| byte.saturating_sub(128));
-    numbers.get(number as usize).copied().unwrap_or(false)
 }
 
 impl BlockMode {
@@ -93,15 +83,7 @@ impl Form {
         let whole = value.len() % 8 == 0;
         match self {
             Form::Mysql if value.is_empty() || is_encrypted(value) => None,
-            Form::MysqlByNumber(_) if value.is_empty() => None,
-            Form::MysqlByNumber(numbers) if is_encrypted(value) => {
-                if names_key(&numbers, value) {
-                    None
-                } else {
-                    Some(ERR_KEY_NUMBER)
-                }
-            }
-            Form::Mysql | Form::MysqlByNumber(_) => Some(ERR_NOT_ENCRYPTED),
+            Form::Mysql => Some(ERR_NOT_ENCRYPTED),
             Form::Pkcs7 if whole && !value.is_empty() => None,
             Form::Unpadded if whole => None,
             _ => Some(ERR_BLOCKS),
@@ -116,7 +98,7 @@ impl Form {
     {
         match (self.fault_before(value), self) {
             (Some(_), _) => &value[..0],
-            (None, Form::Mysql | Form::MysqlByNumber(_)) => &value[value.len().min(1)..],
+            (None, Form::Mysql) => &value[value.len().min(1)..],
             (None, _) => value,
         }
     }
@@ -131,8 +113,8 @@ impl Form {
             None => 0,
         };
         match self {
-            Form::Mysql | Form::MysqlByNumber(_) if last <= 8 => Some(plain.len() - last),
-            Form::Mysql | Form::MysqlByNumber(_) => None,
+            Form::Mysql if last <= 8 => Some(plain.len() - last),
+            Form::Mysql => None,
             Form::Pkcs7 => pkcs7_size(last, plain),
             Form::Unpadded => Some(plain.len()),
         }
@@ -199,21 +181,24 @@ pub(crate) fn finish(form: Form, fault: Option<i32>, count: usize, place: &mut [
 }
 
 /// Writes the text of a value into its place, before zeros, where the answers are its blocks, each
-/// decrypted.
+/// decrypted; or zeros alone, if there is a fault.
 pub(crate) fn write_text(
     form: Form,
     mode: BlockMode,
+    fault: Option<i32>,
     value: &[u8],
     answers: &mut [[u8; 8]],
     place: &mut [u8],
 ) -> Reading
     requires answers { length answers.old * 8 ≡ length (part_of form value.now) }
     requires place { length place.old ≡ length value.now }
-    ensures status { result.status ≡ status_of form value.now
-        (joined (unchained mode (blocks_of form value.now) answers.old)) }
-    ensures length { result.length ≡ length (text_of form value.now
+    ensures status { result.status ≡ status_after fault (size_in form
         (joined (unchained mode (blocks_of form value.now) answers.old))) }
-    ensures text { place.new ≡ filled_to (length value.now) (text_of form value.now
+    ensures length { result.length ≡ length (text_after fault (size_in form
+        (joined (unchained mode (blocks_of form value.now) answers.old)))
+        (joined (unchained mode (blocks_of form value.now) answers.old))) }
+    ensures text { place.new ≡ filled_to (length value.now) (text_after fault (size_in form
+        (joined (unchained mode (blocks_of form value.now) answers.old)))
         (joined (unchained mode (blocks_of form value.now) answers.old))) }
 {
     let part = form.part_of(value);
@@ -221,5 +206,5 @@ pub(crate) fn write_text(
     mode.unchain(blocks, answers);
     let plain = answers.as_flattened();
     place[..plain.len()].copy_from_slice(plain);
-    finish(form, form.fault_before(value), plain.len(), place)
+    finish(form, fault, plain.len(), place)
 }

@@ -1,12 +1,12 @@
 //! The server's file of keys of MySQL and MariaDB (`des-key-file`), and columns of values whose first
 //! bytes name them.
 
-ghost use Rattle.std.specs.Prelude.{◌≡◌, ◌==◌, ◌<◌, ℕ, List, Some, None, not, drop, map, get_or, replicate, is_some};
+ghost use Rattle.std.specs.Prelude.{◌≡◌, ◌==◌, ◌<◌, ℕ, List, Some, None, not, drop, get_or, replicate};
 ghost use Rattle.std.specs.List.{before_first, position_or_len};
 ghost use Rattle.std.specs.Option.{option_map, option_or, unwrap_or};
 ghost use Rattle.des.specs.Blocks.{IsKey};
 ghost use Rattle.des.specs.TripleCiphers.{ede3_decryption};
-ghost use Rattle.des_columns.specs.KeyFile.{is_line, is_shown, is_space, keys_in, string_at, string_of, until_shown};
+ghost use Rattle.des_columns.specs.KeyFile.{has_key, is_line, is_shown, is_space, keys_in, string_at, string_of, until_shown};
 ghost use Rattle.des_columns.specs.Mysql.{key_of, number_of};
 
 use crate::form::Form;
@@ -130,17 +130,6 @@ impl KeyFile {
         KeyFile { keys }
     }
 
-    /// Of which numbers there is a key.
-    pub(crate) fn numbers(&self) -> [bool; 10]
-        ensures { result ≡ map is_some self.now.keys }
-    {
-        let mut numbers = [false; 10];
-        'numbers: for number in 0..10 {
-            numbers[number] = self.keys[number].is_some();
-        }
-        numbers
-    }
-
     // The keys are keys: what the type says, for those that cite it.
     pub(crate) fn are_keys(&self)
         ensures { (number : ℕ) (key : List ℕ) → get_or self.now.keys number None ≡ Some key
@@ -153,21 +142,28 @@ impl KeyFile {
         }
     }
 
-    // The key of a value, or zeros if there is none.
-    fn key_for(&self, value: &[u8]) -> [u8; 24]
-        ensures { result ≡ unwrap_or (get_or self.now.keys (number_of value.now) None) (replicate 24 0) }
+    // The key of the number of a value.
+    fn key_for(&self, value: &[u8]) -> Option<[u8; 24]>
+        ensures { result ≡ get_or self.now.keys (number_of value.now) None }
     {
         let number = value.first().map_or(0, |byte| byte.saturating_sub(128));
         match self.keys.get(number as usize) {
-            Some(Some(key)) => *key,
-            _ => [0; 24],
+            Some(key) => *key,
+            None => None,
         }
     }
 }
 
+// A value without a key is decrypted under zeros, and then it has no text.
 impl ValueKeys for KeyFile {
+    ghost has_key = { λ file value. has_key file.keys value };
+
     ghost decryption = { λ file value. ede3_decryption
         (unwrap_or (get_or file.keys (number_of value) None) (replicate 24 0)) };
+
+    fn has_key_for(&self, value: &[u8]) -> bool {
+        value.is_empty() || self.key_for(value).is_some()
+    }
 
     fn decrypt_values<S: Slice>(
         &self,
@@ -182,7 +178,7 @@ impl ValueKeys for KeyFile {
         'values: for k in 0..lengths.len() {
             let (value, others) = rest.split_at(lengths[k].min(rest.len()));
             let count = form.part_of(value).len() / 8;
-            let key = self.key_for(value);
+            let key = self.key_for(value).unwrap_or([0; 24]);
             progress = take_blocks::<S>(&key, count, progress, &mut keys, blocks);
             rest = others;
         }
@@ -190,6 +186,6 @@ impl ValueKeys for KeyFile {
     }
 
     fn decrypt_part<S: Slice>(&self, value: &[u8], blocks: &mut [[u8; 8]]) {
-        decrypt_under::<S>(&self.key_for(value), blocks);
+        decrypt_under::<S>(&self.key_for(value).unwrap_or([0; 24]), blocks);
     }
 }

@@ -2,15 +2,13 @@
 //! and MariaDB (`mysql`, `key_file`), and of pgcrypto (`pgcrypto`), a column at a time, read (`column`,
 //! `one_key`) and written (`writing`). Strings of Jasypt (`jasypt`), each under a key of its own.
 //! Keys from passwords by the names that frameworks give the rules (`pbe`), of which Java's
-//! `PBEWithMD5AndTripleDES` stands here (`java`). CBC over bytes, to write values
-//! (`chained_bytes`).
+//! `PBEWithMD5AndTripleDES` stands here (`java`).
 //!
 //! These read what others wrote, and write it for those that still read it. No value is
 //! authenticated: write nothing new by them.
 #![tactic(auto)]
 
 mod base64_in_place;
-pub mod chained_bytes;
 pub mod column;
 pub mod form;
 pub mod jasypt;

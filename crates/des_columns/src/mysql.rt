@@ -97,7 +97,7 @@ pub fn decrypt_values_by_file<S: Slice>(
     are_bytes(values);
     let reader = Reader {
         keys: KeyFile { keys: file.keys },
-        form: Form::MysqlByNumber(file.numbers()),
+        form: Form::Mysql,
         mode: BlockMode::Cbc([0; 8]),
     };
     reader.read::<S>(values, lengths, texts, text_lengths, statuses)

@@ -1,6 +1,6 @@
 //! The keys of the values of a column.
 
-ghost use Rattle.std.specs.Prelude.{◌≡◌, ℕ, List, map};
+ghost use Rattle.std.specs.Prelude.{◌≡◌, ℕ, Bool, true, List, map};
 ghost use Rattle.std.specs.List.{flat_map};
 ghost use Rattle.des_columns.specs.Forms.{blocks_of};
 ghost use Rattle.des_columns.specs.Columns.{decrypted, pieces};
@@ -11,8 +11,15 @@ use des_fast::many::{ManyBlocks, Slice};
 /// What decrypts the blocks of values. No call reads a table at an index that depends on a key or
 /// a block.
 pub trait ValueKeys {
+    // Whether there is a key for a value.
+    ghost has_key: { Self → List ℕ → Bool };
+
     // What a block of a value decrypts to.
     ghost decryption: { Self → List ℕ → List ℕ → List ℕ };
+
+    /// Whether there is a key for a value: without one it has no text.
+    fn has_key_for(&self, value: &[u8]) -> bool
+        ensures { result ≡ has_key self.now value.now };
 
     /// Decrypts the blocks of values in place, one value after another.
     fn decrypt_values<S: Slice>(
@@ -38,7 +45,13 @@ pub struct OneKey<C> {
 }
 
 impl<C: ManyBlocks + Drop> ValueKeys for OneKey<C> {
+    ghost has_key = { λ keys value. true };
+
     ghost decryption = { λ keys value. C.decrypted keys.cipher };
+
+    fn has_key_for(&self, value: &[u8]) -> bool {
+        true
+    }
 
     fn decrypt_values<S: Slice>(
         &self,

@@ -1,47 +1,19 @@
 //! Columns, written under one key: the values of texts, one after another.
 
-ghost use Rattle.std.specs.Prelude.{◌≡◌, ◌≤◌, ◌<◌, ◌+◌, ◌-◌, ◌*◌, ◌/◌, ◌%◌, ◌^◌, ◌++◌, ◌↔◌, IsTrue, length, replicate, sum};
-ghost use Rattle.std.specs.List.{All, flat_map, sum_by};
+ghost use Rattle.std.specs.Prelude.{◌≡◌, ◌≤◌, ◌<◌, ◌*◌, ◌/◌, ◌%◌, ◌^◌, ◌↔◌, ℕ, List, IsTrue, length, sum};
+ghost use Rattle.std.specs.List.{All, sum_by};
 ghost use Rattle.des_columns.specs.Columns.{pieces};
+ghost use Rattle.des_columns.specs.EncryptedBytes.{AreEncrypted, IsEncrypted};
 ghost use Rattle.des_columns.specs.Forms.{mode_after};
-ghost use Rattle.des_columns.specs.Mysql.{padded};
-ghost use Rattle.des_columns.specs.Writings.{IsColumnWritten, IsTextSize, IsWriting, enciphered, enciphered_bytes, padded_by, value_of, value_size};
+ghost use Rattle.des_columns.specs.Writings.{IsColumnWritten, IsTextSize, IsWriting, padded_by, value_size};
 
 use crate::column::add_up_to;
 use crate::form::{BlockMode, Form};
 use des::cbc::next_vector;
-use des::cipher::are_bytes;
 use des_fast::many::{ManyBlocks, Slice};
 
 // The blocks that are encrypted together.
 const BLOCKS: usize = 1024;
-
-// Writes a text that is not empty, and MySQL's padding.
-fn write_starred(text: &[u8], bytes: &mut [u8])
-    requires { length bytes.old ≡ (length text.now / 8 + 1) * 8 }
-    ensures padded { bytes.new ≡ padded text.now }
-    ensures count { length bytes.new ≡ length bytes.old }
-{
-    let past = text.len() % 8;
-    let (front, tail) = bytes.split_at_mut(text.len());
-    front.copy_from_slice(text);
-    let (stars, last) = tail.split_at_mut(7 - past);
-    stars.fill(b'*');
-    last.fill(8 - past as u8);
-}
-
-// Writes a text and the padding of PKCS#7.
-fn write_counted(text: &[u8], bytes: &mut [u8])
-    requires { length bytes.old ≡ (length text.now / 8 + 1) * 8 }
-    ensures padded { bytes.new ≡ text.now
-        ++ replicate (8 - length text.now % 8) (8 - length text.now % 8) }
-    ensures count { length bytes.new ≡ length bytes.old }
-{
-    let past = text.len() % 8;
-    let (front, tail) = bytes.split_at_mut(text.len());
-    front.copy_from_slice(text);
-    tail.fill(8 - past as u8);
-}
 
 impl Form {
     // How many bytes the value of a text of `size` bytes has.
@@ -50,8 +22,8 @@ impl Form {
         ensures { result ≡ value_size self size }
     {
         match self {
-            Form::Mysql | Form::MysqlByNumber(_) if size == 0 => 0,
-            Form::Mysql | Form::MysqlByNumber(_) => (size / 8 + 1) * 8 + 1,
+            Form::Mysql if size == 0 => 0,
+            Form::Mysql => (size / 8 + 1) * 8 + 1,
             Form::Pkcs7 => (size / 8 + 1) * 8,
             Form::Unpadded => size,
         }
@@ -64,12 +36,16 @@ impl Form {
         ensures padded { bytes.new ≡ padded_by self text.now }
         ensures count { length bytes.new ≡ length bytes.old }
     {
-        match self {
-            Form::Mysql | Form::MysqlByNumber(_) if text.is_empty() => (),
-            Form::Mysql | Form::MysqlByNumber(_) => write_starred(text, bytes),
-            Form::Pkcs7 => write_counted(text, bytes),
-            Form::Unpadded => bytes.copy_from_slice(text),
-        }
+        let count = 8 - (text.len() % 8) as u8;
+        let filler = match self {
+            Form::Mysql => b'*',
+            _ => count,
+        };
+        let (front, padding) = bytes.split_at_mut(text.len());
+        front.copy_from_slice(text);
+        let (fillers, last) = padding.split_at_mut(padding.len().saturating_sub(1));
+        fillers.fill(filler);
+        last.fill(count);
     }
 }
 
@@ -86,7 +62,8 @@ struct Writer<C> {
 impl<C: ManyBlocks + Drop> Writer<C> {
     // Encrypts blocks in place, and returns the mode of those that come after them.
     fn encrypt<S: Slice>(&self, mode: BlockMode, blocks: &mut [[u8; 8]]) -> BlockMode
-        ensures enciphered { blocks.new ≡ enciphered mode (C.encrypted self.now.cipher) blocks.old }
+        ensures encrypted { (key : List ℕ) → C.is_made_from self.now.cipher key
+            → AreEncrypted mode (C.relation key) blocks.old blocks.new }
         ensures mode { result ≡ mode_after mode blocks.new }
         ensures count { length blocks.new ≡ length blocks.old }
     {
@@ -107,8 +84,8 @@ impl<C: ManyBlocks + Drop> Writer<C> {
         requires whole { length bytes.old % 8 ≡ 0 }
         requires buffer { 1 ≤ length buffer.old }
         ensures buffer { length buffer.new ≡ length buffer.old }
-        ensures enciphered { bytes.new
-            ≡ enciphered_bytes self.now.mode (C.encrypted self.now.cipher) bytes.old }
+        ensures encrypted { (key : List ℕ) → C.is_made_from self.now.cipher key
+            → IsEncrypted self.now.mode (C.relation key) bytes.old bytes.new }
     {
         let mut mode = self.mode;
         let mut from = 0;
@@ -131,8 +108,8 @@ impl<C: ManyBlocks + Drop> Writer<C> {
         requires value { length value.old ≡ value_size self.now.form (length text.now) }
         requires buffer { 1 ≤ length buffer.old }
         ensures buffer { length buffer.new ≡ length buffer.old }
-        ensures value { value.new ≡ value_of self.now.form self.now.number self.now.mode
-            (C.encrypted self.now.cipher) text.now }
+        ensures written { (key : List ℕ) → C.is_made_from self.now.cipher key
+            → IsWriting self.now.form self.now.number self.now.mode (C.relation key) text.now value.new }
     {
         let (head, bytes) = value.split_at_mut(value.len() % 8);
         head.fill(128 + self.number);
@@ -146,8 +123,10 @@ impl<C: ManyBlocks + Drop> Writer<C> {
         requires whole { sum lengths.now ≡ length texts.now }
         requires sizes { All (IsTextSize self.now.form) lengths.now }
         requires values { length values.old ≡ sum_by (value_size self.now.form) lengths.now }
-        ensures { values.new ≡ flat_map (value_of self.now.form self.now.number self.now.mode
-            (C.encrypted self.now.cipher)) (pieces lengths.now texts.now) }
+        ensures { (key : List ℕ) → C.is_made_from self.now.cipher key
+            → IsColumnWritten (value_size self.now.form)
+            (IsWriting self.now.form self.now.number self.now.mode (C.relation key))
+            (pieces lengths.now texts.now) values.new }
     {
         let mut buffer = [[0; 8]; BLOCKS];
         let mut from = 0;
@@ -181,8 +160,6 @@ pub fn write_values<C: ManyBlocks + Drop, S: Slice>(
         (IsWriting form number mode (C.relation (C.Key.bytes_of key.now)))
         (pieces lengths.now texts.now) values.new }
 {
-    mode.has_vector();
-    are_bytes(texts);
     let writer = Writer {
         cipher: C::new(key),
         form,

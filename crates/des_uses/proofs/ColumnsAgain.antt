@@ -13,13 +13,13 @@ use Rattle.des.specs.TripleCiphers.{ede3_decryption}
 use Rattle.des.proofs.Graphs.{IsGraphOf-decryption}
 use Rattle.des.proofs.TripleGraphs.{AnswerBy-Triple}
 use Rattle.des.proofs.XoredBlocks.{xor_blocks-undone}
-use Rattle.des_columns.specs.ChainedBytes.{joined}
+use Rattle.des_columns.specs.EncryptedBytes.{IsEncrypted, joined}
 use Rattle.des_columns.specs.Columns.{pieces}
 use Rattle.des_columns.specs.Forms.{HasVector, filled_to, part_of, status_of, text_of}
 use Rattle.des_columns.specs.MysqlColumns.{Reads, Writes}
 use Rattle.des_columns.specs.Pgcrypto.{filled}
 use Rattle.des_columns.specs.PgcryptoColumns.{Reads as ReadsPgcrypto, Writes as WritesPgcrypto, mode_by, relation_by}
-use Rattle.des_columns.specs.Readings.{IsColumnRead, IsEncrypted, IsReading}
+use Rattle.des_columns.specs.Readings.{IsColumnRead, IsReading}
 use Rattle.des_columns.specs.Writings.{IsColumnWritten, IsTextSize, value_size}
 use Rattle.des_columns.specs.declared.form.BlockMode.{BlockMode}
 use Rattle.des_columns.specs.declared.form.BlockMode.TheVariants.{Ecb, Cbc}
@@ -30,8 +30,8 @@ use Rattle.des_columns.specs.declared.pgcrypto.Cipher.TheVariants.{Des, DesEcb, 
 use Rattle.des_columns.specs.declared.pgcrypto.Scheme.{Scheme}
 use Rattle.des_columns.specs.declared.status.TheConstants.{OK}
 use Rattle.des_columns.proofs.Pieces.{length-pieces}
-use Rattle.des_columns.proofs.TextsOfValues.{HasNumber, mysql-read, pgcrypto-read}
-use Rattle.des_columns.proofs.WrittenValues.{length-piece, texts-sized}
+use Rattle.des_columns.proofs.TextsOfValues.{mysql-read, pgcrypto-read}
+use Rattle.des_columns.proofs.WrittenColumns.{length-piece, texts-sized}
 
 -- ---- blocks are those of their bytes
 
@@ -103,22 +103,22 @@ module _ (Relates : List ℕ → List ℕ → Type 0) (back : List ℕ → List 
       → IsEncrypted mode Relates other part → plain ≡ other
   encrypted-same Ecb plain other part vector one two =
       let blocks : one.q_blocks ≡ two.q_blocks =
-      blocks-same one.q_blocks two.q_blocks (each-are_blocks one.p_blocks one.q_blocks one.related)
-      (each-are_blocks two.p_blocks two.q_blocks two.related) (one.of_q ∙ sym two.of_q) in
+      blocks-same one.q_blocks two.q_blocks (each-are_blocks one.p_blocks one.q_blocks one.encrypted)
+      (each-are_blocks two.p_blocks two.q_blocks two.encrypted) (one.of_q ∙ sym two.of_q) in
       sym one.of_p
-      ∙ ap joined (each-decrypted one.p_blocks one.q_blocks one.related
+      ∙ ap joined (each-decrypted one.p_blocks one.q_blocks one.encrypted
       ∙ ap (map back) blocks
-      ∙ sym (each-decrypted two.p_blocks two.q_blocks two.related))
+      ∙ sym (each-decrypted two.p_blocks two.q_blocks two.encrypted))
       ∙ two.of_p
   encrypted-same (Cbc iv) plain other part vector one two =
       let blocks : one.q_blocks ≡ two.q_blocks =
-      blocks-same one.q_blocks two.q_blocks (chain-are_blocks iv one.p_blocks one.q_blocks one.chained)
-      (chain-are_blocks iv two.p_blocks two.q_blocks two.chained) (one.of_q ∙ sym two.of_q) in
+      blocks-same one.q_blocks two.q_blocks (chain-are_blocks iv one.p_blocks one.q_blocks one.encrypted)
+      (chain-are_blocks iv two.p_blocks two.q_blocks two.encrypted) (one.of_q ∙ sym two.of_q) in
       sym one.of_p
       ∙ ap joined (unchained-same iv one.p_blocks two.p_blocks two.q_blocks
       (subst (λ (q : List (List ℕ)). Unchains back iv q one.p_blocks) blocks
-      (chain-decrypted iv one.p_blocks one.q_blocks vector one.chained))
-      (chain-decrypted iv two.p_blocks two.q_blocks vector two.chained))
+      (chain-decrypted iv one.p_blocks one.q_blocks vector one.encrypted))
+      (chain-decrypted iv two.p_blocks two.q_blocks vector two.encrypted))
       ∙ two.of_p
 
   pub reading-same : (form : Form) (mode : BlockMode) (value text other : List ℕ) (status its : ℤ) → HasVector mode
@@ -175,7 +175,8 @@ lengths-of_pieces : (lengths bytes : List ℕ) → sum lengths ≡ length bytes 
 lengths-of_pieces lengths bytes whole =
     ext_get_or 0 (map length (pieces lengths bytes)) lengths
     (length-map (pieces lengths bytes) length ∙ length-pieces lengths bytes) (λ k within.
-    let below : k < length lengths = omega (arith, within, length-map (pieces lengths bytes) (length {A = ℕ}), length-pieces lengths bytes) in
+    let below : k < length lengths =
+    omega (arith, within, length-map (pieces lengths bytes) (length {A = ℕ}), length-pieces lengths bytes) in
     get_or-map length (pieces lengths bytes) k [] 0 (omega (arith, below, length-pieces lengths bytes))
     ∙ length-piece lengths bytes k below whole)
 
@@ -275,12 +276,12 @@ decrypts TripleDes key are = (AnswerBy-Triple true true (filled 24 key) (filled-
 decrypts TripleDesEcb key are = (AnswerBy-Triple true true (filled 24 key) (filled-bytes 24 key are)).decryption
 
 pub pgcrypto-again : (by : Scheme) (key iv lengths bytes sizes values again again_lengths : List ℕ) (statuses : List ℤ)
-    → HasNumber by.form 0 → AreBytes key → AreBytes iv → sum lengths ≡ length bytes → All (IsTextSize by.form) lengths
+    → AreBytes key → AreBytes iv → sum lengths ≡ length bytes → All (IsTextSize by.form) lengths
     → sizes ≡ map (value_size by.form) lengths
     → IsColumnWritten (value_size by.form) (WritesPgcrypto by key iv) (pieces lengths bytes) values
     → IsColumnRead (ReadsPgcrypto by key iv) (pieces sizes values) again again_lengths statuses
     → ComeAgain lengths bytes sizes again again_lengths statuses
-pgcrypto-again by key iv lengths bytes sizes values again again_lengths statuses has of_key of_iv =
+pgcrypto-again by key iv lengths bytes sizes values again again_lengths statuses of_key of_iv =
     texts-again by.form (mode_by by.cipher iv) (relation_by by.cipher key) (decryption_by by.cipher key)
     (WritesPgcrypto by key iv) lengths bytes sizes values again again_lengths statuses (decrypts by.cipher key of_key)
-    (has-vector by.cipher iv of_iv) (λ text value. pgcrypto-read by key iv text value has)
+    (has-vector by.cipher iv of_iv) (pgcrypto-read by key iv)

@@ -3,7 +3,7 @@
 ghost use Rattle.std.specs.Prelude.{◌≡◌, ◌<◌, ◌↔◌, IsSome, IsTrue, length, map, sum};
 ghost use Rattle.std.specs.List.{All};
 ghost use Rattle.std.specs.Simd.Lanes.{zip2};
-ghost use Rattle.des_columns.specs.ChainedBytes.{joined};
+ghost use Rattle.des_columns.specs.EncryptedBytes.{joined};
 ghost use Rattle.des_columns.specs.Columns.{pieces};
 ghost use Rattle.des_columns.specs.Forms.{filled_to};
 ghost use Rattle.des_columns.specs.PgcryptoColumns.{form_of, scheme_of};

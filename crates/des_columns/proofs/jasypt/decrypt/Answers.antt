@@ -2,7 +2,8 @@ use Rattle.std.proofs.Common.{◌≡◌, ℕ, ℤ, ◌-◌, Option, Some, None, 
 use Rattle.std.proofs.lemmas.List.{length-take-le, take_all, take_at}
 use Rattle.des_columns.specs.Columns.{deciphered, plain_of}
 use Rattle.des_columns.specs.Forms.{fault_before, filled_to, part_after, part_of, size_in, status_after, text_after}
-use Rattle.des_columns.specs.Readings.{IsEncrypted, IsReading}
+use Rattle.des_columns.specs.EncryptedBytes.{IsEncrypted}
+use Rattle.des_columns.specs.Readings.{IsReading}
 use Rattle.des_columns.specs.declared.form.BlockMode.{BlockMode}
 use Rattle.des_columns.specs.declared.form.BlockMode.TheVariants.{Cbc}
 use Rattle.des_columns.specs.declared.form.Form.TheVariants.{Pkcs7}

@@ -1,15 +1,12 @@
 -- A value more.
-use Rattle.std.proofs.Common.{rules, w32, SFits, ◌≡◌, ℕ, ℤ, ◌+◌, ◌-◌, ◌≤◌, ◌<◌, ◌++◌, List, [], ◌∷◌, length, take, drop, get_or, sum, ap, sym, ◌∙◌, subst, arith}
-use Rattle.std.proofs.lemmas.List.{length-take-le, take_all, take_more, take_more_set}
-use Rattle.std.proofs.Math.ListN.{set}
+use Rattle.std.proofs.Common.{rules, w32, SFits, ◌≡◌, ℕ, ℤ, ◌+◌, ◌-◌, ◌≤◌, ◌<◌, List, [], length, take, drop, get_or, sum, ap, sym, ◌∙◌, subst, arith}
+use Rattle.std.proofs.lemmas.List.{length-take-le, take_all}
 use Rattle.std.proofs.lemmas.Int.{to_z-of_z}
 use Rattle.std.proofs.lemmas.List.Sums.{sum_by_more, sum_by_more_le}
-use Rattle.std.proofs.lemmas.Slice.{take-put_mid}
 use Rattle.des_columns.specs.Columns.{pieces}
-use Rattle.des_columns.specs.Forms.{filled_to}
 use Rattle.des_columns.specs.Jasypt.{Reads}
-use Rattle.des_columns.proofs.ColumnsByValue.{one-value-more, read-same}
 use Rattle.des_columns.proofs.Pieces.{length-pieces, value-at}
+use Rattle.des_columns.proofs.ReadColumns.{column-whole, value-more}
 use Rattle.des_columns.proofs.jasypt.decrypt_values.Goals as goal
 
 pub values-preserved : goal.values-preserved
@@ -42,19 +39,15 @@ values-preserved c =
       start = ap (λ n. n + get_or lengths k 0) c.values.invariant.start ∙ sym (sum_by_more (λ x. x) lengths k 0 c.values-test.true);
       buffer = c.read_value-reading.ensures.buffer ∙ c.values.invariant.buffer;
       read =
-          read-same R _ _ _ _ _ _ _ _ (take_more vs k [] inside)
-          (take-put_mid start size c.values.texts place (start + get_or lengths k 0)
-          (omega (arith, c.read_value-reading.auto.place, is, within)) (omega (arith, within, c.values.auto.texts)))
-          (take_more_set c.values.text_lengths k c.read_value-reading.result.length
+          value-more R vs c.values.texts c.values.text_lengths c.values.statuses k start size (start + get_or lengths k 0)
+          c.read_value-reading.result.length _ (take size (drop start bytes)) place text inside
           (omega (arith, c.values-test.true, c.values.auto.text_lengths, c.requires.text_lengths))
-          ∙ ap (λ n. take k c.values.text_lengths ++ n ∷ []) (sym long))
-          (ap (λ (status : ℤ). take (k + 1) (set c.values.statuses k status)) (to_z-of_z w32 c.read_value-reading.result.status fits)
-          ∙ take_more_set c.values.statuses k c.read_value-reading.result.status
-          (omega (arith, c.values-test.true, c.values.auto.statuses, c.requires.statuses)))
-          (one-value-more R (take k vs) (take start c.values.texts) (take k c.values.text_lengths) (take k c.values.statuses)
-          (get_or vs k []) place text c.read_value-reading.result.status c.values.invariant.read
-          (subst (λ (value : List ℕ). R value c.read_value-reading.result.status text) same c.read_value-reading.ensures.read)
-          (c.read_value-reading.ensures.place ∙ ap (λ (value : List ℕ). filled_to (length value) text) same));
+          (omega (arith, c.values-test.true, c.values.auto.statuses, c.requires.statuses))
+          (omega (arith, within, c.values.auto.texts)) (omega (arith, c.read_value-reading.auto.place, is, within)) same (sym long)
+          c.read_value-reading.ensures.place
+          (subst (λ (status : ℤ). R (take size (drop start bytes)) status text)
+          (sym (to_z-of_z w32 c.read_value-reading.result.status fits)) c.read_value-reading.ensures.read)
+          c.values.invariant.read;
     }
 
 pub returns-clause-read : goal.returns-clause-read
@@ -63,11 +56,8 @@ returns-clause-read c =
     let vs : List (List ℕ) = pieces lengths c.args.values.now in
     let all : take c.values.k lengths ≡ lengths = take_all c.values.k lengths (omega (arith, c.values-test.false)) in
     let end : c.values.start ≡ length c.args.values.now = c.values.invariant.start ∙ ap sum all ∙ c.requires.whole in
-    read-same (Reads c.args.by c.args.iterations c.args.password.now) _ _ _ _ _ _ _ _
-    (sym (take_all c.values.k vs (omega (arith, length-pieces lengths c.args.values.now, c.values-test.false))))
-    (sym (take_all c.values.start c.values.texts (omega (arith, end, c.requires.texts, c.values.auto.texts))))
-    (sym (take_all c.values.k c.values.text_lengths
-    (omega (arith, c.requires.text_lengths, c.values.auto.text_lengths, c.values-test.false))))
-    (sym (take_all c.values.k c.values.statuses
-    (omega (arith, c.requires.statuses, c.values.auto.statuses, c.values-test.false))))
-    c.values.invariant.read
+    column-whole (Reads c.args.by c.args.iterations c.args.password.now) vs c.values.texts c.values.text_lengths c.values.statuses
+    c.values.k c.values.start (omega (arith, length-pieces lengths c.args.values.now, c.values-test.false))
+    (omega (arith, end, c.requires.texts, c.values.auto.texts))
+    (omega (arith, c.requires.text_lengths, c.values.auto.text_lengths, c.values-test.false))
+    (omega (arith, c.requires.statuses, c.values.auto.statuses, c.values-test.false)) c.values.invariant.read

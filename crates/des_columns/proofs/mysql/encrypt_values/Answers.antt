@@ -6,7 +6,7 @@ use Rattle.des_columns.specs.Writings.{IsWriting, value_size}
 use Rattle.des_columns.specs.declared.form.BlockMode.TheVariants.{Cbc}
 use Rattle.des_columns.specs.declared.form.Form.TheVariants.{Mysql}
 use Rattle.des_columns.proofs.TextsOfValues.{mysql-written}
-use Rattle.des_columns.proofs.WrittenValues.{IsColumnWritten-weaker}
+use Rattle.des_columns.proofs.WrittenColumns.{IsColumnWritten-weaker}
 use Rattle.des_columns.proofs.mysql.encrypt_values.Goals as goal
 
 pub returns : goal.returns

@@ -6,7 +6,7 @@ use Rattle.std.proofs.lemmas.List.Sums.{sum-map}
 use Rattle.des_columns.specs.PgcryptoColumns.{form_of}
 use Rattle.des_columns.specs.Writings.{IsTextSize, value_size}
 use Rattle.des_columns.specs.declared.form.Form.{Form}
-use Rattle.des_columns.proofs.TextsOfValues.{form-named, has-number-named}
+use Rattle.des_columns.proofs.TextsOfValues.{form-named}
 use Rattle.des_uses.proofs.ColumnsAgain.{pgcrypto-again}
 use Rattle.des_uses.proofs.columns.pgcrypto_texts_again.Goals as goal
 
@@ -40,7 +40,7 @@ returns g c =
     let again =
     pgcrypto-again c.in-Some.by c.args.key.now c.args.iv.now c.args.lengths.now c.args.texts.now c.args.value_lengths.now
     c.encrypt_values.new.values c.decrypt_values.new.texts c.decrypt_values.new.text_lengths c.decrypt_values.new.statuses
-    (has-number-named c.args.name.now c.in-Some.by named) c.are_bytes.ensures c.are_bytes-2.ensures c.requires.whole
+    c.are_bytes.ensures c.are_bytes-2.ensures c.requires.whole
     (subst (λ (form : Form). All (IsTextSize form) c.args.lengths.now) is c.requires.fit)
     (c.requires.sizes ∙ ap (λ (form : Form). map (value_size form) c.args.lengths.now) is) c.encrypt_values.ensures
     c.decrypt_values.ensures.read in

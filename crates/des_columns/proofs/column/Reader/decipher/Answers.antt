@@ -4,7 +4,7 @@ use Rattle.std.specs.Simd.{first_chunks}
 use Rattle.std.proofs.lemmas.List.{drop-drop, length-drop, length-take-le, take_all}
 use Rattle.std.proofs.lemmas.List.Concat.{flat_map-append}
 use Rattle.std.proofs.lemmas.Slice.{drop-put_mid, take-put_mid}
-use Rattle.des_columns.specs.ChainedBytes.{joined}
+use Rattle.des_columns.specs.EncryptedBytes.{joined}
 use Rattle.des_columns.specs.Forms.{mode_after, unchained}
 use Rattle.des_columns.specs.declared.form.BlockMode.{BlockMode}
 use Rattle.des_columns.proofs.DecryptedBlocks.{chunks-at, mode_after-append, unchained-append}

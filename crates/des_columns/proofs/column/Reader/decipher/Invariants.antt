@@ -1,7 +1,7 @@
 -- The blocks before the index are deciphered, and those from it on are as they were.
 use Rattle.std.proofs.Common.{◌≡◌, ◌≤◌, ◌-◌, ◌*◌, ◌/◌, length, take, drop, map}
 use Rattle.std.specs.Simd.{first_chunks}
-use Rattle.des_columns.specs.ChainedBytes.{joined}
+use Rattle.des_columns.specs.EncryptedBytes.{joined}
 use Rattle.des_columns.specs.Forms.{mode_after, unchained}
 use Rattle.des_columns.proofs.column.Reader.decipher.Given as goal
 

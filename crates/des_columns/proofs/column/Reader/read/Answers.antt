@@ -1,10 +1,10 @@
 -- Some values more.
-use Rattle.std.proofs.Common.{◌≡◌, ℕ, ◌+◌, ◌-◌, ◌≤◌, List, length, take, drop, sum, ap, ap₂, sym, ◌∙◌, arith, take-add}
+use Rattle.std.proofs.Common.{◌≡◌, ℕ, ◌+◌, ◌-◌, ◌≤◌, List, length, take, drop, sum, refl, ap, ap₂, sym, ◌∙◌, arith, rules, take-add}
 use Rattle.std.proofs.lemmas.List.{length-drop, take_all, take_rest}
 use Rattle.std.proofs.lemmas.List.Sums.{sum_by-append, sum_by-take-le}
-use Rattle.des_columns.specs.Columns.{pieces, plain_of}
+use Rattle.des_columns.specs.Columns.{ReadsAs, pieces}
 use Rattle.des_columns.proofs.Pieces.{length-pieces, pieces-rest, sum-rest}
-use Rattle.des_columns.proofs.ReadTexts.{texts-behind, texts-whole}
+use Rattle.des_columns.proofs.ReadColumns.{column-none, column-whole, values-more}
 use Rattle.des_columns.proofs.column.Reader.read.Goals as goal
 
 -- where the values end that were read
@@ -30,6 +30,15 @@ overflow_add-start g c =
       c.requires.whole,
     )
 
+pub groups-init : goal.groups-init
+groups-init g c = record {
+  within = omega arith;
+  start = refl;
+  buffer = search rules;
+  read = column-none (ReadsAs c.args.self.now.form c.args.self.now.mode (g.K.ValueKeys.has_key c.args.self.now.keys)
+      (g.K.ValueKeys.decryption c.args.self.now.keys));
+}
+
 pub groups-preserved : goal.groups-preserved
 groups-preserved g c =
     let m : ℕ = c.groups.from in
@@ -38,7 +47,6 @@ groups-preserved g c =
     let bytes : ℕ = c.read_next-taken.result.bytes in
     let lengths : List ℕ = c.args.lengths.now in
     let vs : List (List ℕ) = pieces lengths c.args.values.now in
-    let plain = plain_of c.args.self.now.form c.args.self.now.mode (g.K.ValueKeys.decryption c.args.self.now.keys) in
     let rest = pieces-rest lengths c.args.values.now m start c.groups.invariant.within c.groups.invariant.start in
     let end : start + bytes ≡ sum (take (m + count) lengths) =
     ends lengths m count start bytes c.groups.invariant.start c.read_next-taken.ensures.bytes in
@@ -57,8 +65,9 @@ groups-preserved g c =
       start = end;
       buffer = omega (arith, c.read_next-taken.ensures.buffer, c.groups.invariant.buffer);
       read =
-          texts-behind c.args.self.now.form plain vs c.groups.texts c.groups.text_lengths c.groups.statuses m count start bytes
-          _ _ _ c.read_next-taken.new.texts c.read_next-taken.new.text_lengths c.read_next-taken.new.statuses
+          values-more (ReadsAs c.args.self.now.form c.args.self.now.mode (g.K.ValueKeys.has_key c.args.self.now.keys)
+          (g.K.ValueKeys.decryption c.args.self.now.keys)) vs c.groups.texts c.groups.text_lengths c.groups.statuses m count start
+          bytes _ _ _ c.read_next-taken.new.texts c.read_next-taken.new.text_lengths c.read_next-taken.new.statuses
           (omega (arith, in_all, c.requires.texts, c.groups.auto.texts))
           (omega (arith, in_values, c.requires.text_lengths, c.groups.auto.text_lengths))
           (omega (arith, in_values, c.requires.statuses, c.groups.auto.statuses)) c.read_next-taken.auto.texts
@@ -71,8 +80,8 @@ returns-clause-read g c =
     let lengths : List ℕ = c.args.lengths.now in
     let all : take c.groups.from lengths ≡ lengths = take_all c.groups.from lengths (omega (arith, c.groups-test.false)) in
     let end : c.groups.start ≡ length c.args.values.now = c.groups.invariant.start ∙ ap sum all ∙ c.requires.whole in
-    texts-whole c.args.self.now.form
-    (plain_of c.args.self.now.form c.args.self.now.mode (g.K.ValueKeys.decryption c.args.self.now.keys))
+    column-whole (ReadsAs c.args.self.now.form c.args.self.now.mode (g.K.ValueKeys.has_key c.args.self.now.keys)
+    (g.K.ValueKeys.decryption c.args.self.now.keys))
     (pieces lengths c.args.values.now) c.groups.texts c.groups.text_lengths c.groups.statuses c.groups.from c.groups.start
     (omega (arith, length-pieces lengths c.args.values.now, c.groups-test.false))
     (omega (arith, end, c.requires.texts, c.groups.auto.texts))

@@ -1,35 +1,38 @@
-use Rattle.std.proofs.Common.{rules, w32, SFits, ◌≡◌, ℕ, ◌≤◌, ◌<◌, List, [], length, take, get_or, refl, ap, sym, ◌∙◌, arith}
+use Rattle.std.proofs.Common.{rules, w32, SFits, Bool, ℕ, ◌≤◌, ◌<◌, List, length, take, get_or, refl, ap, sym, ◌∙◌, arith}
 use Rattle.std.specs.List.{flat_map}
-use Rattle.std.proofs.lemmas.List.{length-take-le}
+use Rattle.std.proofs.lemmas.List.{length-take-le, take_at}
 use Rattle.std.proofs.lemmas.List.Sums.{sum_by-take-le, sum_by_more_le}
 use Rattle.std.proofs.lemmas.Int.{to_z-of_z}
 use Rattle.des_columns.specs.Forms.{blocks_of}
-use Rattle.des_columns.specs.Columns.{pieces, plain_of}
+use Rattle.des_columns.specs.Columns.{ReadsAs, pieces, text_as}
 use Rattle.des_columns.specs.declared.form.Form.{Form}
 use Rattle.des_columns.proofs.Pieces.{length-pieces, take-pieces, value-at}
-use Rattle.des_columns.proofs.ReadTexts.{texts-front, texts-more}
+use Rattle.des_columns.proofs.ReadColumns.{column-none, value-more}
 use Rattle.des_columns.proofs.column.Reader.read_next.Goals as goal
 
 pub returns-then-taken-eq0-clause-read : goal.returns-then-taken-eq0-clause-read
 returns-then-taken-eq0-clause-read g c =
     let form : Form = c.args.self.now.form in
+    let f : List ℕ → List ℕ → List ℕ = g.K.ValueKeys.decryption c.args.self.now.keys in
+    let has : List ℕ → Bool = g.K.ValueKeys.has_key c.args.self.now.keys in
+    let reads = ReadsAs form c.args.self.now.mode has f in
     let lengths : List ℕ = c.args.lengths.now in
     let vs : List (List ℕ) = pieces lengths c.args.values.now in
-    let plain = plain_of form c.args.self.now.mode (g.K.ValueKeys.decryption c.args.self.now.keys) in
     let bytes : ℕ = get_or lengths 0 0 in
-    let value : List ℕ = take bytes c.args.values.now in
     let some : 0 < length lengths = omega (arith, c.requires.some) in
     let within : bytes ≤ length c.args.texts.now =
     omega (arith, sum_by_more_le (λ n. n) lengths 0 0 some, c.requires.whole, c.requires.texts) in
-    let same : value ≡ get_or vs 0 [] = value-at lengths c.args.values.now 0 0 bytes some refl refl in
     let fits : SFits w32 c.read_long-reading.result.status = search rules in
-    texts-more form plain vs c.args.texts.now c.args.text_lengths.now c.args.statuses.now 0 0 bytes bytes
-    c.read_long-reading.result.length _ value (plain value) c.read_long-reading.new.place
+    value-more reads vs c.args.texts.now c.args.text_lengths.now c.args.statuses.now 0 0 bytes bytes
+    c.read_long-reading.result.length _ (take bytes c.args.values.now) c.read_long-reading.new.place
+    (text_as form c.args.self.now.mode has f (take bytes c.args.values.now))
     (omega (arith, some, length-pieces lengths c.args.values.now)) (omega (arith, some, c.requires.text_lengths))
-    (omega (arith, some, c.requires.statuses)) (omega arith) (omega (arith, c.read_long-reading.auto.place, length-take-le bytes c.args.texts.now within)) same
-    (ap plain same) c.read_long-reading.ensures.text c.read_long-reading.ensures.length
-    (to_z-of_z w32 c.read_long-reading.result.status fits ∙ c.read_long-reading.ensures.status)
-    (record { texts_are = refl; lengths_are = refl; statuses_are = refl })
+    (omega (arith, some, c.requires.statuses)) (omega arith)
+    (omega (arith, c.read_long-reading.auto.place, length-take-le bytes c.args.texts.now within))
+    (value-at lengths c.args.values.now 0 0 bytes some refl refl) c.read_long-reading.ensures.length
+    c.read_long-reading.ensures.text
+    (to_z-of_z w32 c.read_long-reading.result.status fits ∙ c.read_long-reading.ensures.status, refl)
+    (column-none reads)
 
 pub decrypt_values-requires : goal.decrypt_values-requires
 decrypt_values-requires g c =
@@ -38,21 +41,11 @@ decrypt_values-requires g c =
     (sym (take-pieces c.args.lengths.now c.args.values.now c.gather-taken.result.count c.gather-taken.result.bytes
     c.gather-taken.ensures.bytes))
 
-pub write_texts-requires-clause-answers : goal.write_texts-requires-clause-answers
-write_texts-requires-clause-answers g c =
-    c.decrypt_values.auto.blocks
-    ∙ ap length (c.gather-taken.ensures.gathered
-    ∙ ap (flat_map (blocks_of c.args.self.now.form))
-    (sym (take-pieces c.args.lengths.now c.args.values.now c.gather-taken.result.count c.gather-taken.result.bytes
-    c.gather-taken.ensures.bytes)))
-
 pub returns-clause-read : goal.returns-clause-read
 returns-clause-read g c =
-    let form : Form = c.args.self.now.form in
     let lengths : List ℕ = c.args.lengths.now in
     let count : ℕ = c.gather-taken.result.count in
     let bytes : ℕ = c.gather-taken.result.bytes in
-    let plain = plain_of form c.args.self.now.mode (g.K.ValueKeys.decryption c.args.self.now.keys) in
     let within : bytes ≤ length c.args.texts.now =
     omega (
       arith,
@@ -61,12 +54,11 @@ returns-clause-read g c =
       c.requires.whole,
       c.requires.texts,
     ) in
-    texts-front form plain (take count (pieces lengths c.args.values.now)) c.write_texts.new.texts c.write_texts.new.text_lengths
-    c.write_texts.new.statuses count bytes _ _ _
-    (c.write_texts.auto.texts ∙ length-take-le bytes c.args.texts.now within)
-    (c.write_texts.auto.text_lengths
-    ∙ length-take-le count c.args.text_lengths.now (omega (arith, c.gather-taken.ensures.count, c.requires.text_lengths)))
-    (c.write_texts.auto.statuses
-    ∙ length-take-le count c.args.statuses.now (omega (arith, c.gather-taken.ensures.count, c.requires.statuses)))
-    (rw (take-pieces lengths c.args.values.now count bytes c.gather-taken.ensures.bytes) at
-    (c.write_texts.ensures _ c.decrypt_values.ensures))
+    let values = take-pieces lengths c.args.values.now count bytes c.gather-taken.ensures.bytes in
+    rw (
+      take_at c.write_texts.new.texts _ bytes (c.write_texts.auto.texts ∙ length-take-le bytes c.args.texts.now within),
+      take_at c.write_texts.new.text_lengths _ count (c.write_texts.auto.text_lengths
+          ∙ length-take-le count c.args.text_lengths.now (omega (arith, c.gather-taken.ensures.count, c.requires.text_lengths))),
+      take_at c.write_texts.new.statuses _ count (c.write_texts.auto.statuses
+          ∙ length-take-le count c.args.statuses.now (omega (arith, c.gather-taken.ensures.count, c.requires.statuses))),
+    ) (rw values at c.write_texts.ensures)

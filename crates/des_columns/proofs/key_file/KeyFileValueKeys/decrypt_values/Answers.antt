@@ -1,22 +1,18 @@
 -- A value more.
-use Rattle.std.proofs.Common.{◌≡◌, ℕ, ◌+◌, ◌≤◌, ◌<◌, ◌/◌, List, [], ◌++◌, length, take, drop, map, get_or, ap, ap₂, sym, ◌∙◌, arith, append-nil}
+use Rattle.std.proofs.Common.{◌≡◌, ℕ, ◌+◌, ◌≤◌, ◌<◌, ◌/◌, List, [], replicate, ◌++◌, length, take, drop, map, get_or, ap, ap₂, sym, ◌∙◌, arith, append-nil}
 use Rattle.std.specs.List.{flat_map}
+use Rattle.std.specs.Option.{unwrap_or}
 use Rattle.std.proofs.lemmas.List.{length-append, take_all}
+use Rattle.std.proofs.lemmas.List.Folds.{length-flat_map-take}
 use Rattle.des.specs.TripleCiphers.{ede3_decryption}
-use Rattle.des_columns.specs.Forms.{blocks_of, part_of}
+use Rattle.des_columns.specs.Forms.{blocks_of}
 use Rattle.des_columns.specs.Columns.{decrypted, pieces}
 use Rattle.des_columns.specs.KeptKeys.{decrypted_by}
 use Rattle.des_columns.specs.declared.form.Form.{Form}
 use Rattle.des_columns.proofs.KeptBlocks.{drop-further}
-use Rattle.des_columns.proofs.Pieces.{flat_map-at, flat_map-more, flat_map-within, length-first_chunks, length-pieces, pieces-next}
+use Rattle.des_columns.proofs.Pieces.{flat_map-at, flat_map-more, length-blocks, length-pieces, pieces-next}
 use Rattle.des_columns.proofs.ValuesByNumber.{key_for}
 use Rattle.des_columns.proofs.key_file.KeyFileValueKeys.decrypt_values.Goals as goal
-
--- the blocks of a value are as many as its part has
-count-at : (form : Form) (value same part : List ℕ) → value ≡ same → part ≡ part_of form value
-    → length part / 8 ≡ length (blocks_of form same)
-count-at form value same part is of =
-    ap (λ (l : List ℕ). length l / 8) (of ∙ ap (part_of form) is) ∙ sym (length-first_chunks 8 _ (part_of form same))
 
 pub take_blocks-progress-requires-clause-blocks : goal.take_blocks-progress-requires-clause-blocks
 take_blocks-progress-requires-clause-blocks g c =
@@ -31,9 +27,9 @@ take_blocks-progress-requires-clause-blocks g c =
     omega (
       arith,
       c.values.invariant.place,
-      count-at form c.split_at.result.0.now (get_or vs k []) c.part_of.result.now (c.split_at.ensures.front ∙ next.0)
+      length-blocks form c.split_at.result.0.now (get_or vs k []) c.part_of.result.now (c.split_at.ensures.front ∙ next.0)
           c.part_of.ensures.part,
-      flat_map-within (blocks_of form) vs k inside,
+      length-flat_map-take (blocks_of form) vs k [] inside,
       ap length c.requires,
       c.values.auto.blocks,
     )
@@ -51,7 +47,7 @@ values-preserved g c =
     c.values.invariant.rest in
     let same : c.split_at.result.0.now ≡ get_or vs k [] = c.split_at.ensures.front ∙ next.0 in
     let count : length c.part_of.result.now / 8 ≡ length (blocks_of form (get_or vs k [])) =
-    count-at form c.split_at.result.0.now (get_or vs k []) c.part_of.result.now same c.part_of.ensures.part in
+    length-blocks form c.split_at.result.0.now (get_or vs k []) c.part_of.result.now same c.part_of.ensures.part in
     let at : ℕ = c.values.progress.done + c.values.progress.kept in
     let here : take (length c.part_of.result.now / 8) (drop at c.values.blocks) ≡ blocks_of form (get_or vs k []) =
     ap₂ take count (c.values.invariant.behind ∙ ap (drop at) c.requires)
@@ -68,7 +64,7 @@ values-preserved g c =
           c.take_blocks-progress.ensures.decrypted
           ∙ ap₂ ◌++◌ c.values.invariant.decrypted
           (ap₂ (λ (key : List ℕ) (l : List (List ℕ)). map (ede3_decryption key) l)
-          (c.key_for-key.ensures ∙ ap (key_for keys) same) here)
+          (c.unwrap_or-key.ensures ∙ ap (λ key. unwrap_or key (replicate 24 0)) c.key_for.ensures ∙ ap (key_for keys) same) here)
           ∙ sym (flat_map-more (decrypted form (λ value. ede3_decryption (key_for keys value))) vs k inside);
       behind =
           c.take_blocks-progress.ensures.rest

@@ -1,17 +1,30 @@
 -- Some blocks more.
-use Rattle.std.proofs.Common.{◌≡◌, ℕ, ◌+◌, ◌-◌, ◌*◌, ◌/◌, ◌++◌, ◌≤◌, List, length, take, drop, ap, ap₂, sym, ◌∙◌, arith, take-add}
+use Rattle.std.proofs.Common.{◌≡◌, ℕ, ◌+◌, ◌-◌, ◌*◌, ◌/◌, ◌++◌, ◌≤◌, List, [], length, take, drop, refl, ap, ap₂, sym, ◌∙◌, subst, arith, take-add}
 use Rattle.std.specs.Simd.{first_chunks}
 use Rattle.std.proofs.lemmas.List.{drop-drop, length-drop, length-take-le, take_all}
 use Rattle.std.proofs.lemmas.List.Concat.{flat_map-append}
 use Rattle.std.proofs.lemmas.Slice.{drop-put_mid, take-put_mid}
-use Rattle.des_columns.specs.ChainedBytes.{joined}
+use Rattle.des_columns.specs.EncryptedBytes.{AreEncrypted}
 use Rattle.des_columns.specs.Forms.{mode_after}
-use Rattle.des_columns.specs.Writings.{enciphered}
 use Rattle.des_columns.specs.declared.form.BlockMode.{BlockMode}
 use Rattle.des_columns.proofs.DecryptedBlocks.{chunks-at, mode_after-append}
-use Rattle.des_columns.proofs.EncipheredBlocks.{enciphered-append}
+use Rattle.des_columns.proofs.EncryptedBlocks.{AreEncrypted-append, AreEncrypted-none, mode_after-none}
+use Rattle.des_columns.proofs.JoinedBlocks.{joined_chunks}
 use Rattle.des_columns.proofs.Pieces.{length-first_chunks}
 use Rattle.des_columns.proofs.writing.Writer.encipher.Goals as goal
+
+pub parts-init : goal.parts-init
+parts-init g c = record {
+  within = omega arith;
+  buffer = refl;
+  done = (
+    [],
+    mode_after-none c.args.self.now.mode,
+    refl,
+    λ key made. AreEncrypted-none (g.C.Relating.relation key) c.args.self.now.mode,
+  );
+  rest = refl;
+}
 
 pub parts-preserved : goal.parts-preserved
 parts-preserved g c =
@@ -30,35 +43,33 @@ parts-preserved g c =
     let before : List (List ℕ) = take m all in
     let more : List (List ℕ) = take count (drop m all) in
     let mode : BlockMode = c.args.self.now.mode in
-    let f = g.C.BlockCipherEncrypt.encrypted c.args.self.now.cipher in
     let blocks : c.as_chunks.result.0.now ≡ more =
     c.as_chunks.ensures.front
     ∙ chunks-at m count total size bytes part within is (ap (take size) c.parts.invariant.rest) long in
-    let front : take (m + count) all ≡ before ++ more = take-add m count all in
-    let done : List (List ℕ) = enciphered mode f before in
-    let answers : c.encrypt-mode.new.blocks ≡ enciphered (mode_after mode done) f more =
-    c.encrypt-mode.ensures.enciphered
-    ∙ ap₂ (λ (by : BlockMode) (l : List (List ℕ)). enciphered by f l) c.parts.invariant.mode
-    (c.copy_from_slice.ensures.after ∙ blocks) in
-    let all_done : done ++ enciphered (mode_after mode done) f more ≡ enciphered mode f (take (m + count) all) =
-    sym (enciphered-append f mode before more) ∙ ap (enciphered mode f) (sym front) in
+    let done : List (List ℕ) = c.parts.invariant.done.0 in
+    let answers : List (List ℕ) = c.encrypt-mode.new.blocks in
     let new : List ℕ = c.copy_from_slice-in-parts.new.self in
     let new_long : length new ≡ size = c.copy_from_slice-in-parts.auto.self ∙ long in
     let inside : m * 8 ≤ length c.parts.bytes = omega (arith, within, c.parts.auto.bytes) in record {
       within = within;
       buffer =
           omega (arith, c.parts.invariant.buffer, c.encrypt-mode.auto.blocks, c.copy_from_slice.auto.self, c.min-count.ensures);
-      mode =
-          c.encrypt-mode.ensures.mode
-          ∙ ap₂ mode_after c.parts.invariant.mode answers
-          ∙ mode_after-append mode done (enciphered (mode_after mode done) f more)
-          ∙ ap (mode_after mode) all_done;
-      done =
-          take-put_mid (m * 8) size c.parts.bytes new ((m + count) * 8) (omega (arith, new_long, is)) inside
-          ∙ ap₂ ◌++◌ c.parts.invariant.done
-          (c.copy_from_slice-in-parts.ensures.after ∙ c.as_flattened.ensures.value ∙ ap joined answers)
-          ∙ sym (flat_map-append (λ block. block) done (enciphered (mode_after mode done) f more))
-          ∙ ap joined all_done;
+      done = (
+        done ++ answers,
+        c.encrypt-mode.ensures.mode
+            ∙ ap (λ (by : BlockMode). mode_after by answers) c.parts.invariant.done.1
+            ∙ mode_after-append mode done answers,
+        take-put_mid (m * 8) size c.parts.bytes new ((m + count) * 8) (omega (arith, new_long, is)) inside
+            ∙ ap₂ ◌++◌ c.parts.invariant.done.2 (c.copy_from_slice-in-parts.ensures.after ∙ c.as_flattened.ensures.value)
+            ∙ sym (flat_map-append (λ block. block) done answers),
+        λ key made.
+            subst (λ (l : List (List ℕ)). AreEncrypted mode (g.C.Relating.relation key) l (done ++ answers))
+            (ap (λ (l : List (List ℕ)). before ++ l) (c.copy_from_slice.ensures.after ∙ blocks) ∙ sym (take-add m count all))
+            (AreEncrypted-append (g.C.Relating.relation key) mode before done c.copy_from_slice.new.self answers
+            (c.parts.invariant.done.3 key made)
+            (subst (λ (by : BlockMode). AreEncrypted by (g.C.Relating.relation key) c.copy_from_slice.new.self answers)
+            c.parts.invariant.done.1 (c.encrypt-mode.ensures.encrypted key made))),
+      );
       rest =
           let whole : m * 8 + count * 8 ≡ (m + count) * 8 = omega arith in
           drop-put_mid (m * 8) size c.parts.bytes new ((m + count) * 8) (omega (arith, is)) inside new_long
@@ -69,14 +80,20 @@ parts-preserved g c =
           ∙ ap (λ n. drop n bytes) whole;
     }
 
-pub returns-clause-enciphered : goal.returns-clause-enciphered
-returns-clause-enciphered g c =
+pub returns-clause-encrypted : goal.returns-clause-encrypted
+returns-clause-encrypted g c = λ key made.
     let bytes : List ℕ = c.args.bytes.now in
     let all : List (List ℕ) = first_chunks 8 (length bytes / 8) bytes in
-    let f = g.C.BlockCipherEncrypt.encrypted c.args.self.now.cipher in
-    let mode : BlockMode = c.args.self.now.mode in
     let end : c.parts.from ≡ length bytes / 8 = omega (arith, c.parts.invariant.within, c.parts-test.false, c.parts.auto.bytes) in
-    sym (take_all (c.parts.from * 8) c.parts.bytes (omega (arith, end, c.requires.whole, c.parts.auto.bytes)))
-    ∙ c.parts.invariant.done
-    ∙ ap (λ (l : List (List ℕ)). joined (enciphered mode f l))
-    (take_all c.parts.from all (omega (arith, end, length-first_chunks 8 (length bytes / 8) bytes)))
+    record {
+      p_blocks = all;
+      q_blocks = c.parts.invariant.done.0;
+      of_p = joined_chunks bytes c.requires.whole;
+      of_q =
+          sym c.parts.invariant.done.2
+          ∙ take_all (c.parts.from * 8) c.parts.bytes (omega (arith, end, c.requires.whole, c.parts.auto.bytes));
+      encrypted =
+          subst (λ (l : List (List ℕ)). AreEncrypted c.args.self.now.mode (g.C.Relating.relation key) l c.parts.invariant.done.0)
+          (take_all c.parts.from all (omega (arith, end, length-first_chunks 8 (length bytes / 8) bytes)))
+          (c.parts.invariant.done.3 key made);
+    }

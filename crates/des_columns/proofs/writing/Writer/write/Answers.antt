@@ -1,20 +1,29 @@
 -- A value more.
-use Rattle.std.proofs.Common.{◌≡◌, ℕ, ◌+◌, ◌-◌, ◌≤◌, ◌<◌, ◌++◌, List, length, take, drop, get_or, ap, ap₂, sym, ◌∙◌, arith}
-use Rattle.std.specs.List.{flat_map, sum_by}
-use Rattle.std.proofs.lemmas.List.{length-drop, length-take-le, take_all}
+use Rattle.std.proofs.Common.{◌≡◌, ℕ, ◌+◌, ◌-◌, ◌≤◌, ◌<◌, List, [], length, take, drop, get_or, refl, ap, ap₂, sym, ◌∙◌, arith, rules}
+use Rattle.std.specs.List.{sum_by}
+use Rattle.std.proofs.lemmas.List.{length-drop, length-take-le, take_all, take_more}
 use Rattle.std.proofs.lemmas.List.Sums.{sum_by_more, sum_by_more_le}
 use Rattle.std.proofs.lemmas.Slice.{take-put_mid}
 use Rattle.des_columns.specs.Columns.{pieces}
-use Rattle.des_columns.specs.Writings.{value_of, value_size}
+use Rattle.des_columns.specs.Writings.{IsWriting, value_size}
 use Rattle.des_columns.specs.declared.form.Form.{Form}
-use Rattle.des_columns.proofs.Pieces.{flat_map-more, length-pieces, value-at}
+use Rattle.des_columns.proofs.Pieces.{length-pieces, value-at}
+use Rattle.des_columns.proofs.WrittenColumns.{written-more, written-none}
 use Rattle.des_columns.proofs.writing.Writer.write.Goals as goal
+
+pub texts-init : goal.texts-init
+texts-init g c = record {
+  from = refl;
+  start = refl;
+  buffer = search rules;
+  written = λ key made.
+      written-none (value_size c.args.self.now.form)
+      (IsWriting c.args.self.now.form c.args.self.now.number c.args.self.now.mode (g.C.Relating.relation key));
+}
 
 pub texts-preserved : goal.texts-preserved
 texts-preserved g c =
     let form : Form = c.args.self.now.form in
-    let write = value_of form c.args.self.now.number c.args.self.now.mode
-    (g.C.BlockCipherEncrypt.encrypted c.args.self.now.cipher) in
     let k : ℕ = c.texts.k in
     let from : ℕ = c.texts.from in
     let start : ℕ = c.texts.start in
@@ -38,37 +47,36 @@ texts-preserved g c =
       c.requires.values,
       c.texts.invariant.start,
     ) in
+    let size_is : start + span - start ≡ span = omega arith in
+    let there : length (take (start + span - start) (drop start c.texts.values)) ≡ start + span - start =
+    length-take-le (start + span - start) (drop start c.texts.values)
+    (omega (arith, length-drop start c.texts.values, inside, c.texts.auto.values)) in
     record {
       from = ap₂ ◌+◌ c.texts.invariant.from long ∙ sym (sum_by_more (λ n. n) lengths k 0 below);
       start = ap₂ ◌+◌ c.texts.invariant.start sized ∙ sym (sum_by_more (value_size form) lengths k 0 below);
       buffer = c.write_value.ensures.buffer ∙ c.texts.invariant.buffer;
-      written =
-          take-put_mid start (start + span - start) c.texts.values c.write_value.new.value (start + span)
-          (omega (
-            arith,
-            c.write_value.auto.value,
-            inside,
-            c.texts.auto.values,
-            length-take-le (start + span - start) (drop start c.texts.values)
-                (omega (arith, length-drop start c.texts.values, inside, c.texts.auto.values)),
-          ))
-          (omega (arith, inside, c.texts.auto.values))
-          ∙ ap₂ ◌++◌ c.texts.invariant.written
-          (c.write_value.ensures.value ∙ ap write (value-at lengths bytes k from size below c.texts.invariant.from is))
-          ∙ sym (flat_map-more write (pieces lengths bytes) k (omega (arith, length-pieces lengths bytes, below)));
+      written = λ key made.
+          rw (
+            take_more (pieces lengths bytes) k [] (omega (arith, length-pieces lengths bytes, below)),
+            sym (value-at lengths bytes k from size below c.texts.invariant.from is),
+            take-put_mid start (start + span - start) c.texts.values c.write_value.new.value (start + span)
+                (omega (arith, c.write_value.auto.value, there)) (omega (arith, inside, c.texts.auto.values)),
+          ) (written-more (value_size form) (IsWriting form c.args.self.now.number c.args.self.now.mode (g.C.Relating.relation key))
+          (take k (pieces lengths bytes)) (take start c.texts.values) text c.write_value.new.value
+          (c.write_value.auto.value ∙ there ∙ size_is ∙ sized ∙ ap (value_size form) (sym long))
+          (c.write_value.ensures.written key made) (c.texts.invariant.written key made));
     }
 
 pub returns : goal.returns
-returns g c =
+returns g c = λ key made.
     let lengths : List ℕ = c.args.lengths.now in
     let form : Form = c.args.self.now.form in
-    let write = value_of form c.args.self.now.number c.args.self.now.mode
-    (g.C.BlockCipherEncrypt.encrypted c.args.self.now.cipher) in
     let all : take c.texts.k lengths ≡ lengths = take_all c.texts.k lengths (omega (arith, c.texts-test.false)) in
     let end : c.texts.start ≡ length c.args.values.now =
     c.texts.invariant.start ∙ ap (sum_by (value_size form)) all ∙ sym c.requires.values in
-    sym (take_all c.texts.start c.texts.values (omega (arith, end, c.texts.auto.values)))
-    ∙ c.texts.invariant.written
-    ∙ ap (flat_map write)
-    (take_all c.texts.k (pieces lengths c.args.texts.now)
-    (omega (arith, length-pieces lengths c.args.texts.now, c.texts-test.false)))
+    let values : take c.texts.start c.texts.values ≡ c.texts.values =
+    take_all c.texts.start c.texts.values (omega (arith, end, c.texts.auto.values)) in
+    let texts : take c.texts.k (pieces lengths c.args.texts.now) ≡ pieces lengths c.args.texts.now =
+    take_all c.texts.k (pieces lengths c.args.texts.now)
+    (omega (arith, length-pieces lengths c.args.texts.now, c.texts-test.false)) in
+    rw (values, texts) at (c.texts.invariant.written key made)

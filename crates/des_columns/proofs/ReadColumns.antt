@@ -1,0 +1,128 @@
+-- Columns that are read: of one value, of some and others behind them, and of the first values.
+use Rattle.std.proofs.Common.{◌≡◌, ℕ, ℤ, ◌+◌, ◌-◌, ◌≤◌, ◌<◌, List, [], ◌∷◌, ◌++◌, length, take, drop, get_or, refl, ap, ap₂, sym, ◌∙◌, subst, arith, take-add, inl, inr}
+use Rattle.std.specs.Simd.Lanes.{zip2}
+use Rattle.std.proofs.Math.ListN.{set}
+use Rattle.std.proofs.lemmas.Bool.{cases_lt}
+use Rattle.std.proofs.lemmas.List.{append-nil, get_or_append_left, get_or-append_right, length-append, map-append, take_all, take_more, take_more_set}
+use Rattle.std.proofs.lemmas.List.Concat.{flat_map-append}
+use Rattle.std.proofs.lemmas.Slice.{take-put_mid}
+use Rattle.des_fast.proofs.SliceBits.{zip2-append}
+use Rattle.des_columns.specs.EncryptedBytes.{joined}
+use Rattle.des_columns.specs.Forms.{filled_to}
+use Rattle.des_columns.specs.Readings.{IsColumnRead}
+use Rattle.des_columns.specs.declared.status.TheConstants.{OK}
+use Rattle.des_columns.proofs.Pieces.{take-rest}
+use borrow.Rule.Slice.PartMut.{put_mid}
+
+-- by what follows for each value
+pub IsColumnRead-weaker : (P Q : List ℕ → ℤ → List ℕ → Type 0) (values : List (List ℕ)) (texts text_lengths : List ℕ)
+    (statuses : List ℤ)
+    → ((k : ℕ) (status : ℤ) (text : List ℕ) → k < length values → P (get_or values k []) status text
+    → Q (get_or values k []) status text)
+    → IsColumnRead P values texts text_lengths statuses → IsColumnRead Q values texts text_lengths statuses
+IsColumnRead-weaker P Q values texts text_lengths statuses weaker column = record {
+  read = column.read;
+  count = column.count;
+  statuses_count = column.statuses_count;
+  reads = λ k below. weaker k _ _ below (column.reads k below);
+  lengths = column.lengths;
+  places = column.places;
+}
+
+module _ (Reads : List ℕ → ℤ → List ℕ → Type 0) where
+  pub column-none : IsColumnRead Reads [] [] [] []
+  column-none = record {
+    read = [];
+    count = refl;
+    statuses_count = refl;
+    reads = λ k below. absurd (omega (arith, below));
+    lengths = refl;
+    places = refl;
+  }
+
+  column-one : (value place text : List ℕ) (status : ℤ) → Reads value status text → place ≡ filled_to (length value) text
+      → IsColumnRead Reads (value ∷ []) place (length text ∷ []) (status ∷ [])
+  column-one value place text status reads is = record {
+    read = text ∷ [];
+    count = refl;
+    statuses_count = refl;
+    reads = λ k below.
+        let first : 0 ≡ k = omega (arith, below) in
+        subst (λ (n : ℕ). Reads (get_or (value ∷ []) n []) (get_or (status ∷ []) n OK) (get_or (text ∷ []) n [])) first reads;
+    lengths = refl;
+    places = is ∙ sym (append-nil (filled_to (length value) text));
+  }
+
+  columns-joined : (vs ws : List (List ℕ)) (ts us ls ms : List ℕ) (ss rs : List ℤ) → IsColumnRead Reads vs ts ls ss
+      → IsColumnRead Reads ws us ms rs → IsColumnRead Reads (vs ++ ws) (ts ++ us) (ls ++ ms) (ss ++ rs)
+  columns-joined vs ws ts us ls ms ss rs a b =
+      let fill : List ℕ → List ℕ → List ℕ = λ value text. filled_to (length value) text in
+      record {
+        read = a.read ++ b.read;
+        count = length-append a.read b.read ∙ ap₂ ◌+◌ a.count b.count ∙ sym (length-append vs ws);
+        statuses_count = length-append ss rs ∙ ap₂ ◌+◌ a.statuses_count b.statuses_count ∙ sym (length-append vs ws);
+        reads = λ k below. elim (cases_lt k (length vs)) [
+          | inl before ↦
+              rw (
+                get_or_append_left vs ws [] k before,
+                get_or_append_left ss rs OK k (omega (arith, before, a.statuses_count)),
+                get_or_append_left a.read b.read [] k (omega (arith, before, a.count)),
+              ) (a.reads k before)
+          | inr after ↦
+              rw (
+                get_or-append_right vs ws (length vs) k [] refl after,
+                get_or-append_right ss rs (length vs) k OK a.statuses_count after,
+                get_or-append_right a.read b.read (length vs) k [] a.count after,
+              ) (b.reads (k - length vs) (omega (arith, after, below, length-append vs ws)))
+        ];
+        lengths = ap₂ ◌++◌ a.lengths b.lengths ∙ sym (map-append length a.read b.read);
+        places =
+            ap₂ ◌++◌ a.places b.places
+            ∙ sym (flat_map-append (λ block. block) (zip2 fill vs a.read) (zip2 fill ws b.read))
+            ∙ ap joined (sym (zip2-append fill vs ws a.read b.read (sym a.count)));
+      }
+
+  module _ (vs : List (List ℕ)) (texts text_lengths : List ℕ) (statuses : List ℤ) where
+    -- the first values are all
+    pub column-whole : (k n : ℕ) → length vs ≤ k → length texts ≤ n → length text_lengths ≤ k → length statuses ≤ k
+        → IsColumnRead Reads (take k vs) (take n texts) (take k text_lengths) (take k statuses)
+        → IsColumnRead Reads vs texts text_lengths statuses
+    column-whole k n all t l s read =
+        rw (take_all k vs all, take_all n texts t, take_all k text_lengths l, take_all k statuses s) at read
+
+    -- one more, at the place k
+    pub value-more : (k start size end count : ℕ) (status : ℤ) (value place text : List ℕ) → k < length vs
+        → k < length text_lengths → k < length statuses → start ≤ length texts → end ≡ start + length place
+        → value ≡ get_or vs k [] → count ≡ length text → place ≡ filled_to (length value) text → Reads value status text
+        → IsColumnRead Reads (take k vs) (take start texts) (take k text_lengths) (take k statuses)
+        → IsColumnRead Reads (take (k + 1) vs) (take end (put_mid start size texts place)) (take (k + 1) (set text_lengths k count))
+        (take (k + 1) (set statuses k status))
+    value-more k start size end count status value place text below l s from to same long is reads column =
+        rw (
+          take_more vs k [] below,
+          sym same,
+          take-put_mid start size texts place end to from,
+          take_more_set text_lengths k count l,
+          long,
+          take_more_set statuses k status s,
+        ) (columns-joined (take k vs) (value ∷ []) (take start texts) place (take k text_lengths) (length text ∷ [])
+        (take k statuses) (status ∷ []) column (column-one value place text status reads is))
+
+    -- some more, from the place k on
+    pub values-more : (k count start size a b c : ℕ) (more more_lengths : List ℕ) (more_statuses : List ℤ)
+        → start + size ≤ length texts → k + count ≤ length text_lengths → k + count ≤ length statuses
+        → length more ≡ length (take (length texts - start) (drop start texts))
+        → length more_lengths ≡ length (take (length text_lengths - k) (drop k text_lengths))
+        → length more_statuses ≡ length (take (length statuses - k) (drop k statuses))
+        → IsColumnRead Reads (take k vs) (take start texts) (take k text_lengths) (take k statuses)
+        → IsColumnRead Reads (take count (drop k vs)) (take size more) (take count more_lengths) (take count more_statuses)
+        → IsColumnRead Reads (take (k + count) vs) (take (start + size) (put_mid start a texts more))
+        (take (k + count) (put_mid k b text_lengths more_lengths)) (take (k + count) (put_mid k c statuses more_statuses))
+    values-more k count start size a b c more more_lengths more_statuses t l s as_many as_lengths as_statuses first rest =
+        rw (
+          take-add k count vs,
+          take-rest start a size texts more t as_many,
+          take-rest k b count text_lengths more_lengths l as_lengths,
+          take-rest k c count statuses more_statuses s as_statuses,
+        ) (columns-joined (take k vs) (take count (drop k vs)) (take start texts) (take size more) (take k text_lengths)
+        (take count more_lengths) (take k statuses) (take count more_statuses) first rest)

@@ -1,0 +1,19 @@
+use Rattle.std.proofs.Common.{◌+◌, ◌%◌, ℕ, List, ◌++◌, replicate, ap, ◌∙◌, subst}
+use Rattle.des_columns.specs.EncryptedBytes.{IsEncrypted}
+use Rattle.des_columns.proofs.PaddedTexts.{head-filled}
+use Rattle.des_columns.proofs.writing.Writer.write_value.Goals as goal
+
+-- what stands before the blocks, and the blocks
+pub returns-clause-written : goal.returns-clause-written
+returns-clause-written g c = λ key made.
+    let first : ℕ = 128 + c.args.self.now.number in
+    record {
+      blocks = c.encipher.new.bytes;
+      value_is =
+          ap (λ l. l ++ c.encipher.new.bytes) (c.fill.ensures.after (λ y is. is)
+          ∙ ap (λ n. replicate n first) (c.split_at_mut-head.ensures.front_len ∙ ap (λ n. n % 8) c.requires.value)
+          ∙ head-filled c.args.self.now.form c.args.self.now.number c.args.text.now c.requires.size);
+      encrypted =
+          subst (λ (l : List ℕ). IsEncrypted c.args.self.now.mode (g.C.Relating.relation key) l c.encipher.new.bytes)
+          c.write_padded.ensures.padded (c.encipher.ensures.encrypted key made);
+    }
