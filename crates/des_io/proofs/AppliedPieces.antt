@@ -6,7 +6,7 @@ use Rattle.des_io.specs.Streams.{Passage, passage_of}
 use Rattle.des_io.specs.StreamCiphers.{Becomes, AppliesPrefix}
 use Rattle.des_io.specs.declared.stream_cipher.StreamCipher.{StreamCipher}
 
-Becomes-append : {E : List ℕ → List ℕ} {state : StreamCipher} {next last : StreamCipher} {p c more answers : List ℕ}
+pub Becomes-append : {E : List ℕ → List ℕ} {state : StreamCipher} {next last : StreamCipher} {p c more answers : List ℕ}
     → Becomes E state p c next → Becomes E next more answers last → Becomes E state (p ++ more) (c ++ answers) last
 Becomes-append {E} {state} {next} {last} {p} {c} {more} {answers} first second = record {
   mode = second.mode ∙ first.mode;
@@ -15,7 +15,7 @@ Becomes-append {E} {state} {next} {last} {p} {c} {more} {answers} first second =
       (second.goes_on s iv (before ++ p) (made ++ c) (first.goes_on s iv before made behind));
 }
 
-Becomes-none : (E : List ℕ → List ℕ) (state : StreamCipher) → Becomes E state [] [] state
+pub Becomes-none : (E : List ℕ → List ℕ) (state : StreamCipher) → Becomes E state [] [] state
 Becomes-none E state = record { mode = refl; goes_on = λ s iv p c behind. simp append-nil behind }
 
 -- `count` bytes were read, and what they become was written
@@ -54,7 +54,7 @@ AppliesAll-more {r = r} {s} {t} {u} {v} {w} bytes answers last n k so_far read s
 }
 
 -- after a piece that was written, perhaps not the whole of it, and bytes that were read behind it
-pub AppliesPrefix-more : {E : List ℕ → List ℕ} {state next last : StreamCipher} {count limit : ℕ}
+abbrev pub AppliesPrefix-more : {E : List ℕ → List ℕ} {state next last : StreamCipher} {count limit : ℕ}
     {r s t u v w : Option (List ℕ)} {answers : List ℕ} (bytes rest : List ℕ) (k : ℕ)
     → AppliesAll E state next count (passage_of r s u v) → Consumes s t (bytes ++ rest) → Becomes E next bytes answers last
     → Appends v w (take k answers) → count + length bytes ≤ limit → AppliesPrefix E state limit (passage_of r t u w)
@@ -71,7 +71,7 @@ AppliesPrefix-more {last = last} {r = r} {s} {t} {u} {v} {w} {answers} bytes res
 }
 
 -- after bytes that were read alone
-pub AppliesPrefix-read : {E : List ℕ → List ℕ} {state next : StreamCipher} {count limit : ℕ}
+abbrev pub AppliesPrefix-read : {E : List ℕ → List ℕ} {state next : StreamCipher} {count limit : ℕ}
     {r s t u v : Option (List ℕ)} (bytes : List ℕ) → AppliesAll E state next count (passage_of r s u v)
     → Consumes s t bytes → count ≤ limit → AppliesPrefix E state limit (passage_of r t u v)
 AppliesPrefix-read {v = v} bytes so_far read within =

@@ -1,5 +1,5 @@
 -- Bytes that go from a reader through a mode that makes a stream cipher of a block cipher, to a writer.
-use Rattle.std.specs.Prelude.{◌≡◌, ◌⊎◌, ℕ, ◌≤◌, List, ◌++◌, length}
+use Rattle.std.specs.Prelude.{◌≡◌, ◌⊎◌, ℕ, ◌≤◌, List, [], ◌++◌, length}
 use Rattle.std.specs.Io.KnownBytes.{Consumes, Appends, IsAtEnd}
 use Rattle.des_modes.specs.Ctr.{Ctr}
 use Rattle.des_modes.specs.Ofb.{Ofb}
@@ -32,19 +32,6 @@ pub record Becomes (encryption : List ℕ → List ℕ) (state : StreamCipher) (
   pub goes_on : (s : ℕ) (iv p c : List ℕ) → IsBehind encryption s iv p c state
       → IsBehind encryption s iv (p ++ from) (c ++ to) next
 
--- `count` bytes were read, up to the end of the input or to a limit, and what they become was written
-pub record Applies (encryption : List ℕ → List ℕ) (state : StreamCipher) (limit count : ℕ) (passage : Passage)
-    : Type 0 where
-  pub from : List ℕ
-  pub to : List ℕ
-  pub next : StreamCipher
-  pub read : Consumes passage.read_from passage.read_to from
-  pub became : Becomes encryption state from to next
-  pub written : Appends passage.written_from passage.written_to to
-  pub size : length from ≡ count
-  pub ends : IsAtEnd passage.read_to ⊎ (count ≡ limit)
-  pub within : count ≤ limit
-
 -- what was written begins what bytes that were read become: those before `rest` become `put` and `missing`
 pub record AppliesPrefix (encryption : List ℕ → List ℕ) (state : StreamCipher) (limit : ℕ) (passage : Passage)
     : Type 0 where
@@ -57,3 +44,11 @@ pub record AppliesPrefix (encryption : List ℕ → List ℕ) (state : StreamCip
   pub became : Becomes encryption state from (put ++ missing) next
   pub written : Appends passage.written_from passage.written_to put
   pub within : length from ≤ limit
+
+-- `count` bytes were read, up to the end of the input or to a limit, and all that they become was written
+pub record Applies (encryption : List ℕ → List ℕ) (state : StreamCipher) (limit count : ℕ) (passage : Passage)
+    : Type 0 where
+  pub prefix : AppliesPrefix encryption state limit passage
+  pub whole : (prefix.rest ≡ []) × (prefix.missing ≡ [])
+  pub size : length prefix.from ≡ count
+  pub ends : IsAtEnd passage.read_to ⊎ (count ≡ limit)

@@ -1,4 +1,4 @@
-use Rattle.std.proofs.Common.{◌≡◌, ℕ, ◌+◌, ◌≤◌, List, inl, inr, true, [], length, take, rules, refl, append-nil, arith, length-take-le}
+use Rattle.std.proofs.Common.{◌≡◌, ℕ, ◌+◌, ◌≤◌, List, inl, inr, true, [], length, take, rules, refl, append-nil, arith, length-append, length-take-le}
 use Rattle.std.proofs.KnownBytes.{Consumes-nil}
 use Rattle.std.proofs.Math.Nat.{eq-or-lt_of_le}
 use Rattle.des_io.proofs.AppliedPieces.{AppliesAll-none, AppliesAll-more, AppliesPrefix-read, AppliesPrefix-more}
@@ -26,22 +26,18 @@ returns-then-n-capacity g c =
     let most : c.loop.count + c.in_ok-n.n ≤ c.args.limit = omega (arith, c.min-most.ensures, c.in_ok-n.ensures.within) in
     let all = AppliesAll-more _ _ _ c.in_ok-n.n k c.loop.invariant.so_far c.in_ok-n.ensures.read
     (length-take-le _ _ (search rules)) c.apply.ensures written (full (refl {a = true})) in
+    let prefix = AppliesPrefix-read [] all (Consumes-nil _) most in
     record {
       done = record {
-        from = all.from;
-        to = all.to;
-        next = c.apply.new.self;
-        read = all.read;
-        became = all.became;
-        written = all.written;
-        size = all.size;
+        prefix = prefix;
+        whole = (refl, refl);
+        size = omega (arith, length-append all.from [], all.size);
         ends = elim (eq-or-lt_of_le c.in_ok-n.ensures.within) [
           | inl same ↦ inr (omega (arith, same, c.min-most.ensures, c.if-n-capacity.true, c.loop.invariant.within))
           | inr less ↦ inl (c.in_ok-n.ensures.end less)
         ];
-        within = most;
       };
-      prefix = AppliesPrefix-read [] all (Consumes-nil _) most;
+      prefix = prefix;
       fault = tt;
     }
 
