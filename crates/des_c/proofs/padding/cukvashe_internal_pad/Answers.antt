@@ -8,8 +8,8 @@ pub returns-clause-padded_length : goal.returns-clause-padded_length
 returns-clause-padded_length c = λ done.
     let buffer : List ℕ = c.args.buffer.now in
     let end : ℕ = 8 * (c.args.count / 8) + 8 in
-    let room : end ≤ length buffer = omega (arith, c.if-count-buffer.false) in
-    let long : length (take end buffer) ≡ end = length-take-le end buffer room in
+    let fits : end ≤ length buffer = omega (arith, c.if-count-buffer.false) in
+    let long : length (take end buffer) ≡ end = length-take-le end buffer fits in
     counted c.in-Some.padding c.pad.new.bytes (take end buffer) c.pad.result c.args.count
     (pads _ _ c.in-Some.ensures.found) (omega (arith, long)) c.pad.ensures.within c.pad.ensures.padded
 
@@ -17,8 +17,8 @@ pub returns-clause-after : goal.returns-clause-after
 returns-clause-after c = λ done.
     let buffer : List ℕ = c.args.buffer.now in
     let end : ℕ = 8 * (c.args.count / 8) + 8 in
-    let room : end ≤ length buffer = omega (arith, c.if-count-buffer.false) in
+    let fits : end ≤ length buffer = omega (arith, c.if-count-buffer.false) in
     let same : c.pad.result ≡ end = omega (arith, returns-clause-padded_length c done) in
     drop_at c.pad.new.bytes (drop end buffer) c.pad.result
-    (c.pad.auto.bytes ∙ length-take-le end buffer room ∙ sym same)
+    (c.pad.auto.bytes ∙ length-take-le end buffer fits ∙ sym same)
     ∙ ap (λ n. drop n buffer) (sym same)
