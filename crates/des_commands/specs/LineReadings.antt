@@ -27,8 +27,12 @@ null_text Escape = codes "\\N"
 abbrev pub has_prefix : List ℕ → Bool
 has_prefix text = ((slice_index text 0 == 92) || (slice_index text 0 == 48)) && (slice_index text 1 == 120)
 
+-- `\\x`, as `COPY` of PostgreSQL writes for that
+abbrev pub has_doubled_prefix : List ℕ → Bool
+has_doubled_prefix text = (slice_index text 0 == 92) && (slice_index text 1 == 92) && (slice_index text 2 == 120)
+
 abbrev pub digits_of : List ℕ → List ℕ
-digits_of text = if has_prefix text then drop 2 text else text
+digits_of text = if has_doubled_prefix text then drop 3 text else if has_prefix text then drop 2 text else text
 
 -- why a text is not the digits of bytes: a character is none, or else their number is odd
 abbrev pub digits_fault : List ℕ → LineFault

@@ -183,8 +183,8 @@ static LINES: Group<'static> = group! {
         "password-fd": Number("N") => "Read it from an open descriptor, from its current position";
         "password-env": Text("NAME") => "Take it from an environment variable";
     }] "\
-Blanks around a value don't count, nor does \\x or 0x before its digits. NULL,
-null, \\N and an empty line are answered by themselves. Text that is not
+Blanks around a value don't count, nor does \\x, \\\\x or 0x before its digits.
+NULL, null, \\N and an empty line are answered by themselves. Text that is not
 printable UTF-8 is a fault without --hex, so that no digits are taken for text.
 
 Limits: a changed value decrypts to something, mostly with no fault, since

@@ -18,7 +18,7 @@ use std::alloc::AllocError;
 /// How a value stands in its line.
 #[derive(Clone, Copy)]
 pub enum LineCoding {
-    /// As hexadecimal digits of either case, also behind `\x` or `0x`.
+    /// As hexadecimal digits of either case, also behind `\x`, `\\x` or `0x`.
     Hexadecimal,
     Base64,
     /// As it is.
@@ -73,11 +73,13 @@ fn null_word_of(text: &[u8]) -> Option<NullWord>
     }
 }
 
-// The digits behind `\x`, as PostgreSQL writes bytes, or behind `0x`, as MySQL does.
+// The digits behind `\x`, as PostgreSQL writes bytes, behind `\\x`, as its `COPY` does, or behind `0x`,
+// as MySQL does.
 fn digits_of(text: &[u8]) -> &[u8]
     ensures { result.now ≡ digits_behind text.now }
 {
     match text {
+        [b'\\', b'\\', b'x', digits @ ..] => digits,
         [b'\\' | b'0', b'x', digits @ ..] => digits,
         _ => text,
     }
