@@ -70,6 +70,7 @@ pub enum Misuse {
     ProtectionKeySource,
     PasswordSource,
     KeyOrPasswordSource,
+    MysqlSource,
     PasswordNeeded,
     VectorOfPassword,
     Derivation,

@@ -157,6 +157,8 @@ fn misuse_words(misuse: Misuse) -> &'static str {
             "give one of --password-file, --password-fd and --password-env, and no key",
         Misuse::KeyOrPasswordSource =>
             "give one of --key-file, --key-fd, --key-env, --password-file, --password-fd and --password-env",
+        Misuse::MysqlSource =>
+            "give one of --des-key-file (the server's file of keys), --password-file, --password-fd and --password-env",
         Misuse::PasswordNeeded => "--derive, --any-count and --no-salt are for a password",
         Misuse::VectorOfPassword => "a password gives the vector too: leave out --iv",
         Misuse::Derivation =>

@@ -9,7 +9,7 @@ ghost use Rattle.des_commands.specs.LineFormats.{coding_of as coding_by, takes_s
 use super::argument_values::{is_set, number_of, place_of, text_of};
 use super::misuse::{misuse, refuse};
 use super::passwords::PASSWORD;
-use super::sources::{KEY, input_of, names_one, one_of, output_of, read_once};
+use super::sources::{KEY, file_of, input_of, names_one, one_of, output_of, read_once};
 use crate::command::lines::{LineSecret, LinesRequest, ValueFormat};
 use crate::lines::readings::LineCoding;
 use clap::ArgMatches;
@@ -97,7 +97,7 @@ fn other_of<'a>(words: &LineWords<'a>) -> Result<ValueFormat<'a>, Fault<'a>>
         ("mysql", Some(_)) => Err(misuse(Misuse::Arguments, "--iv")),
         (name, iv) => match Scheme::of_name(name.as_bytes()) {
             Some(scheme) => Ok(ValueFormat::Pgcrypto(scheme, iv.unwrap_or(""))),
-            None => Err(misuse(Misuse::Arguments, "FORMAT")),
+            None => Err(misuse(Misuse::ArgumentValue, "<FORMAT>")),
         },
     }
 }
@@ -158,8 +158,27 @@ pub fn request_of_words<'a>(words: &LineWords<'a>) -> Result<LinesRequest<'a>, F
     })
 }
 
+// What gives the keys of MySQL: the server's file of them, or a place of a key string.
+fn secret_of_mysql<'a>(
+    matches: &ArgMatches<'a>,
+    keys: Option<&'a str>,
+) -> Result<LineSecret<'a>, Fault<'a>> {
+    refuse(names_one(matches, KEY), Misuse::MysqlSource)?;
+    let Some(path) = keys else {
+        let source = one_of(matches, PASSWORD, Misuse::MysqlSource)?;
+        return Ok(LineSecret::Password(source));
+    };
+    refuse(names_one(matches, PASSWORD), Misuse::MysqlSource)?;
+    Ok(LineSecret::Key(file_of(path)))
+}
+
 // What gives the key: one place.
 fn secret_of<'a>(matches: &ArgMatches<'a>) -> Result<LineSecret<'a>, Fault<'a>> {
+    let keys = text_of(matches, "des-key-file");
+    if place_of(matches, "format") == "mysql" {
+        return secret_of_mysql(matches, keys);
+    }
+    refuse_option(keys.is_some(), "--des-key-file")?;
     if names_one(matches, KEY) {
         refuse(names_one(matches, PASSWORD), Misuse::PasswordSource)?;
         return Ok(LineSecret::Key(one_of(matches, KEY, Misuse::KeySource)?));

@@ -56,29 +56,6 @@ const WEAK_KEYS: &[&str] = &["refuse", "warn", "accept"];
 
 const PADDINGS: &[&str] = &["pkcs7", "iso7816", "zeros", "none"];
 
-const VALUE_FORMATS: &[&str] = &[
-    "mysql",
-    "jasypt",
-    "des",
-    "des/pad:pkcs",
-    "des/pad:none",
-    "des-cbc",
-    "des-cbc/pad:pkcs",
-    "des-cbc/pad:none",
-    "des-ecb",
-    "des-ecb/pad:pkcs",
-    "des-ecb/pad:none",
-    "3des",
-    "3des/pad:pkcs",
-    "3des/pad:none",
-    "3des-cbc",
-    "3des-cbc/pad:pkcs",
-    "3des-cbc/pad:none",
-    "3des-ecb",
-    "3des-ecb/pad:pkcs",
-    "3des-ecb/pad:none",
-];
-
 // `encrypt` takes `from` and `blocks` too, and does not show them: who types them is told that only
 // decryption takes a part.
 static ENCRYPTION: Group<'static> = group! {
@@ -162,8 +139,9 @@ static LINES: Group<'static> = group! {
 
     "decrypt-lines": "Decrypt values of MySQL, MariaDB, pgcrypto or Jasypt, one in each line";
     [{
-        "format": Place("FORMAT", VALUE_FORMATS) =>
-            "What wrote them: DES_ENCRYPT of MySQL and MariaDB, Jasypt, or encrypt of PostgreSQL's pgcrypto, by its type";
+        "format": PlaceOfText("FORMAT") =>
+            "What wrote them: mysql (DES_ENCRYPT of MySQL and MariaDB), jasypt, or a type of PostgreSQL's pgcrypto: des \
+             or 3des, perhaps with -cbc or -ecb, and /pad:pkcs or /pad:none behind it, as 3des-ecb/pad:none";
         "iv": Text("DIGITS") => "Hexadecimal digits of the vector of encrypt_iv [default: zeros]";
         "algorithm": Text("NAME") =>
             "The algorithm of Jasypt, PBEWithMD5AndTripleDES or PBEWithSHA1AndDESede [default: PBEWithMD5AndDES]";
@@ -172,11 +150,13 @@ static LINES: Group<'static> = group! {
         "hex": Nothing => "Write each text as hexadecimal digits";
         "keep-going": Nothing => "Write an empty line for a line at fault, go on, and end with 6";
     }, Files, Progress, {
+        "des-key-file": Text("FILE") =>
+            "Read the keys of mysql from the server's file of them, or - for standard input; this is needed, or a key \
+             string as a password";
         "key-file": Text("FILE") =>
-            "Read a key of pgcrypto as hexadecimal digits, or the server's file of keys (des-key-file) of mysql, from a \
-             file, or - for standard input; one of these is needed, or a password";
-        "key-fd": Number("N") => "Read them from an open descriptor, from its current position";
-        "key-env": Text("NAME") => "Take them from an environment variable";
+            "Read a key of pgcrypto as hexadecimal digits from a file, or -; one of these is needed, or a password";
+        "key-fd": Number("N") => "Read it from an open descriptor, from its current position";
+        "key-env": Text("NAME") => "Take it from an environment variable";
         "password-file": Text("FILE") =>
             "Read the key string of mysql, the password of jasypt, or the characters of a key of pgcrypto, the first \
              line of a file, or -";
