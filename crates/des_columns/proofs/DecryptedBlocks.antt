@@ -6,7 +6,7 @@ use Rattle.std.specs.Simd.Lanes.{zip2}
 use Rattle.std.proofs.lemmas.List.{drop-drop, drop-take, map-append, take-take}
 use Rattle.des.specs.Cbc.{xor_blocks, next_vector}
 use Rattle.des.proofs.ChainedPieces.{next_vector-append}
-use Rattle.des_columns.specs.Forms.{unchained, mode_after}
+use Rattle.des_columns.specs.Forms.{xored, mode_after}
 use Rattle.des_columns.specs.declared.form.BlockMode.{BlockMode}
 use Rattle.des_columns.specs.declared.form.BlockMode.TheVariants.{Ecb, Cbc}
 
@@ -18,17 +18,17 @@ map-flat_map f blocks (value ∷ values) =
     map-append f (blocks value) (flat_map blocks values) ∙ ap (λ l. map f (blocks value) ++ l) (map-flat_map f blocks values)
 
 -- CBC goes on from the last block
-unchained-from : (f : List ℕ → List ℕ) (iv : List ℕ) (blocks more : List (List ℕ))
+xored-from : (f : List ℕ → List ℕ) (iv : List ℕ) (blocks more : List (List ℕ))
     → zip2 xor_blocks (map f (blocks ++ more)) (iv ∷ (blocks ++ more))
     ≡ zip2 xor_blocks (map f blocks) (iv ∷ blocks) ++ zip2 xor_blocks (map f more) (next_vector iv blocks ∷ more)
-unchained-from f iv [] more = refl
-unchained-from f iv (block ∷ blocks) more = ap (λ l. xor_blocks (f block) iv ∷ l) (unchained-from f block blocks more)
+xored-from f iv [] more = refl
+xored-from f iv (block ∷ blocks) more = ap (λ l. xor_blocks (f block) iv ∷ l) (xored-from f block blocks more)
 
-pub unchained-append : (f : List ℕ → List ℕ) (mode : BlockMode) (blocks more : List (List ℕ))
-    → unchained mode (blocks ++ more) (map f (blocks ++ more))
-    ≡ unchained mode blocks (map f blocks) ++ unchained (mode_after mode blocks) more (map f more)
-unchained-append f Ecb blocks more = map-append f blocks more
-unchained-append f (Cbc iv) blocks more = unchained-from f iv blocks more
+pub xored-append : (f : List ℕ → List ℕ) (mode : BlockMode) (blocks more : List (List ℕ))
+    → xored mode (blocks ++ more) (map f (blocks ++ more))
+    ≡ xored mode blocks (map f blocks) ++ xored (mode_after mode blocks) more (map f more)
+xored-append f Ecb blocks more = map-append f blocks more
+xored-append f (Cbc iv) blocks more = xored-from f iv blocks more
 
 pub mode_after-append : (mode : BlockMode) (blocks more : List (List ℕ))
     → mode_after (mode_after mode blocks) more ≡ mode_after mode (blocks ++ more)

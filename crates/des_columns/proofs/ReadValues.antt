@@ -15,7 +15,7 @@ use Rattle.des_fast.proofs.RelatedChains.{Chains-related_back}
 use Rattle.des_columns.specs.Columns.{ReadsAs, pieces, plain_of}
 use Rattle.des_columns.specs.EncryptedBytes.{AreEncrypted, IsEncrypted}
 use Rattle.des_columns.specs.Mysql.{has_form}
-use Rattle.des_columns.specs.Forms.{HasVector, blocks_of, fault_before, part_after, part_of, unchained}
+use Rattle.des_columns.specs.Forms.{HasVector, blocks_of, fault_before, part_after, part_of, xored}
 use Rattle.des_columns.specs.Readings.{IsColumnRead, IsReading}
 use Rattle.des_columns.specs.declared.form.BlockMode.{BlockMode}
 use Rattle.des_columns.specs.declared.form.BlockMode.TheVariants.{Ecb, Cbc}
@@ -89,7 +89,7 @@ module _ (Relates : List ℕ → List ℕ → Type 0) (encryption decryption : L
 
   -- what blocks are decrypted to was encrypted to them
   blocks-encrypted : (mode : BlockMode) (blocks : List (List ℕ)) → HasVector mode → All IsBlock blocks
-      → AreEncrypted mode Relates (unchained mode blocks (map decryption blocks)) blocks
+      → AreEncrypted mode Relates (xored mode blocks (map decryption blocks)) blocks
   blocks-encrypted Ecb blocks vector are = each-related blocks are
   blocks-encrypted (Cbc iv) blocks vector are =
       let answers = map decryption blocks in
@@ -109,7 +109,7 @@ module _ (Relates : List ℕ → List ℕ → Type 0) (encryption decryption : L
   pub plain-encrypted : (form : Form) (mode : BlockMode) (value : List ℕ) → HasVector mode → AreBytes value
       → IsEncrypted mode Relates (plain_of form mode (λ value. decryption) value) (part_of form value)
   plain-encrypted form mode value vector are = record {
-    p_blocks = unchained mode (blocks_of form value) (map decryption (blocks_of form value));
+    p_blocks = xored mode (blocks_of form value) (map decryption (blocks_of form value));
     q_blocks = blocks_of form value;
     of_p = refl;
     of_q = joined_chunks (part_of form value) (part-whole form value);

@@ -3,7 +3,7 @@ use Rattle.std.specs.Prelude.{◌≡◌, ℕ, ℤ, ◌/◌, Bool, true, false, O
 use Rattle.std.specs.Option.{option_or}
 use Rattle.std.specs.Simd.{first_chunks}
 use Rattle.des_columns.specs.EncryptedBytes.{joined}
-use Rattle.des_columns.specs.Forms.{blocks_of, fault_before, size_in, status_after, text_after, unchained}
+use Rattle.des_columns.specs.Forms.{blocks_of, fault_before, size_in, status_after, text_after, xored}
 use Rattle.des_columns.specs.declared.form.BlockMode.{BlockMode}
 use Rattle.des_columns.specs.declared.form.Form.{Form}
 use Rattle.des_columns.specs.declared.status.TheConstants.{ERR_KEY_NUMBER}
@@ -21,12 +21,12 @@ decrypted form decryption value = map (decryption value) (blocks_of form value)
 abbrev pub deciphered : BlockMode → (List ℕ → List ℕ) → List ℕ → List ℕ
 deciphered mode decryption bytes =
     let blocks = first_chunks 8 (length bytes / 8) bytes in
-    joined (unchained mode blocks (map decryption blocks))
+    joined (xored mode blocks (map decryption blocks))
 
 -- what a value is, decrypted
 abbrev pub plain_of : Form → BlockMode → (List ℕ → List ℕ → List ℕ) → List ℕ → List ℕ
 plain_of form mode decryption value =
-    joined (unchained mode (blocks_of form value) (decrypted form decryption value))
+    joined (xored mode (blocks_of form value) (decrypted form decryption value))
 
 -- why a value has no text, by whether there is a key for it
 abbrev pub fault_under : Bool → Form → List ℕ → Option ℤ

@@ -50,9 +50,9 @@ size_in Pkcs7 plain = pkcs7_size (last_of plain) plain
 size_in Unpadded plain = Some (length plain)
 
 -- what blocks of a value are, once each was decrypted
-abbrev pub unchained : BlockMode → List (List ℕ) → List (List ℕ) → List (List ℕ)
-unchained Ecb blocks answers = answers
-unchained (Cbc iv) blocks answers = zip2 xor_blocks answers (iv ∷ blocks)
+abbrev pub xored : BlockMode → List (List ℕ) → List (List ℕ) → List (List ℕ)
+xored Ecb blocks answers = answers
+xored (Cbc iv) blocks answers = zip2 xor_blocks answers (iv ∷ blocks)
 
 -- the vector of a mode is a block
 abbrev pub HasVector : BlockMode → Type 0

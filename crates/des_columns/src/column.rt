@@ -131,7 +131,7 @@ impl<K: ValueKeys> Reader<K> {
             let answers = &mut buffer[..count];
             answers.copy_from_slice(blocks);
             self.keys.decrypt_part::<S>(value, answers);
-            mode = mode.unchain(blocks, answers);
+            mode = mode.xor_previous(blocks, answers);
             part.copy_from_slice(answers.as_flattened());
             from += count;
         }

@@ -5,7 +5,7 @@ ghost use Rattle.std.specs.List.{list_all};
 ghost use Rattle.std.specs.Simd.Lanes.{zip2};
 ghost use Rattle.des.specs.Cbc.{xor_blocks};
 ghost use Rattle.des_columns.specs.EncryptedBytes.{joined};
-ghost use Rattle.des_columns.specs.Forms.{HasVector, blocks_of, fault_before, filled_to, mode_after, part_of, pkcs7_size, size_in, status_after, text_after, unchained};
+ghost use Rattle.des_columns.specs.Forms.{HasVector, blocks_of, fault_before, filled_to, mode_after, part_of, pkcs7_size, size_in, status_after, text_after, xored};
 ghost use Rattle.des_columns.specs.Mysql.{has_form, last_of};
 
 use crate::status::{ERR_BLOCKS, ERR_NOT_ENCRYPTED, ERR_PADDING, OK};
@@ -59,16 +59,16 @@ impl BlockMode {
 
     /// Makes of blocks, once each was decrypted, what was encrypted, and returns the mode of those
     /// that come after them.
-    pub(crate) fn unchain(self, blocks: &[[u8; 8]], answers: &mut [[u8; 8]]) -> BlockMode
+    pub(crate) fn xor_previous(self, blocks: &[[u8; 8]], answers: &mut [[u8; 8]]) -> BlockMode
         requires { length answers.old ≡ length blocks.now }
-        ensures unchained { answers.new ≡ unchained self blocks.now answers.old }
+        ensures xored { answers.new ≡ xored self blocks.now answers.old }
         ensures mode { result ≡ mode_after self blocks.now }
         ensures count { length answers.new ≡ length answers.old }
     {
         match self {
             BlockMode::Ecb => self,
             BlockMode::Cbc(iv) => {
-                unchain(&iv, blocks, answers);
+                xor_previous(&iv, blocks, answers);
                 BlockMode::Cbc(cbc::next_vector(&iv, blocks))
             }
         }
@@ -144,7 +144,7 @@ fn are_all(value: usize, bytes: &[u8]) -> bool
 }
 
 // Takes blocks out of the chain from a vector, once each was decrypted.
-fn unchain(iv: &[u8; 8], blocks: &[[u8; 8]], answers: &mut [[u8; 8]])
+fn xor_previous(iv: &[u8; 8], blocks: &[[u8; 8]], answers: &mut [[u8; 8]])
     requires { length answers.old ≡ length blocks.now }
     ensures { answers.new ≡ zip2 xor_blocks answers.old (iv.now ∷ blocks.now) }
 {
@@ -193,17 +193,17 @@ pub(crate) fn write_text(
     requires answers { length answers.old * 8 ≡ length (part_of form value.now) }
     requires place { length place.old ≡ length value.now }
     ensures status { result.status ≡ status_after fault (size_in form
-        (joined (unchained mode (blocks_of form value.now) answers.old))) }
+        (joined (xored mode (blocks_of form value.now) answers.old))) }
     ensures length { result.length ≡ length (text_after fault (size_in form
-        (joined (unchained mode (blocks_of form value.now) answers.old)))
-        (joined (unchained mode (blocks_of form value.now) answers.old))) }
+        (joined (xored mode (blocks_of form value.now) answers.old)))
+        (joined (xored mode (blocks_of form value.now) answers.old))) }
     ensures text { place.new ≡ filled_to (length value.now) (text_after fault (size_in form
-        (joined (unchained mode (blocks_of form value.now) answers.old)))
-        (joined (unchained mode (blocks_of form value.now) answers.old))) }
+        (joined (xored mode (blocks_of form value.now) answers.old)))
+        (joined (xored mode (blocks_of form value.now) answers.old))) }
 {
     let part = form.part_of(value);
     let (blocks, _) = part.as_chunks::<8>();
-    mode.unchain(blocks, answers);
+    mode.xor_previous(blocks, answers);
     let plain = answers.as_flattened();
     place[..plain.len()].copy_from_slice(plain);
     finish(form, fault, plain.len(), place)

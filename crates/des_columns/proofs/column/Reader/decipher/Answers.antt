@@ -5,9 +5,9 @@ use Rattle.std.proofs.lemmas.List.{drop-drop, length-drop, length-take-le, take_
 use Rattle.std.proofs.lemmas.List.Concat.{flat_map-append}
 use Rattle.std.proofs.lemmas.Slice.{drop-put_mid, take-put_mid}
 use Rattle.des_columns.specs.EncryptedBytes.{joined}
-use Rattle.des_columns.specs.Forms.{mode_after, unchained}
+use Rattle.des_columns.specs.Forms.{mode_after, xored}
 use Rattle.des_columns.specs.declared.form.BlockMode.{BlockMode}
-use Rattle.des_columns.proofs.DecryptedBlocks.{chunks-at, mode_after-append, unchained-append}
+use Rattle.des_columns.proofs.DecryptedBlocks.{chunks-at, mode_after-append, xored-append}
 use Rattle.des_columns.proofs.Pieces.{length-first_chunks}
 use Rattle.des_columns.proofs.column.Reader.decipher.Goals as goal
 
@@ -33,11 +33,11 @@ parts-preserved g c =
     c.as_chunks.ensures.front
     ∙ chunks-at m count total size bytes part within is (ap (take size) c.parts.invariant.rest) long in
     let front : take (m + count) all ≡ before ++ more = take-add m count all in
-    let answers : c.unchain-mode.new.answers ≡ unchained (mode_after mode before) more (map f more) =
-    c.unchain-mode.ensures.unchained
-    ∙ ap₂ (λ (by : BlockMode) (l : List (List ℕ)). unchained by c.as_chunks.result.0.now l) c.parts.invariant.mode
+    let answers : c.xor_previous-mode.new.answers ≡ xored (mode_after mode before) more (map f more) =
+    c.xor_previous-mode.ensures.xored
+    ∙ ap₂ (λ (by : BlockMode) (l : List (List ℕ)). xored by c.as_chunks.result.0.now l) c.parts.invariant.mode
     (c.decrypt_part.ensures ∙ ap (map f) c.copy_from_slice.ensures.after)
-    ∙ ap (λ (l : List (List ℕ)). unchained (mode_after mode before) l (map f l)) blocks in
+    ∙ ap (λ (l : List (List ℕ)). xored (mode_after mode before) l (map f l)) blocks in
     let new : List ℕ = c.copy_from_slice-in-parts.new.self in
     let new_long : length new ≡ size = c.copy_from_slice-in-parts.auto.self ∙ long in
     let inside : m * 8 ≤ length c.parts.bytes = omega (arith, within, c.parts.auto.bytes) in record {
@@ -46,13 +46,13 @@ parts-preserved g c =
           omega (
             arith,
             c.parts.invariant.buffer,
-            c.unchain-mode.auto.answers,
+            c.xor_previous-mode.auto.answers,
             c.decrypt_part.auto.blocks,
             c.copy_from_slice.auto.self,
             c.min-count.ensures,
           );
       mode =
-          c.unchain-mode.ensures.mode
+          c.xor_previous-mode.ensures.mode
           ∙ ap₂ mode_after c.parts.invariant.mode blocks
           ∙ mode_after-append mode before more
           ∙ ap (mode_after mode) (sym front);
@@ -60,10 +60,10 @@ parts-preserved g c =
           take-put_mid (m * 8) size c.parts.bytes new ((m + count) * 8) (omega (arith, new_long, is)) inside
           ∙ ap₂ ◌++◌ c.parts.invariant.plain
           (c.copy_from_slice-in-parts.ensures.after ∙ c.as_flattened.ensures.value ∙ ap joined answers)
-          ∙ sym (flat_map-append (λ block. block) (unchained mode before (map f before))
-          (unchained (mode_after mode before) more (map f more)))
-          ∙ ap joined (sym (unchained-append f mode before more))
-          ∙ ap (λ (l : List (List ℕ)). joined (unchained mode l (map f l))) (sym front);
+          ∙ sym (flat_map-append (λ block. block) (xored mode before (map f before))
+          (xored (mode_after mode before) more (map f more)))
+          ∙ ap joined (sym (xored-append f mode before more))
+          ∙ ap (λ (l : List (List ℕ)). joined (xored mode l (map f l))) (sym front);
       rest =
           let whole : m * 8 + count * 8 ≡ (m + count) * 8 = omega arith in
           drop-put_mid (m * 8) size c.parts.bytes new ((m + count) * 8) (omega (arith, is)) inside new_long
@@ -83,5 +83,5 @@ returns-clause-deciphered g c =
     let end : c.parts.from ≡ length bytes / 8 = omega (arith, c.parts.invariant.within, c.parts-test.false, c.parts.auto.bytes) in
     sym (take_all (c.parts.from * 8) c.parts.bytes (omega (arith, end, c.requires.whole, c.parts.auto.bytes)))
     ∙ c.parts.invariant.plain
-    ∙ ap (λ (l : List (List ℕ)). joined (unchained mode l (map f l)))
+    ∙ ap (λ (l : List (List ℕ)). joined (xored mode l (map f l)))
     (take_all c.parts.from all (omega (arith, end, length-first_chunks 8 (length bytes / 8) bytes)))

@@ -2,7 +2,7 @@
 use Rattle.std.proofs.Common.{◌≡◌, ◌≤◌, ◌-◌, ◌*◌, ◌/◌, length, take, drop, map}
 use Rattle.std.specs.Simd.{first_chunks}
 use Rattle.des_columns.specs.EncryptedBytes.{joined}
-use Rattle.des_columns.specs.Forms.{mode_after, unchained}
+use Rattle.des_columns.specs.Forms.{mode_after, xored}
 use Rattle.des_columns.proofs.column.Reader.decipher.Given as goal
 
 abbrev pub invariant-parts : goal.invariant-parts
@@ -13,7 +13,7 @@ invariant-parts g l =
       buffer : length l.buffer ≡ length l.initial.buffer;
       mode : l.mode ≡ mode_after l.self.mode (take l.from blocks);
       plain : take (l.from * 8) l.bytes
-          ≡ joined (unchained l.self.mode (take l.from blocks)
+          ≡ joined (xored l.self.mode (take l.from blocks)
           (map (g.K.ValueKeys.decryption l.self.keys l.value) (take l.from blocks)));
       rest : drop (l.from * 8) l.bytes ≡ drop (l.from * 8) l.initial.bytes;
     }

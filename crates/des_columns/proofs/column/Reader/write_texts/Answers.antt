@@ -7,7 +7,7 @@ use Rattle.std.proofs.lemmas.Int.{to_z-of_z}
 use Rattle.std.proofs.lemmas.List.Sums.{sum_by_more, sum_by_more_le}
 use Rattle.std.proofs.lemmas.Slice.{drop-put_mid}
 use Rattle.des_columns.specs.EncryptedBytes.{joined}
-use Rattle.des_columns.specs.Forms.{blocks_of, filled_to, part_of, size_in, status_after, text_after, unchained}
+use Rattle.des_columns.specs.Forms.{blocks_of, filled_to, part_of, size_in, status_after, text_after, xored}
 use Rattle.des_columns.specs.Columns.{ReadsAs, decrypted, fault_under, pieces, plain_of, text_as}
 use Rattle.des_columns.specs.declared.form.BlockMode.{BlockMode}
 use Rattle.des_columns.specs.declared.form.Form.{Form}
@@ -111,9 +111,9 @@ values-preserved g c =
     let mode : BlockMode = c.args.self.now.mode in
     let fault : c.fault_of-fault.result ≡ fault_under (has (get_or vs k [])) form (get_or vs k []) =
     c.fault_of-fault.ensures ∙ ap (λ (value : List ℕ). fault_under (has value) form value) same in
-    let plain : joined (unchained mode (blocks_of form (take size (drop start bytes))) (take count (drop first c.values.answers)))
+    let plain : joined (xored mode (blocks_of form (take size (drop start bytes))) (take count (drop first c.values.answers)))
     ≡ plain_of form mode f (get_or vs k []) =
-    ap₂ (λ (value : List ℕ) (l : List (List ℕ)). joined (unchained mode (blocks_of form value) l)) same here in
+    ap₂ (λ (value : List ℕ) (l : List (List ℕ)). joined (xored mode (blocks_of form value) l)) same here in
     let text = ap₂ (λ (e : Option ℤ) (p : List ℕ). text_after e (size_in form p) p) fault plain in
     let fits : SFits w32 c.write_text-reading.result.status = search rules in
     record {

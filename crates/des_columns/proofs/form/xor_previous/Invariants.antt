@@ -1,7 +1,7 @@
 -- The blocks before the index are out of the chain, and those from it on are as they were.
 use Rattle.std.proofs.Common.{◌≡◌, ℕ, ◌<◌, ◌≤◌, [], ◌∷◌, get_or, length}
 use Rattle.des.specs.Cbc.{xor_blocks}
-use Rattle.des_columns.proofs.form.unchain.Given as goal
+use Rattle.des_columns.proofs.form.xor_previous.Given as goal
 
 abbrev pub invariant-steps : goal.invariant-steps
 invariant-steps l = record {

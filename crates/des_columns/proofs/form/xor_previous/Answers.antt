@@ -1,7 +1,7 @@
 use Rattle.std.proofs.Common.{◌≡◌, ℕ, suc, ◌≤◌, ◌<◌, List, [], ◌∷◌, length, get_or, refl, ap₂, arith}
 use Rattle.std.specs.Simd.Lanes.{zip2}
 use Rattle.des.specs.Cbc.{xor_blocks}
-use Rattle.des_columns.proofs.form.unchain.Goals as goal
+use Rattle.des_columns.proofs.form.xor_previous.Goals as goal
 
 -- xors at each place are the xor of the lists
 xored-from : (xs ys zs : List (List ℕ)) → length xs ≡ length ys → length ys ≤ length zs
