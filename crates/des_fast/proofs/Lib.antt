@@ -60,3 +60,5 @@ pub mod ExpandedEntries
 pub mod PassDirections
 pub mod RelatedChains
 mod RelatedTriples
+mod FirstHalves
+mod LastWords
