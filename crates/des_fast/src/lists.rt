@@ -131,7 +131,7 @@ fn unchain_some<W: BoxLookup, A: BlockTransform>(blocks: &mut [[u8; 8]], iv: &[u
 }
 
 // How many of the blocks that are left go next: no clause says where one by one begins, or where
-// twice a few are quicker than what fits and the rest, since only the time depends on it.
+// a few at a time are quicker than what fits and the rest, since only the time depends on it.
 fn next_count<W: BoxLookup>(left: usize) -> usize
     requires { 1 ≤ left }
     ensures some { 1 ≤ result }
