@@ -117,7 +117,11 @@ fn process_some<W: BoxLookup, A: BlockTransform>(blocks: &mut [[u8; 8]], passes:
 
 // Takes some blocks that CBC chained from `iv` through passes, and out of the chain: each is xored
 // with the block that was before it.
-fn unchain_some<W: BoxLookup, A: BlockTransform>(blocks: &mut [[u8; 8]], iv: &[u8; 8], passes: &A)
+fn decrypt_cbc_part<W: BoxLookup, A: BlockTransform>(
+    blocks: &mut [[u8; 8]],
+    iv: &[u8; 8],
+    passes: &A,
+)
     requires some { 1 ≤ length blocks.old }
     requires few { length blocks.old ≤ W.Groups.BLOCKS }
     ensures { Unchains (A.output passes.now) iv.now blocks.old blocks.new }
@@ -165,7 +169,7 @@ pub(crate) fn process<W: BoxLookup, A: BlockTransform>(blocks: &mut [[u8; 8]], p
 
 /// Takes each block of a list that CBC chained from `iv` through passes, and out of the chain, as
 /// many side by side as `process` does.
-pub(crate) fn unchain<W: BoxLookup, A: BlockTransform>(
+pub(crate) fn decrypt_cbc<W: BoxLookup, A: BlockTransform>(
     blocks: &mut [[u8; 8]],
     iv: &[u8; 8],
     passes: &A,
@@ -180,7 +184,7 @@ pub(crate) fn unchain<W: BoxLookup, A: BlockTransform>(
         let count = next_count::<W>(blocks.len() - from);
         let part = &mut blocks[from..from + count];
         let next = next_vector(&before, part);
-        unchain_some::<W, A>(part, &before, passes);
+        decrypt_cbc_part::<W, A>(part, &before, passes);
         before = next;
         from += count;
     }

@@ -25,9 +25,9 @@ pub(super) fn cbc_decrypt_few<P: BlockTransform>(
     ensures unchained { Unchains (P.output passes.now) iv.now blocks.old blocks.new }
 {
     if no_tables {
-        lists::unchain::<NoTables, P>(blocks, iv, passes);
+        lists::decrypt_cbc::<NoTables, P>(blocks, iv, passes);
     } else {
-        lists::unchain::<Tables, P>(blocks, iv, passes);
+        lists::decrypt_cbc::<Tables, P>(blocks, iv, passes);
     }
 }
 

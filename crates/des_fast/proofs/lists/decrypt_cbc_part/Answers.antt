@@ -1,7 +1,7 @@
 use Rattle.std.proofs.Common.{◌≡◌, ℕ, zero, suc, ◌-◌, ◌<◌, List, [], ◌∷◌, length, map, get_or, refl, ap, ap₂, ◌∙◌, arith}
 use Rattle.std.proofs.lemmas.List.{length-map, get_or-map}
 use Rattle.des.specs.Cbc.{xor_blocks, Unchains}
-use Rattle.des_fast.proofs.lists.unchain_some.Goals as goal
+use Rattle.des_fast.proofs.lists.decrypt_cbc_part.Goals as goal
 
 -- of four vectors, those of a block's place and of the places before it: a place after the last repeats it
 vector-at : (iv : List ℕ) (old : List (List ℕ)) (second third m : ℕ) → m < length old → m < 4

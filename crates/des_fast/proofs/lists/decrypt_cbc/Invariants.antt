@@ -1,7 +1,7 @@
 -- The blocks before the index are out of the chain, which goes on from the block before the others.
 use Rattle.std.proofs.Common.{◌≡◌, ◌-◌, ◌≤◌, take, drop, length}
 use Rattle.des.specs.Cbc.{Unchains, next_vector}
-use Rattle.des_fast.proofs.lists.unchain.Given as goal
+use Rattle.des_fast.proofs.lists.decrypt_cbc.Given as goal
 
 abbrev pub invariant-parts : goal.invariant-parts
 invariant-parts g l = record {

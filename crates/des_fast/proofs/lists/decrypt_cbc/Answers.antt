@@ -4,7 +4,7 @@ use Rattle.std.proofs.lemmas.List.{drop-drop}
 use Rattle.std.proofs.lemmas.Slice.{take-put_mid, drop-put_mid}
 use Rattle.des.specs.Cbc.{Unchains, next_vector}
 use Rattle.des.proofs.ChainedPieces.{Unchains-append, next_vector-append}
-use Rattle.des_fast.proofs.lists.unchain.Goals as goal
+use Rattle.des_fast.proofs.lists.decrypt_cbc.Goals as goal
 use borrow.Rule.Slice.PartMut.{put_mid}
 
 pub parts-preserved : goal.parts-preserved
@@ -16,7 +16,7 @@ parts-preserved g c =
     let iv : List ℕ = c.args.iv.now in
     let old : List (List ℕ) = c.args.blocks.now in
     let now : List (List ℕ) = c.parts.blocks in
-    let part : List (List ℕ) = c.unchain_some.new.blocks in
+    let part : List (List ℕ) = c.decrypt_cbc_part.new.blocks in
     let begins : List ℕ = next_vector iv (take m old) in
     let same : drop m now ≡ drop m old = c.parts.invariant.rest in
     let size : n ≡ count = omega arith in
@@ -33,7 +33,7 @@ parts-preserved g c =
           let made : Unchains f begins (take n (drop m old)) part =
           subst (λ (rest : List (List ℕ)). Unchains f begins (take n rest) part) same
           (subst (λ (before : List ℕ). Unchains f before (take n (drop m now)) part) c.parts.invariant.before
-          c.unchain_some.ensures) in
+          c.decrypt_cbc_part.ensures) in
           subst (λ (q : List (List ℕ)). Unchains f iv q (take (m + count) (put_mid m n now part))) (sym front)
           (subst (λ (p : List (List ℕ)). Unchains f iv (take m old ++ take n (drop m old)) p)
           (sym (take-put_mid m n now part (m + count) (omega (arith, in_part)) (omega arith)))

@@ -1,7 +1,7 @@
 -- The blocks before the index are out of the chain, and those from it on are not yet.
 use Rattle.std.proofs.Common.{◌≡◌, ℕ, ◌<◌, ◌≤◌, [], get_or, length}
 use Rattle.des.specs.Cbc.{xor_blocks}
-use Rattle.des_fast.proofs.lists.unchain_some.Given as goal
+use Rattle.des_fast.proofs.lists.decrypt_cbc_part.Given as goal
 
 abbrev pub invariant-xored : goal.invariant-xored
 invariant-xored g l = record {
