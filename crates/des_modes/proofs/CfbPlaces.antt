@@ -47,22 +47,17 @@ window-front {X} w n iv c more wide begun =
     ∙ ap (take w) (drop-append-le n (iv ++ c) more (omega (arith, size)))
     ∙ take-append-le w (drop n (iv ++ c)) more (omega (arith, size, length-drop n (iv ++ c)))
 
-pub cfb_stream-front : (s : ℕ) (encryption : List ℕ → List ℕ) (iv : List ℕ) → length iv ≡ 8
-    → GoesByFront (cfb_stream s encryption iv)
-cfb_stream-front s encryption iv wide t more i below =
-    ap (λ (block : List ℕ). get_or (encryption block) (i % s) 0)
-    (window-front 8 (s * (i / s)) iv t more wide (omega (arith, mul-div-le i s)))
-
 -- the initialization vector has the register's width
 pub length-iv : (s : ℕ) (encryption : List ℕ → List ℕ) (iv c : List ℕ) (state : Register)
     → length state.register ≡ 8 → IsCfbAt s encryption iv c state → length iv ≡ 8
 length-iv s encryption iv c state wide is =
     omega (arith, ap length is.register, length-drop (length c) (iv ++ c), length-append iv c)
 
--- at the beginning it is the register
-pub beginning : (s : ℕ) (iv : List ℕ) → 1 ≤ s → (0 % s ≡ 0) × (iv ≡ iv ++ [])
-beginning s iv some =
-    let positive : 0 < s = omega arith in (mod-eq_of_lt positive, sym (append-nil iv))
+pub cfb_stream-front : (s : ℕ) (encryption : List ℕ → List ℕ) (iv c : List ℕ) (state : Register) → length state.register ≡ 8
+    → IsCfbAt s encryption iv c state → GoesByFront (cfb_stream s encryption iv)
+cfb_stream-front s encryption iv c state wide is t more i below =
+    ap (λ (block : List ℕ). get_or (encryption block) (i % s) 0)
+    (window-front 8 (s * (i / s)) iv t more (length-iv s encryption iv c state wide is) (omega (arith, mul-div-le i s)))
 
 -- between segments the register is the one before the next
 pub input_block-next : (s : ℕ) (iv c : List ℕ) → length iv ≡ 8 → length c % s ≡ 0
@@ -241,7 +236,7 @@ ByText-bit_directed encryption iv old new Decrypt x y wide shifted is =
 
 -- bytes more, by their bits
 pub ByText-bytes : {S : Type 0} {At : List Bool → S → Type 0} {k : List Bool → ℕ → Bool} {before between after : S}
-    (direction : Direction) (old now more answers : List ℕ) → GoesByFront k
+    (direction : Direction) (old now more answers : List ℕ) → ((t : List Bool) → At t between → GoesByFront k)
     → Directed direction (ByText xor false At k before between) (bits_of_bytes old) (bits_of_bytes now)
     → Directed direction (ByText xor false At k between after) (bits_of_bytes more) (bits_of_bytes answers)
     → Directed direction (ByText xor false At k before after) (bits_of_bytes (old ++ more)) (bits_of_bytes (now ++ answers))

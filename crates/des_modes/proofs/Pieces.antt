@@ -1,9 +1,9 @@
 -- Lists under the xor with a key stream, changed in place, piece after piece, and encrypted or decrypted so.
-use Rattle.std.proofs.Common.{◌≡◌, inl, inr, ℕ, ◌+◌, ◌-◌, ◌<◌, true, false, List, [], ◌∷◌, ◌++◌, length, get_or, bit_xor, refl, ap, ap₂, sym, ◌∙◌, arith, length-append, ◌≤◌, set, take, drop, add-zero, append_assoc, take-add, length-drop, length-take-le}
+use Rattle.std.proofs.Common.{◌≡◌, inl, inr, ℕ, ◌+◌, ◌-◌, ◌<◌, true, false, List, [], ◌∷◌, ◌++◌, length, get_or, bit_xor, refl, ap, ap₂, sym, ◌∙◌, arith, length-append, ◌≤◌, set, take, drop, add-zero, append_assoc, take-add, length-drop, length-take-le, replicate, subst}
 use Rattle.std.specs.Int.Bits.{xor_self, xor_assoc, xor_zero_r}
 use Rattle.std.proofs.Math.ListN.{get_or-append}
 use Rattle.std.proofs.lemmas.Bool.{cases_lt}
-use Rattle.std.proofs.lemmas.List.{get_or-append_right, ext_get_or, append-nil, take_all, take_more_set, drop-drop, drop-set-lt, drop_more}
+use Rattle.std.proofs.lemmas.List.{get_or-append_right, ext_get_or, append-nil, length-replicate, take_all, take_more_set, drop-drop, drop-set-lt, drop_more}
 use Rattle.des.specs.Bits.{xor}
 use Rattle.des_modes.specs.Streams.{Xors, XorsFrom}
 use Rattle.std.proofs.lemmas.Slice.{take-put_mid, drop-put_mid}
@@ -130,25 +130,6 @@ pub InPlace-all : {X : Type 0} {Done : List X → List X → Type 0} {from : ℕ
     → length now ≤ from → InPlace Done from old now → Done old now
 InPlace-all {X} {Done} {from} {old} {now} all same so_far = rw (take_all from old all, take_all from now same) at so_far.done
 
--- ---- streams by their place: from byte n on, p becomes c
-
-pub record ByPlace {S : Type 0} (At : ℕ → S → Type 0) (k : ℕ → ℕ) (before after : S) (p c : List ℕ) : Type 0 where
-  pub goes : (n : ℕ) → At n before → At (n + length p) after × XorsFrom n k p c
-
-module _ {S : Type 0} {At : ℕ → S → Type 0} {k : ℕ → ℕ} where
-  pub ByPlace-none : (state : S) → ByPlace At k state state [] []
-  ByPlace-none state = record { goes = λ n at. (rw add-zero at, Xors-none n k) }
-
-  pub ByPlace-joined : {before between after : S} {p c more answers : List ℕ} → ByPlace At k before between p c
-      → ByPlace At k between after more answers → ByPlace At k before after (p ++ more) (c ++ answers)
-  ByPlace-joined {before} {between} {after} {p} {c} {more} {answers} first second = record {
-    goes = λ n at.
-        let one = first.goes n at in
-        let two = second.goes (n + length p) one.0 in
-        let place : n + length p + length more ≡ n + length (p ++ more) = omega (arith, length-append p more) in
-        (rw place at two.0, Xors-append n (n + length p) k p c more answers refl one.1 two.1);
-  }
-
 -- ---- streams by the ciphertext behind them: behind t, p becomes c
 
 pub record ByText {S X : Type 0} (op : X → X → X) (d : X) (At : List X → S → Type 0) (k : List X → ℕ → X) (before after : S)
@@ -163,7 +144,7 @@ module _ {S X : Type 0} {op : X → X → X} {d : X} {At : List X → S → Type
   pub ByText-none : (state : S) → ByText op d At k state state [] []
   ByText-none state = record { goes = λ t at. (rw append-nil at, Xors-none (length t) (k (t ++ []))) }
 
-  pub ByText-joined : {before between after : S} {p c more answers : List X} → GoesByFront k
+  pub ByText-joined : {before between after : S} {p c more answers : List X} → ((t : List X) → At t between → GoesByFront k)
       → ByText op d At k before between p c → ByText op d At k between after more answers
       → ByText op d At k before after (p ++ more) (c ++ answers)
   ByText-joined {before} {between} {after} {p} {c} {more} {answers} front first second = record {
@@ -175,7 +156,7 @@ module _ {S X : Type 0} {op : X → X → X} {d : X} {At : List X → S → Type
           rw (← append_assoc t c answers)
               (Xors-append (length t) (length (t ++ c)) (k ((t ++ c) ++ answers)) p c more answers size
               (Xors-other (length t) (k (t ++ c)) (k ((t ++ c) ++ answers)) p c
-              (λ i below. sym (front (t ++ c) answers (length t + i) (omega arith))) one.1)
+              (λ i below. sym (front (t ++ c) one.0 (t ++ c) answers (length t + i) (omega arith))) one.1)
               two.1),
         );
   }
@@ -217,8 +198,8 @@ module _ {S X : Type 0} {op : X → X → X} {d : X} {At : List X → S → Type
   ByText-begun Encrypt state = ByText-none state
   ByText-begun Decrypt state = ByText-none state
 
-  pub ByText-directed : (direction : Direction) (old now more answers : List X) {before between after : S} → GoesByFront k
-      → Directed direction (ByText op d At k before between) old now
+  pub ByText-directed : (direction : Direction) (old now more answers : List X) {before between after : S}
+      → ((t : List X) → At t between → GoesByFront k) → Directed direction (ByText op d At k before between) old now
       → Directed direction (ByText op d At k between after) more answers
       → Directed direction (ByText op d At k before after) (old ++ more) (now ++ answers)
   ByText-directed Encrypt old now more answers front first second = ByText-joined front first second
@@ -226,17 +207,19 @@ module _ {S X : Type 0} {op : X → X → X} {d : X} {At : List X → S → Type
 
 -- ---- key streams that do not depend on the texts
 
-pub goes_on-directed : (P : ℕ → Type 0) (direction : Direction) (c old new : List ℕ) → length new ≡ length old
-    → P (length c + length old) → P (length (c ++ ciphertext direction old new))
-goes_on-directed P direction c old new same at =
-    let size : length (ciphertext direction old new) ≡ length old =
-    ciphertext-is (λ xs. length xs ≡ length old) direction old new refl same in
-    let place : length c + length old ≡ length (c ++ ciphertext direction old new) =
-    omega (arith, size, length-append c (ciphertext direction old new)) in rw place at at
+pub length-behind : (direction : Direction) (c old new : List ℕ) → length new ≡ length old
+    → length (c ++ ciphertext direction old new) ≡ length c + length old
+length-behind Encrypt c old new same = omega (arith, length-append c new)
+length-behind Decrypt c old new same = length-append c old
 
-pub whole-directed : (P : ℕ → Type 0) (k : ℕ → ℕ) (direction : Direction) (old new p c : List ℕ)
-    → ((p c : List ℕ) → P (length p) → XorsFrom 0 k p c → XorsFrom 0 k (p ++ old) (c ++ new)) → P (length c) → XorsFrom 0 k p c
-    → XorsFrom 0 k (p ++ plaintext direction old new) (c ++ ciphertext direction old new)
-whole-directed P k Encrypt old new p c whole at made = whole p c (rw made.count at at) made
-whole-directed P k Decrypt old new p c whole at made =
-    Xors-back 0 k _ _ bytes_undone (whole c p at (Xors-back 0 k p c bytes_undone made))
+-- what goes on behind each text of n bytes goes on behind n bytes
+pub by_count : {S : Type 0} (At : ℕ → S → Type 0) (k : ℕ → ℕ) (before after : S) (old new : List ℕ) → length new ≡ length old
+    → ((c : List ℕ) → At (length c) before → At (length (c ++ new)) after)
+    → ((c : List ℕ) → At (length c) before → XorsFrom (length c) k old new)
+    → (n : ℕ) → At n before → At (n + length old) after × XorsFrom n k old new
+by_count At k before after old new same goes xored n at =
+    let c : List ℕ = replicate n 0 in
+    let long : length c ≡ n = length-replicate n _ in
+    let there = subst (λ (m : ℕ). At m before) (sym long) at in
+    let size : length (c ++ new) ≡ n + length old = omega (arith, length-append c new) in
+    (rw size at (goes c there), rw long at (xored c there))

@@ -7,9 +7,8 @@ use Rattle.des.specs.Relations.{IsGraphOf}
 use Rattle.des.specs.Laws.BlockBits.{IsBlock-block_of_bits, IsBlock-to_be_bytes, block_of_bits-bits_of_bytes}
 use Rattle.des_modes.specs.Cfb.{input_block, Cfb}
 use Rattle.des_modes.specs.CfbBits.{CfbBits, XorsBitsFrom, cfb_bits, input_bits, block_bit}
-use Rattle.des_modes.specs.Ofb.{Ofb, output_block}
-use Rattle.des_modes.specs.Ctr.{Ctr, counter_block}
-use Rattle.des_modes.specs.Related.{OfbUnder, CtrUnder, output_before}
+use Rattle.des_modes.specs.Ofb.{Ofb, OfbUnder, output_before, output_block}
+use Rattle.des_modes.specs.Ctr.{Ctr, CtrUnder, counter_block}
 use Rattle.std.proofs.Math.Nat.{div-div-eq-div-mul, div-add-mod, mul-add-mod_self_left, mod-lt, mul_assoc, mod-eq_of_lt, mul-div-le}
 use Rattle.std.specs.Int.{bit_at}
 use Rattle.des.specs.Bits.{bits_of_bytes, xor}

@@ -1,15 +1,14 @@
 -- Streams under ciphers that answer blocks alike, and by the relation of a key.
-use Rattle.std.proofs.Common.{◌≡◌, ℕ, zero, suc, ◌+◌, ◌*◌, ◌/◌, ◌%◌, ◌≤◌, Bool, List, length, ap, refl, sym, subst, ◌∙◌, arith}
+use Rattle.std.proofs.Common.{◌≡◌, ℕ, zero, suc, ◌+◌, ◌*◌, ◌/◌, ◌%◌, ◌≤◌, Bool, List, length, get_or, ap, refl, sym, subst, ◌∙◌, arith}
 use Rattle.std.proofs.Math.Nat.{mul-div-le}
 use Rattle.des.specs.Bits.{bits_of_bytes, xor}
 use Rattle.des.specs.Blocks.{AreBytes, IsBlock}
 use Rattle.des.specs.Relations.{AnswerAlike, IsGraphOf}
 use Rattle.des.specs.Laws.BlockBits.{IsBlock-block_of_bits, IsBlock-to_be_bytes}
-use Rattle.des_modes.specs.CfbBits.{Cfb1, bit_at, block_bit}
+use Rattle.des_modes.specs.CfbBits.{Cfb1, block_bit}
 use Rattle.des_modes.specs.Modes.{InMode, InModeUnder, mode_by}
 use Rattle.des_modes.specs.Ofb.{output_block}
 use Rattle.des_modes.specs.StreamStates.{IsBitStreamAt, IsPlace, IsSound, IsStreamAt}
-use Rattle.des_modes.specs.Streams.{byte_at}
 use Rattle.des_modes.specs.declared.modes.Mode.{Mode}
 use Rattle.des_modes.specs.declared.modes.Mode.TheVariants.{Counter, OutputFeedback, BitFeedback, CipherFeedback}
 use Rattle.des_modes.specs.declared.stream.Place.{Place}
@@ -20,12 +19,8 @@ use Rattle.des_modes.proofs.Pieces.{Xors-other}
 
 module _ (e f : List ℕ → List ℕ) (alike : AnswerAlike e f) where
   Cfb1-alike : (iv : List ℕ) (p c : List Bool) → Cfb1 e iv p c → Cfb1 f iv p c
-  Cfb1-alike iv p c made = record {
-    count = made.count;
-    xored = λ i below.
-        made.xored i below
-        ∙ ap (λ (block : List ℕ). xor (bit_at p i) (block_bit block ((0 + i) % 1))) (alike _ (IsBlock-block_of_bits _));
-  }
+  Cfb1-alike iv p c made =
+      Xors-other 0 _ _ p c (λ i below. ap (λ (block : List ℕ). block_bit block ((0 + i) % 1)) (alike _ (IsBlock-block_of_bits _))) made
 
   pub IsBitStreamAt-alike : (iv : List ℕ) (p c : List Bool) (stream : Stream) → IsBitStreamAt e iv p c stream
       → IsBitStreamAt f iv p c stream
@@ -58,15 +53,15 @@ module _ (e f : List ℕ → List ℕ) (alike : AnswerAlike e f) where
     pub InMode-alike : (mode : Mode) (p : List ℕ) → InMode mode e iv p c → InMode mode f iv p c
     InMode-alike Counter p made =
         Xors-other 0 _ _ p c
-        (λ i below. ap (λ (block : List ℕ). byte_at block ((0 + i) % 8)) (alike _ (IsBlock-to_be_bytes _))) made
+        (λ i below. ap (λ (block : List ℕ). get_or block ((0 + i) % 8) 0) (alike _ (IsBlock-to_be_bytes _))) made
     InMode-alike OutputFeedback p made =
         Xors-other 0 _ _ p c
-        (λ i below. ap (λ (block : List ℕ). byte_at block ((0 + i) % 8)) (output_block-alike _)) made
+        (λ i below. ap (λ (block : List ℕ). get_or block ((0 + i) % 8) 0) (output_block-alike _)) made
     InMode-alike BitFeedback p made = Cfb1-alike iv (bits_of_bytes p) (bits_of_bytes c) made
     InMode-alike (CipherFeedback s) p made =
         Xors-other 0 _ _ p c (λ i below.
         let begun : s * ((0 + i) / s) ≤ length c = omega (arith, mul-div-le (0 + i) s, made.count) in
-        ap (λ (block : List ℕ). byte_at block ((0 + i) % s)) (alike _ (IsBlock-input_block s iv c _ is_iv bytes begun)))
+        ap (λ (block : List ℕ). get_or block ((0 + i) % s) 0) (alike _ (IsBlock-input_block s iv c _ is_iv bytes begun)))
         made
 
   pub IsStreamAt-alike : (number : ℕ) (iv p c : List ℕ) (stream : Stream)

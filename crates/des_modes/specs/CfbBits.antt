@@ -1,14 +1,10 @@
 -- Cipher feedback of k bits, CFB, as its standards print it (FIPS 81, cipher feedback mode; NIST SP 800-38A, 6.3): lists
 -- of bits in segments of k, from 1 to 64, of which the last may be cut short. Segments and bits are numbered from 0. With
 -- k = 1 it is CFB-1, and with k = 8 s, of the bits of bytes, CFB with segments of s bytes.
-use Rattle.std.specs.Prelude.{ℕ, ◌*◌, ◌/◌, ◌%◌, ◌<◌, Bool, false, List, ◌++◌, length, take, drop, slice_index_or}
+use Rattle.std.specs.Prelude.{ℕ, ◌*◌, ◌/◌, ◌%◌, Bool, false, List, ◌++◌, take, drop, slice_index_or}
 use Rattle.des.specs.Bits.{bits_of_bytes, xor}
 use Rattle.des.specs.Blocks.{block_of_bits}
-use Rattle.des_modes.specs.Streams.{Xors}
-
--- bit i of a list
-abbrev pub bit_at : List Bool → ℕ → Bool
-bit_at bits i = slice_index_or bits i false
+use Rattle.des_modes.specs.Streams.{Xors, Under}
 
 -- the first n bits of bytes
 abbrev pub first_bits : ℕ → List ℕ → List Bool
@@ -16,7 +12,7 @@ first_bits n bytes = take n (bits_of_bytes bytes)
 
 -- bit i of a block
 abbrev pub block_bit : List ℕ → ℕ → Bool
-block_bit block i = bit_at (bits_of_bytes block) i
+block_bit block i = slice_index_or (bits_of_bytes block) i false
 
 -- bits under the xor with a key stream, whose bit for the first of them is bit n
 abbrev pub XorsBitsFrom : ℕ → (ℕ → Bool) → List Bool → List Bool → Type 0
@@ -36,7 +32,5 @@ abbrev pub Cfb1 : (List ℕ → List ℕ) → List ℕ → List Bool → List Bo
 Cfb1 encryption iv p c = XorsBitsFrom 0 (cfb_bits 1 encryption iv c) p c
 
 -- CFB by a relation of blocks, such as that of a key: C(j) = P(j) ^ the first k bits of O(j), where O(j) answers I(j)
-pub record CfbBits (Answers : List ℕ → List ℕ → Type 0) (k : ℕ) (iv : List ℕ) (p c : List Bool) : Type 0 where
-  pub outputs : ℕ → List ℕ
-  pub answered : (j : ℕ) → k * j < length p → Answers (input_bits k iv c j) (outputs j)
-  pub xored : XorsBitsFrom 0 (λ i. block_bit (outputs (i / k)) (i % k)) p c
+abbrev pub CfbBits : (List ℕ → List ℕ → Type 0) → ℕ → List ℕ → List Bool → List Bool → Type 0
+CfbBits Answers k iv p c = Under xor false block_bit k (λ outputs j. input_bits k iv c j) Answers p c

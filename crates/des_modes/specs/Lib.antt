@@ -3,7 +3,6 @@ pub mod Streams
 pub mod Ctr
 pub mod Ofb
 pub mod Cfb
-pub mod Related
 pub mod CfbBits
 pub mod States
 pub mod Modes

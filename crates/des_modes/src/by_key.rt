@@ -8,7 +8,8 @@ ghost use Rattle.des.specs.Bits.{bits_of_bytes};
 ghost use Rattle.des.specs.Blocks.{IsBlock};
 ghost use Rattle.des_modes.specs.CfbBits.{CfbBits, first_bits};
 ghost use Rattle.des_modes.specs.CmsKeyWrap.{WrapsUnder};
-ghost use Rattle.des_modes.specs.Related.{CtrUnder, OfbUnder};
+ghost use Rattle.des_modes.specs.Ctr.{CtrUnder};
+ghost use Rattle.des_modes.specs.Ofb.{OfbUnder};
 ghost use Rattle.des_modes.specs.Tkw.{IsSemiblock, TkwUnder};
 
 use crate::lists::ByLists;

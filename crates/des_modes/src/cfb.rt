@@ -8,6 +8,7 @@ ghost use Rattle.des_modes.specs.Cfb.{Cfb, cfb_stream, input_block};
 ghost use Rattle.des_modes.specs.Directions.{plaintext, ciphertext, part_at_most};
 
 use crate::direction::Direction;
+use crate::parts::{TakesParts, apply_parts};
 use crate::xored::{xor_from, xor_segments};
 use des::cipher::BlockCipherEncrypt;
 
@@ -61,7 +62,7 @@ fn write_outputs<C: BlockCipherEncrypt>(
     segment: usize,
 )
     requires { (j : ℕ) → j < length blocks.old → segment * j + 8 ≤ length bytes.now }
-    ensures { (j : ℕ) → j < length blocks.old → slice_index_or blocks.new j []
+    ensures { (j : ℕ) → j < length blocks.new → slice_index_or blocks.new j []
         ≡ C.encrypted cipher.now (take 8 (drop (segment * j) bytes.now)) }
 {
     write_inputs(blocks, bytes, segment);
@@ -103,7 +104,8 @@ fn shift(register: &mut [u8; 8], bytes: &[u8])
 fn within_segment(end: usize, segment: usize) -> usize
     requires some { 1 ≤ segment }
     requires within { end ≤ segment }
-    ensures { result ≡ end % segment }
+    ensures place { result ≡ end % segment }
+    ensures inside { 1 ≤ result → end < segment }
 {
     if end == segment { 0 } else { end }
 }
@@ -223,39 +225,6 @@ impl Register {
         self.output = block_at(part, bytes.len() / self.segment);
     }
 
-    // The most bytes that may be encrypted or decrypted together.
-    fn most(&self, direction: Direction) -> usize
-        ensures some { 1 ≤ result }
-        ensures most { result ≡ part_at_most direction self.now.segment self.now.used }
-    {
-        match direction {
-            Direction::Decrypt if self.used == 0 => self.segment * TOGETHER,
-            _ => self.segment - self.used,
-        }
-    }
-
-    // Encrypts or decrypts bytes of one segment, or decrypts segments together.
-    fn apply_part<C: BlockCipherEncrypt>(
-        &mut self,
-        direction: Direction,
-        cipher: &C,
-        bytes: &mut [u8],
-    )
-        requires { length bytes.old ≤ part_at_most direction self.old.segment self.old.used }
-        ensures after { (s : ℕ) (iv c : List ℕ) → IsCfbAt s (C.encrypted cipher.now) iv c self.old
-            → IsCfbAt s (C.encrypted cipher.now) iv
-            (c ++ ciphertext direction bytes.old bytes.new) self.new }
-        ensures xored { (s : ℕ) (iv c : List ℕ) → IsCfbAt s (C.encrypted cipher.now) iv c self.old
-            → XorsFrom (length c)
-            (cfb_stream s (C.encrypted cipher.now) iv (c ++ ciphertext direction bytes.old bytes.new))
-            bytes.old bytes.new }
-    {
-        match direction {
-            Direction::Decrypt if self.used == 0 => self.decrypt_segments(cipher, bytes),
-            _ => self.apply_in_segment(direction, cipher, bytes),
-        }
-    }
-
     /// Encrypts or decrypts the next bytes of the stream in place. However a text is cut into pieces,
     /// they become what the whole becomes.
     pub fn apply<C: BlockCipherEncrypt>(
@@ -276,11 +245,35 @@ impl Register {
             (p ++ plaintext direction bytes.old bytes.new)
             (c ++ ciphertext direction bytes.old bytes.new) }
     {
-        let mut from = 0;
-        'parts: while from < bytes.len() {
-            let count = self.most(direction).min(bytes.len() - from);
-            self.apply_part(direction, cipher, &mut bytes[from..from + count]);
-            from += count;
+        apply_parts(self, direction, cipher, bytes);
+    }
+}
+
+impl TakesParts for Register {
+    ghost use Rattle.des_modes.specs.States.{IsCfbAt};
+
+    ghost is_at = { λ encryption s iv c register. IsCfbAt s encryption iv c register };
+
+    ghost key_stream = { λ encryption s iv c. cfb_stream s encryption iv c };
+
+    ghost limit = { λ direction register. part_at_most direction register.segment register.used };
+
+    fn most(&self, direction: Direction) -> usize {
+        match direction {
+            Direction::Decrypt if self.used == 0 => self.segment * TOGETHER,
+            _ => self.segment - self.used,
+        }
+    }
+
+    fn apply_part<C: BlockCipherEncrypt>(
+        &mut self,
+        direction: Direction,
+        cipher: &C,
+        bytes: &mut [u8],
+    ) {
+        match direction {
+            Direction::Decrypt if self.used == 0 => self.decrypt_segments(cipher, bytes),
+            _ => self.apply_in_segment(direction, cipher, bytes),
         }
     }
 }

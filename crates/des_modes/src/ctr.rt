@@ -1,12 +1,14 @@
 //! The counter mode over any block cipher (NIST SP 800-38A, 6.5), with the standard incrementing
 //! function over all 64 bits.
 
-ghost use Rattle.std.specs.Prelude.{◌≡◌, ◌<◌, ◌≤◌, ◌+◌, ◌*◌, ◌/◌, ◌%◌, ◌^◌, ◌++◌, ℕ, List, [], length, slice_index, slice_index_or, bit_xor};
+ghost use Rattle.std.specs.Prelude.{◌≡◌, ◌<◌, ◌≤◌, ◌+◌, ◌-◌, ◌*◌, ◌/◌, ◌%◌, ◌^◌, ◌++◌, ℕ, List, [], length, slice_index, slice_index_or, bit_xor};
 ghost use Rattle.std.specs.List.{All};
 ghost use Rattle.std.specs.Int.{w64, to_be_bytes, from_be_bytes};
 ghost use Rattle.des_modes.specs.Ctr.{Ctr, ctr_stream};
 ghost use Rattle.des_modes.specs.Streams.{XorsFrom};
 
+use crate::direction::Direction;
+use crate::parts::{TakesParts, apply_parts};
 use crate::xored::xor_blocks_from;
 use des::cipher::BlockCipherEncrypt;
 
@@ -36,7 +38,7 @@ fn write_outputs<C: BlockCipherEncrypt>(cipher: &C, blocks: &mut [[u8; 8]], coun
 
 // Encrypts or decrypts bytes by the output blocks of a counter and of those that follow it, from byte
 // `used` of the first on.
-fn apply_part<C: BlockCipherEncrypt>(cipher: &C, counter: u64, used: usize, bytes: &mut [u8])
+fn apply_outputs<C: BlockCipherEncrypt>(cipher: &C, counter: u64, used: usize, bytes: &mut [u8])
     requires { used + length bytes.old ≤ 2048 }
     ensures { (i : ℕ) → i < length bytes.old → slice_index bytes.new i
         ≡ bit_xor (slice_index bytes.old i)
@@ -105,18 +107,32 @@ impl Counter {
             → Ctr (C.encrypted cipher.now) t p c
             → Ctr (C.encrypted cipher.now) t (p ++ bytes.old) (c ++ bytes.new) }
     {
-        let mut from = 0;
-        'parts: while from < bytes.len() {
-            let count = (8 * TOGETHER - self.used).min(bytes.len() - from);
-            apply_part(
-                cipher,
-                self.counter,
-                self.used,
-                &mut bytes[from..from + count],
-            );
-            *self = self.advanced(count);
-            from += count;
-        }
+        apply_parts(self, Direction::Encrypt, cipher, bytes);
+    }
+}
+
+impl TakesParts for Counter {
+    ghost use Rattle.des_modes.specs.States.{IsCtrAt};
+
+    ghost is_at = { λ encryption s t c counter. IsCtrAt t (length c) counter };
+
+    ghost key_stream = { λ encryption s t c. ctr_stream encryption t };
+
+    ghost limit = { λ direction counter. 2048 - counter.used };
+
+    fn most(&self, _direction: Direction) -> usize {
+        8 * TOGETHER - self.used
+    }
+
+    fn apply_part<C: BlockCipherEncrypt>(
+        &mut self,
+        _direction: Direction,
+        cipher: &C,
+        bytes: &mut [u8],
+    ) {
+        let next = self.advanced(bytes.len());
+        apply_outputs(cipher, self.counter, self.used, bytes);
+        *self = next;
     }
 }
 

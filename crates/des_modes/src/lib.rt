@@ -16,6 +16,7 @@ pub mod direction;
 pub mod lists;
 pub mod modes;
 pub mod ofb;
+mod parts;
 pub mod stream;
 pub mod tkw;
 pub mod unwrap_error;

@@ -1,10 +1,12 @@
 //! Output feedback of 64 bits over any block cipher (FIPS 81, output feedback mode; NIST SP 800-38A,
 //! 6.4).
 
-ghost use Rattle.std.specs.Prelude.{◌≡◌, ◌<◌, ◌≤◌, ◌+◌, ◌/◌, ◌++◌, ℕ, List, length};
+ghost use Rattle.std.specs.Prelude.{◌≡◌, ◌<◌, ◌≤◌, ◌+◌, ◌-◌, ◌/◌, ◌++◌, ℕ, List, length};
 ghost use Rattle.des_modes.specs.Streams.{XorsFrom};
 ghost use Rattle.des_modes.specs.Ofb.{Ofb, ofb_stream, output_block};
 
+use crate::direction::Direction;
+use crate::parts::{TakesParts, apply_parts};
 use crate::xored::xor_from;
 use des::cipher::BlockCipherEncrypt;
 
@@ -44,7 +46,7 @@ impl Feedback {
     }
 
     // Encrypts or decrypts bytes by one output block.
-    fn apply_part<C: BlockCipherEncrypt>(&mut self, cipher: &C, bytes: &mut [u8])
+    fn apply_block<C: BlockCipherEncrypt>(&mut self, cipher: &C, bytes: &mut [u8])
         requires some { 1 ≤ length bytes.old }
         requires within { self.old.used + length bytes.old ≤ 8 }
         ensures after { (iv : List ℕ) (n : ℕ) → IsOfbAt (C.encrypted cipher.now) iv n self.old
@@ -69,12 +71,30 @@ impl Feedback {
             → Ofb (C.encrypted cipher.now) iv p c
             → Ofb (C.encrypted cipher.now) iv (p ++ bytes.old) (c ++ bytes.new) }
     {
-        let mut from = 0;
-        'parts: while from < bytes.len() {
-            let count = (8 - self.used).min(bytes.len() - from);
-            self.apply_part(cipher, &mut bytes[from..from + count]);
-            from += count;
-        }
+        apply_parts(self, Direction::Encrypt, cipher, bytes);
+    }
+}
+
+impl TakesParts for Feedback {
+    ghost use Rattle.des_modes.specs.States.{IsOfbAt};
+
+    ghost is_at = { λ encryption s iv c feedback. IsOfbAt encryption iv (length c) feedback };
+
+    ghost key_stream = { λ encryption s iv c. ofb_stream encryption iv };
+
+    ghost limit = { λ direction feedback. 8 - feedback.used };
+
+    fn most(&self, _direction: Direction) -> usize {
+        8 - self.used
+    }
+
+    fn apply_part<C: BlockCipherEncrypt>(
+        &mut self,
+        _direction: Direction,
+        cipher: &C,
+        bytes: &mut [u8],
+    ) {
+        self.apply_block(cipher, bytes);
     }
 }
 

@@ -19,6 +19,7 @@ use crate::ctr::Counter;
 use crate::direction::Direction;
 use crate::modes::{CTR, Mode};
 use crate::ofb::Feedback;
+use crate::parts::apply_parts;
 use des::cipher::{BlockCipherEncrypt, are_bytes};
 
 /// What a stream that has begun ends with.
@@ -68,7 +69,7 @@ impl Place {
             counter: u64::from_be_bytes(self.register),
             used: self.used,
         };
-        counter.apply(cipher, bytes);
+        apply_parts(&mut counter, direction, cipher, bytes);
         self.register = counter.counter.to_be_bytes();
         self.used = counter.used;
     }
@@ -95,7 +96,7 @@ impl Place {
             block: self.register,
             used: self.used,
         };
-        feedback.apply(cipher, bytes);
+        apply_parts(&mut feedback, direction, cipher, bytes);
         self.register = feedback.block;
         self.used = feedback.used;
     }

@@ -12,11 +12,7 @@ written : (g : Over) (c : goal.After-self-1 g) → (length c.write_outputs.new.b
     (take 8 (drop (c.args.self.now.segment * j) (c.args.self.now.register ++ c.args.bytes.now))))
 written g c = (
   c.write_outputs.auto.blocks ∙ length-take-le c.count_of.result _ c.count_of.ensures.few,
-  λ j below.
-      let P : ℕ → Type 0 = λ n. j < n in
-      c.write_outputs.ensures j (subst P c.write_outputs.auto.blocks below)
-      ∙ ap (λ (xs : List ℕ). g.C.BlockCipherEncrypt.encrypted c.args.cipher.now
-      (take 8 (drop (c.args.self.now.segment * j) xs))) c.write_joined.ensures,
+  rw c.write_joined.ensures at c.write_outputs.ensures,
 )
 
 pub returns-clause-after : goal.returns-clause-after

@@ -25,7 +25,7 @@ bits-preserved g c =
     c.ciphertext.ensures ∙ ap₂ (ciphertext c.args.direction) c.bit_at-old.ensures written in
     λ iv wide.
     InPlace-set _ false c.xor_bit.ensures within
-    (λ done. ByText-directed c.args.direction _ _ _ _ (cfb_bits-front E iv wide) done
+    (λ done. ByText-directed c.args.direction _ _ _ _ (λ t at. cfb_bits-front E iv wide) done
     (ByText-bit_directed E iv c.bits.self c.advance.new.self c.args.direction _ _ wide (rw bit at c.advance.ensures)
     (ap (xor (get_or now place false)) c.key_bit.ensures))) (c.bits.invariant iv wide)
 

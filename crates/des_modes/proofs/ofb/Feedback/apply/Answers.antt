@@ -1,28 +1,16 @@
--- A part more.
-use Rattle.std.proofs.Common.{ℕ, List, length, refl, arith}
-use Rattle.des_modes.proofs.Pieces.{Xors-append, ByPlace-none, ByPlace-joined, InPlace-more, InPlace-all}
+use Rattle.std.proofs.Common.{ℕ, List, length, arith}
+use Rattle.des_modes.specs.Ofb.{ofb_stream}
+use Rattle.des_modes.specs.States.{IsOfbAt}
+use Rattle.des_modes.proofs.Pieces.{Xors-append, by_count}
 use Rattle.des_modes.proofs.ofb.Feedback.apply.Goals as goal
-
-pub parts-init : goal.parts-init
-parts-init g c = record {
-  within = omega arith;
-  so_far = λ iv. record { done = ByPlace-none c.args.self.now; rest = refl };
-}
-
-pub parts-preserved : goal.parts-preserved
-parts-preserved g c = record {
-  within = omega (arith, c.min-count.ensures);
-  so_far = λ iv.
-      InPlace-more _ (omega arith) (omega (arith, c.min-count.ensures)) c.apply_part.auto.bytes
-      (λ done. ByPlace-joined done (record {
-        goes = λ n at. (c.apply_part.ensures.after iv n at, c.apply_part.ensures.applied iv n at);
-      })) (c.parts.invariant.so_far iv);
-}
 
 pub returns : goal.returns
 returns g c =
-    let made = λ (iv : List ℕ). InPlace-all (omega arith) (omega arith) (c.parts.invariant.so_far iv) in record {
-      after = λ iv n at. ((made iv).goes n at).0;
-      applied = λ iv n at. ((made iv).goes n at).1;
-      whole = λ iv p d at begun. Xors-append 0 (length p) _ p d _ _ (omega arith) begun ((made iv).goes (length p) at).1;
+    let E : List ℕ → List ℕ = g.C.BlockCipherEncrypt.encrypted c.args.cipher.now in
+    let made = λ (iv : List ℕ).
+    by_count (IsOfbAt E iv) (ofb_stream E iv) c.args.self.now c.apply_parts.new.state c.args.bytes.now c.apply_parts.new.bytes
+    c.apply_parts.auto.bytes (c.apply_parts.ensures.after 0 iv) (c.apply_parts.ensures.xored 0 iv) in record {
+      after = λ iv n at. (made iv n at).0;
+      applied = λ iv n at. (made iv n at).1;
+      whole = λ iv p d at begun. Xors-append 0 (length p) _ p d _ _ (omega arith) begun (made iv (length p) at).1;
     }

@@ -25,7 +25,7 @@ bytes-preserved g c iv wide =
     let before = first_bits-byte old one in
     let after = first_bits-byte new (c.apply_bits.auto.bytes ∙ one) in
     InPlace-more {count = 1} new (omega arith) within c.apply_bits.auto.bytes
-    (λ done. ByText-bytes c.args.direction _ _ old new (cfb_bits-front (g.C.BlockCipherEncrypt.encrypted c.args.cipher.now) iv wide) done
+    (λ done. ByText-bytes c.args.direction _ _ old new (λ t at. cfb_bits-front (g.C.BlockCipherEncrypt.encrypted c.args.cipher.now) iv wide) done
     (record {
       goes = λ t at. (
         rw (texts.1, before, after) at (c.apply_bits.ensures.after iv t at),

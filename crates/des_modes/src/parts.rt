@@ -1,0 +1,69 @@
+//! Texts of any length, by states that take so many bytes at a time.
+
+ghost use Rattle.std.specs.Prelude.{◌≡◌, ◌<◌, ◌≤◌, ◌++◌, ℕ, List, length};
+ghost use Rattle.des_modes.specs.Directions.{plaintext, ciphertext};
+ghost use Rattle.des_modes.specs.Streams.{XorsFrom};
+ghost use Rattle.des_modes.specs.declared.direction.Direction.{Direction as DirectionOf};
+
+use crate::direction::Direction;
+use des::cipher::BlockCipherEncrypt;
+
+/// A place in a stream of bytes, which goes on by so many bytes at a time.
+pub(crate) trait TakesParts {
+    // The place behind the ciphertext c, under an encryption, in segments of s bytes.
+    ghost is_at: { (List ℕ → List ℕ) → ℕ → List ℕ → List ℕ → Self → Type 0 };
+
+    // The key stream along the ciphertext.
+    ghost key_stream: { (List ℕ → List ℕ) → ℕ → List ℕ → List ℕ → ℕ → ℕ };
+
+    ghost limit: { DirectionOf → Self → ℕ };
+
+    /// The most bytes that may be encrypted or decrypted together.
+    fn most(&self, direction: Direction) -> usize
+        ensures some { 1 ≤ result }
+        ensures most { result ≡ limit direction self.now };
+
+    /// Encrypts or decrypts the next bytes in place.
+    fn apply_part<C: BlockCipherEncrypt>(
+        &mut self,
+        direction: Direction,
+        cipher: &C,
+        bytes: &mut [u8],
+    )
+        requires some { 1 ≤ length bytes.old }
+        requires few { length bytes.old ≤ limit direction self.old }
+        ensures after { (s : ℕ) (iv c : List ℕ) → is_at (C.encrypted cipher.now) s iv c self.old
+            → is_at (C.encrypted cipher.now) s iv
+            (c ++ ciphertext direction bytes.old bytes.new) self.new }
+        ensures xored { (s : ℕ) (iv c : List ℕ) → is_at (C.encrypted cipher.now) s iv c self.old
+            → XorsFrom (length c)
+            (key_stream (C.encrypted cipher.now) s iv (c ++ ciphertext direction bytes.old bytes.new))
+            bytes.old bytes.new }
+        ensures front { (s : ℕ) (iv c : List ℕ) → is_at (C.encrypted cipher.now) s iv c self.old
+            → (d more : List ℕ) (i : ℕ) → i < length d
+            → key_stream (C.encrypted cipher.now) s iv (d ++ more) i
+            ≡ key_stream (C.encrypted cipher.now) s iv d i };
+}
+
+/// Encrypts or decrypts the bytes that come next in place, a part after another.
+pub(crate) fn apply_parts<P: TakesParts, C: BlockCipherEncrypt>(
+    state: &mut P,
+    direction: Direction,
+    cipher: &C,
+    bytes: &mut [u8],
+)
+    ensures after { (s : ℕ) (iv c : List ℕ) → P.is_at (C.encrypted cipher.now) s iv c state.old
+        → P.is_at (C.encrypted cipher.now) s iv
+        (c ++ ciphertext direction bytes.old bytes.new) state.new }
+    ensures xored { (s : ℕ) (iv c : List ℕ) → P.is_at (C.encrypted cipher.now) s iv c state.old
+        → XorsFrom (length c)
+        (P.key_stream (C.encrypted cipher.now) s iv (c ++ ciphertext direction bytes.old bytes.new))
+        (plaintext direction bytes.old bytes.new) (ciphertext direction bytes.old bytes.new) }
+{
+    let mut from = 0;
+    'parts: while from < bytes.len() {
+        let count = state.most(direction).min(bytes.len() - from);
+        state.apply_part(direction, cipher, &mut bytes[from..from + count]);
+        from += count;
+    }
+}
