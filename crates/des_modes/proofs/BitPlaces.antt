@@ -14,6 +14,9 @@ use Rattle.des.specs.Laws.BitLists.{length-bits_of, length-bits_of_bytes, bits_o
 use Rattle.des.specs.Laws.BlockBits.{slice_index-lt}
 use Rattle.des.proofs.BitParts.{get_or-bits_of, bit_at-xor, drop-bits_of, bits_of-or_shl}
 use Rattle.des_modes.specs.CfbBits.{block_bit, first_bits}
+use Rattle.des_modes.specs.Directions.{plaintext, ciphertext}
+use Rattle.des_modes.specs.declared.direction.Direction.{Direction}
+use Rattle.des_modes.specs.declared.direction.Direction.TheVariants.{Encrypt, Decrypt}
 
 -- ---- parts
 
@@ -31,8 +34,15 @@ length-front : (n m : ℕ) (bytes : List ℕ) → n ≤ length bytes → m ≡ 8
 length-front n m bytes within same =
     omega (arith, length-bits_of_bytes (take n bytes), length-take-le n bytes within)
 
-pub first_bits-byte : (part : List ℕ) → length part ≡ 1 → first_bits 8 part ≡ bits_of_bytes part
-first_bits-byte part one = take_all 8 (bits_of_bytes part) (omega (arith, length-bits_of_bytes part, one))
+-- all bits of the two texts
+first_bits-text : (n : ℕ) (text : List ℕ) → length text ≡ n → first_bits (8 * n) text ≡ bits_of_bytes text
+first_bits-text n text same = take_all (8 * n) (bits_of_bytes text) (omega (arith, length-bits_of_bytes text))
+
+pub first_bits-all : (direction : Direction) (old new : List ℕ) → length new ≡ length old
+    → (first_bits (8 * length old) (plaintext direction old new) ≡ bits_of_bytes (plaintext direction old new))
+    × (first_bits (8 * length old) (ciphertext direction old new) ≡ bits_of_bytes (ciphertext direction old new))
+first_bits-all Encrypt old new same = (first_bits-text _ old refl, first_bits-text _ new same)
+first_bits-all Decrypt old new same = (first_bits-text _ new same, first_bits-text _ old refl)
 
 -- the register in bits: eight bytes of two lists
 pub bits-window : (n m : ℕ) (a b : List ℕ) → n + 8 ≤ length (a ++ b) → m ≡ 8 * n

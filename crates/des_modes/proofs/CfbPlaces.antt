@@ -192,25 +192,26 @@ cfb_bits-before encryption iv c more i wide within =
     ap (λ (xs : List Bool). block_bit (encryption (block_of_bits xs)) (i % 1))
     (window-front 64 (1 * (i / 1)) (bits_of_bytes iv) c more wide (omega (arith, single i)))
 
-pub cfb_bits-front : (encryption : List ℕ → List ℕ) (iv : List ℕ) → length (bits_of_bytes iv) ≡ 64
-    → GoesByFront (cfb_bits 1 encryption iv)
-cfb_bits-front encryption iv wide t more i below = cfb_bits-before encryption iv t more i wide (omega arith)
+pub cfb_bits-front : (encryption : List ℕ → List ℕ) (iv : List ℕ) (c : List Bool) (held : List ℕ) → length held ≡ 8
+    → CfbBitsAt iv c held → GoesByFront (cfb_bits 1 encryption iv)
+cfb_bits-front encryption iv c held wide is t more i below =
+    cfb_bits-before encryption iv t more i (length-iv_bits iv c held wide is) (omega arith)
 
 -- the bit that goes with the next one
 cfb_bits-next : (encryption : List ℕ → List ℕ) (iv : List ℕ) (c more : List Bool) (held : List ℕ)
-    → length (bits_of_bytes iv) ≡ 64 → CfbBitsAt iv c held
+    → length held ≡ 8 → CfbBitsAt iv c held
     → cfb_bits 1 encryption iv (c ++ more) (length c) ≡ block_bit (encryption (block_of_bits (bits_of_bytes held))) 0
 cfb_bits-next encryption iv c more held wide is =
     let n : ℕ = length c in
     let all : List Bool = bits_of_bytes iv ++ c in
-    let long : length (drop n all) ≤ 64 = omega (arith, length-drop n all, length-append (bits_of_bytes iv) c) in
-    cfb_bits-before encryption iv c more n wide (omega arith)
+    let long : length (drop n all) ≤ 64 = omega (arith, ap length is.register, length-bits_of_bytes held) in
+    cfb_bits-before encryption iv c more n (length-iv_bits iv c held wide is) (omega arith)
     ∙ ap₂ (λ (m k : ℕ). block_bit (encryption (block_of_bits (take 64 (drop m all)))) k) (single n) (mod-one n)
     ∙ ap (λ (xs : List Bool). block_bit (encryption (block_of_bits xs)) 0) (take_all 64 (drop n all) long ∙ sym is.register)
 
 -- a bit more
 ByText-bit : (encryption : List ℕ → List ℕ) (iv : List ℕ) (old new : BitRegister) (p c : Bool)
-    → length (bits_of_bytes iv) ≡ 64 → bits_of_bytes new.register ≡ drop 1 (bits_of_bytes old.register ++ c ∷ [])
+    → length old.register ≡ 8 → bits_of_bytes new.register ≡ drop 1 (bits_of_bytes old.register ++ c ∷ [])
     → c ≡ xor p (block_bit (encryption (block_of_bits (bits_of_bytes old.register))) 0)
     → ByText xor false (IsCfbBitsAt iv) (cfb_bits 1 encryption iv) old new (p ∷ []) (c ∷ [])
 ByText-bit encryption iv old new p c wide shifted is = record {
@@ -225,7 +226,7 @@ ByText-bit encryption iv old new p c wide shifted is = record {
 }
 
 pub ByText-bit_directed : (encryption : List ℕ → List ℕ) (iv : List ℕ) (old new : BitRegister) (direction : Direction) (x y : Bool)
-    → length (bits_of_bytes iv) ≡ 64
+    → length old.register ≡ 8
     → bits_of_bytes new.register ≡ drop 1 (bits_of_bytes old.register ++ ciphertext direction x y ∷ [])
     → y ≡ xor x (block_bit (encryption (block_of_bits (bits_of_bytes old.register))) 0)
     → Directed direction (ByText xor false (IsCfbBitsAt iv) (cfb_bits 1 encryption iv) old new) (x ∷ []) (y ∷ [])
@@ -233,12 +234,3 @@ ByText-bit_directed encryption iv old new Encrypt x y wide shifted is = ByText-b
 ByText-bit_directed encryption iv old new Decrypt x y wide shifted is =
     ByText-bit encryption iv old new y x wide shifted
     (sym (ap (λ z. xor z (block_bit (encryption (block_of_bits (bits_of_bytes old.register))) 0)) is ∙ bits_undone x _))
-
--- bytes more, by their bits
-pub ByText-bytes : {S : Type 0} {At : List Bool → S → Type 0} {k : List Bool → ℕ → Bool} {before between after : S}
-    (direction : Direction) (old now more answers : List ℕ) → ((t : List Bool) → At t between → GoesByFront k)
-    → Directed direction (ByText xor false At k before between) (bits_of_bytes old) (bits_of_bytes now)
-    → Directed direction (ByText xor false At k between after) (bits_of_bytes more) (bits_of_bytes answers)
-    → Directed direction (ByText xor false At k before after) (bits_of_bytes (old ++ more)) (bits_of_bytes (now ++ answers))
-ByText-bytes direction old now more answers front first second =
-    rw (bits-append old more, bits-append now answers) (ByText-directed direction _ _ _ _ front first second)

@@ -11,20 +11,20 @@ use crate::direction::Direction;
 use des::cipher::{BlockCipherEncrypt, are_bytes};
 
 // The bit at a place.
-fn bit_at(bytes: &[u8], place: usize) -> bool
+fn bit_at(bytes: &[u8], place: u128) -> bool
     requires { place < 8 * length bytes.now }
     ensures { result ≡ block_bit bytes.now place }
 {
-    (bytes[place / 8] >> (7 - place % 8)) % 2 == 1
+    (bytes[(place / 8) as usize] >> (7 - place % 8)) % 2 == 1
 }
 
 // The bit at a place becomes its xor with another.
-fn xor_bit(bytes: &mut [u8], place: usize, bit: bool)
+fn xor_bit(bytes: &mut [u8], place: u128, bit: bool)
     requires { place < 8 * length bytes.old }
     ensures { bits_of_bytes bytes.new
         ≡ slice_set (bits_of_bytes bytes.old) place (xor (block_bit bytes.old place) bit) }
 {
-    bytes[place / 8] ^= u8::from(bit) << (7 - place % 8);
+    bytes[(place / 8) as usize] ^= u8::from(bit) << (7 - place % 8);
 }
 
 /// A place in a stream of cipher feedback of one bit: the shift register, which holds the last 64 bits
@@ -49,7 +49,8 @@ impl BitRegister {
 
     // The first bit of the output block, for the next bit of the text.
     fn key_bit<C: BlockCipherEncrypt>(&self, cipher: &C) -> bool
-        ensures { result ≡ block_bit (C.encrypted cipher.now
+        ensures wide { length self.now.register ≡ 8 }
+        ensures bit { result ≡ block_bit (C.encrypted cipher.now
             (block_of_bits (bits_of_bytes self.now.register))) 0 }
     {
         are_bytes(&self.register);
@@ -66,6 +67,35 @@ impl BitRegister {
         are_bytes(&self.register);
         let word = u64::from_be_bytes(self.register);
         self.register = ((word << 1) | u64::from(bit)).to_be_bytes();
+    }
+
+    /// As `apply`, since a `usize` may not count all bits of the bytes.
+    pub(crate) fn apply_many<C: BlockCipherEncrypt>(
+        &mut self,
+        direction: Direction,
+        cipher: &C,
+        bytes: &mut [u8],
+        bits: u128,
+    )
+        requires { bits ≤ 8 * length bytes.old }
+        ensures after { (iv : List ℕ) (c : List Bool) → IsCfbBitsAt iv c self.old → IsCfbBitsAt iv
+            (c ++ first_bits bits (ciphertext direction bytes.old bytes.new)) self.new }
+        ensures xored { (iv : List ℕ) (c : List Bool) → IsCfbBitsAt iv c self.old
+            → XorsBitsFrom (length c) (cfb_bits 1 (C.encrypted cipher.now) iv
+            (c ++ first_bits bits (ciphertext direction bytes.old bytes.new)))
+            (first_bits bits (plaintext direction bytes.old bytes.new))
+            (first_bits bits (ciphertext direction bytes.old bytes.new)) }
+        ensures whole { (iv : List ℕ) (p c : List Bool) → IsCfbBitsAt iv c self.old
+            → Cfb1 (C.encrypted cipher.now) iv p c → Cfb1 (C.encrypted cipher.now) iv
+            (p ++ first_bits bits (plaintext direction bytes.old bytes.new))
+            (c ++ first_bits bits (ciphertext direction bytes.old bytes.new)) }
+        ensures rest { drop bits (bits_of_bytes bytes.new) ≡ drop bits (bits_of_bytes bytes.old) }
+    {
+        'bits: for place in 0..bits {
+            let old = bit_at(bytes, place);
+            xor_bit(bytes, place, self.key_bit(cipher));
+            self.advance(direction.ciphertext(old, bit_at(bytes, place)));
+        }
     }
 
     /// Encrypts or decrypts the next bits of the stream in place, the first `bits` bits of the bytes. The
@@ -91,11 +121,7 @@ impl BitRegister {
             (c ++ first_bits bits (ciphertext direction bytes.old bytes.new)) }
         ensures rest { drop bits (bits_of_bytes bytes.new) ≡ drop bits (bits_of_bytes bytes.old) }
     {
-        'bits: for place in 0..bits {
-            let old = bit_at(bytes, place);
-            xor_bit(bytes, place, self.key_bit(cipher));
-            self.advance(direction.ciphertext(old, bit_at(bytes, place)));
-        }
+        self.apply_many(direction, cipher, bytes, bits as u128);
     }
 }
 

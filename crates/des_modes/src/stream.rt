@@ -140,7 +140,7 @@ impl Place {
         direction: Direction,
         cipher: &C,
         bytes: &mut [u8],
-        bits: usize,
+        bits: u128,
     )
         requires { bits ≤ 8 * length bytes.old }
         ensures after { (iv : List ℕ) (c : List Bool) → IsCfbBitPlace iv c self.old
@@ -161,29 +161,8 @@ impl Place {
         let mut register = BitRegister {
             register: self.register,
         };
-        register.apply(direction, cipher, bytes, bits);
+        register.apply_many(direction, cipher, bytes, bits);
         self.register = register.register;
-    }
-
-    // Encrypts or decrypts the bytes that come next by cipher feedback of one bit: byte by byte, since
-    // eight times their number may not fit its type.
-    fn apply_cfb1<C: BlockCipherEncrypt>(
-        &mut self,
-        direction: Direction,
-        cipher: &C,
-        bytes: &mut [u8],
-    )
-        ensures after { (iv : List ℕ) (c : List Bool) → IsCfbBitPlace iv c self.old
-            → IsCfbBitPlace iv
-            (c ++ bits_of_bytes (ciphertext direction bytes.old bytes.new)) self.new }
-        ensures whole { (iv : List ℕ) (p c : List Bool) → IsCfbBitPlace iv c self.old
-            → Cfb1 (C.encrypted cipher.now) iv p c → Cfb1 (C.encrypted cipher.now) iv
-            (p ++ bits_of_bytes (plaintext direction bytes.old bytes.new))
-            (c ++ bits_of_bytes (ciphertext direction bytes.old bytes.new)) }
-    {
-        'bytes: for i in 0..bytes.len() {
-            self.apply_bits(direction, cipher, &mut bytes[i..i + 1], 8);
-        }
     }
 
     // Encrypts or decrypts the bytes that come next in a mode.
@@ -215,7 +194,7 @@ impl Place {
         match mode {
             Mode::Counter => self.apply_ctr(direction, cipher, bytes),
             Mode::OutputFeedback => self.apply_ofb(direction, cipher, bytes),
-            Mode::BitFeedback => self.apply_cfb1(direction, cipher, bytes),
+            Mode::BitFeedback => self.apply_bits(direction, cipher, bytes, 8 * bytes.len() as u128),
             Mode::CipherFeedback(segment) => self.apply_cfb(direction, segment, cipher, bytes),
         }
     }
@@ -348,6 +327,7 @@ impl Stream {
             (c ++ first_bits bits (ciphertext direction bytes.old bytes.new)) self.new }
         ensures rest { drop bits (bits_of_bytes bytes.new) ≡ drop bits (bits_of_bytes bytes.old) }
     {
-        self.place.apply_bits(direction, cipher, bytes, bits);
+        self.place
+            .apply_bits(direction, cipher, bytes, bits as u128);
     }
 }

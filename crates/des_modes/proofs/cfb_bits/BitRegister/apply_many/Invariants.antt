@@ -1,12 +1,12 @@
 -- The bits before the index are done, and those from it on are as they were.
-use Rattle.std.proofs.Common.{◌≡◌, ℕ, false, List, length}
+use Rattle.std.proofs.Common.{ℕ, false, List}
 use Rattle.des.specs.Bits.{bits_of_bytes, xor}
 use Rattle.des_modes.specs.CfbBits.{cfb_bits}
 use Rattle.des_modes.specs.States.{IsCfbBitsAt}
 use Rattle.des_modes.proofs.Pieces.{Directed, InPlace, ByText}
-use Rattle.des_modes.proofs.cfb_bits.BitRegister.apply.Given as goal
+use Rattle.des_modes.proofs.cfb_bits.BitRegister.apply_many.Given as goal
 
 abbrev pub invariant-bits : goal.invariant-bits
-invariant-bits g l = (iv : List ℕ) → length (bits_of_bytes iv) ≡ 64 → InPlace (Directed l.direction (ByText xor false
-    (IsCfbBitsAt iv) (cfb_bits 1 (g.C.BlockCipherEncrypt.encrypted l.cipher) iv) l.initial.self l.self)) l.place
+invariant-bits g l = (iv : List ℕ) → InPlace (Directed l.direction (ByText xor false (IsCfbBitsAt iv)
+    (cfb_bits 1 (g.C.BlockCipherEncrypt.encrypted l.cipher) iv) l.initial.self l.self)) l.place
     (bits_of_bytes l.initial.bytes) (bits_of_bytes l.bytes)

@@ -1,0 +1,43 @@
+-- A bit more.
+use Rattle.std.proofs.Common.{◌≡◌, ℕ, ◌<◌, Bool, false, List, [], length, get_or, refl, ap, ap₂, ◌∙◌, arith}
+use Rattle.std.proofs.lemmas.List.{get_or-set_same}
+use Rattle.des.specs.Bits.{bits_of_bytes, xor}
+use Rattle.des.specs.Laws.BitLists.{length-bits_of_bytes}
+use Rattle.des_modes.specs.CfbBits.{first_bits}
+use Rattle.des_modes.specs.Directions.{ciphertext}
+use Rattle.des_modes.proofs.Pieces.{ByText-begun, ByText-directed, texts-map, InPlace-set, Xors-whole}
+use Rattle.des_modes.proofs.CfbPlaces.{ByText-bit_directed, cfb_bits-front}
+use Rattle.des_modes.proofs.cfb_bits.BitRegister.apply_many.Goals as goal
+
+pub bits-init : goal.bits-init
+bits-init g c iv = record { done = ByText-begun c.args.direction c.args.self.now; rest = refl }
+
+pub bits-preserved : goal.bits-preserved
+bits-preserved g c iv =
+    let E : List ℕ → List ℕ = g.C.BlockCipherEncrypt.encrypted c.args.cipher.now in
+    let place : ℕ = c.bits.place in
+    let now : List Bool = bits_of_bytes c.bits.bytes in
+    let within : place < length now = omega (arith, length-bits_of_bytes c.bits.bytes) in
+    let written : c.bit_at.result ≡ xor (get_or now place false) c.key_bit.result =
+    c.bit_at.ensures ∙ ap (λ (bits : List Bool). get_or bits place false) c.xor_bit.ensures ∙ get_or-set_same now place _ false within in
+    let bit : c.ciphertext.result ≡ ciphertext c.args.direction (get_or now place false) (xor (get_or now place false) c.key_bit.result) =
+    c.ciphertext.ensures ∙ ap₂ (ciphertext c.args.direction) c.bit_at-old.ensures written in
+    InPlace-set _ false c.xor_bit.ensures within
+    (λ done. ByText-directed c.args.direction _ _ _ _ (λ t at. cfb_bits-front E iv t c.bits.self.register c.key_bit.ensures.wide at) done
+    (ByText-bit_directed E iv c.bits.self c.advance.new.self c.args.direction _ _ c.key_bit.ensures.wide (rw bit at c.advance.ensures)
+    (ap (xor (get_or now place false)) c.key_bit.ensures.bit))) (c.bits.invariant iv)
+
+pub returns : goal.returns
+returns g c =
+    let E : List ℕ → List ℕ = g.C.BlockCipherEncrypt.encrypted c.args.cipher.now in
+    let all : c.bits.place ≡ c.args.bits = omega arith in
+    let so_far = λ (iv : List ℕ). rw all at (c.bits.invariant iv) in
+    let texts = texts-map (first_bits c.args.bits) c.args.direction c.args.bytes.now c.bits.bytes in
+    record {
+      after = λ iv d is. rw texts.1 ((so_far iv).done.goes d is).0;
+      xored = λ iv d is. rw (texts.0, texts.1) ((so_far iv).done.goes d is).1;
+      whole = λ iv p d is begun.
+          rw (texts.0, texts.1)
+          (Xors-whole (cfb_bits-front E iv d c.args.self.now.register (omega arith) is) begun ((so_far iv).done.goes d is).1);
+      rest = (so_far []).rest;
+    }
