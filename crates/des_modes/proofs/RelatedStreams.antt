@@ -3,10 +3,11 @@
 use Rattle.std.proofs.Common.{◌≡◌, ℕ, Bool, zero, suc, ◌+◌, ◌*◌, ◌<◌, ◌≤◌, List, ◌++◌, length, drop, refl, sym, ap, arith, add-one, length-append, length-drop, length-take-le, ◌-◌, ◌/◌, ◌%◌, ◌==◌, get_or, bit_xor, ap₂, ◌∙◌}
 use Rattle.std.proofs.lemmas.List.Elements.{All-append, All-take, All-drop}
 use Rattle.des.specs.Blocks.{AreBytes, IsBlock, block_of_bits}
-use Rattle.des.specs.Relations.{IsGraphOf}
+use Rattle.des.specs.Relations.{IsGraphOf, TakesBlock}
 use Rattle.des.specs.Laws.BlockBits.{IsBlock-block_of_bits, IsBlock-to_be_bytes, block_of_bits-bits_of_bytes}
 use Rattle.des_modes.specs.Cfb.{input_block, Cfb}
 use Rattle.des_modes.specs.CfbBits.{CfbBits, XorsBitsFrom, cfb_bits, input_bits, block_bit}
+use Rattle.des_modes.specs.Streams.{Xors, Under}
 use Rattle.des_modes.specs.Ofb.{Ofb, OfbUnder, output_before, output_block}
 use Rattle.des_modes.specs.Ctr.{Ctr, CtrUnder, counter_block}
 use Rattle.std.proofs.Math.Nat.{div-div-eq-div-mul, div-add-mod, mul-add-mod_self_left, mod-lt, mul_assoc, mod-eq_of_lt, mul-div-le}
@@ -27,14 +28,19 @@ IsBlock-input_block s iv c j is_iv are_bytes begun =
       All-take (λ byte. byte < 256) 8 (drop (s * j) (iv ++ c)) (All-drop (λ byte. byte < 256) (s * j) (iv ++ c) all),
     )
 
+-- by the graph of an encryption, which makes these output blocks
+pub Under-from : {X : Type 0} {op : X → X → X} {none : X} {element : List ℕ → ℕ → X} {k : ℕ} {inputs : (ℕ → List ℕ) → ℕ → List ℕ}
+    {Answers : List ℕ → List ℕ → Type 0} {p c : List X} (encryption : List ℕ → List ℕ) (outputs : ℕ → List ℕ)
+    → IsGraphOf encryption Answers → ((j : ℕ) → TakesBlock encryption (inputs outputs j) (outputs j))
+    → Xors op none 0 (λ i. element (outputs (i / k)) (i % k)) p c → Under op none element k inputs Answers p c
+Under-from encryption outputs graph made xored =
+    record { outputs = outputs; answered = λ j below. (graph _ _).1 (made j); xored = xored }
+
 pub CfbBits-from_bits : (Answers : List ℕ → List ℕ → Type 0) (encryption : List ℕ → List ℕ) (k : ℕ) (iv : List ℕ)
     (p c : List Bool) → IsGraphOf encryption Answers → XorsBitsFrom 0 (cfb_bits k encryption iv c) p c
     → CfbBits Answers k iv p c
-CfbBits-from_bits Answers encryption k iv p c graph xored = record {
-  outputs = λ j. encryption (input_bits k iv c j);
-  answered = λ j below. (graph (input_bits k iv c j) (encryption (input_bits k iv c j))).1 (IsBlock-block_of_bits _, refl);
-  xored = xored;
-}
+CfbBits-from_bits Answers encryption k iv p c graph xored =
+    Under-from encryption (λ j. encryption (input_bits k iv c j)) graph (λ j. (IsBlock-block_of_bits _, refl)) xored
 
 -- so are the output blocks
 pub IsBlock-output_block : (encryption : List ℕ → List ℕ) (iv : List ℕ) (j : ℕ) → IsBlock iv
@@ -51,23 +57,10 @@ before encryption iv (suc j) = ap (output_block encryption iv) (add-one j)
 pub OfbUnder-from_Ofb : (Answers : List ℕ → List ℕ → Type 0) (encryption : List ℕ → List ℕ) (iv p c : List ℕ)
     → IsGraphOf encryption Answers → IsBlock iv → ((block : List ℕ) → IsBlock block → IsBlock (encryption block))
     → Ofb encryption iv p c → OfbUnder Answers iv p c
-OfbUnder-from_Ofb Answers encryption iv p c graph is_iv makes_blocks ofb = record {
-  outputs = λ j. output_block encryption iv (j + 1);
-  answered = λ j below.
-      rw (before encryption iv j)
-      ((graph (output_block encryption iv j) (output_block encryption iv (j + 1))).1
-      (IsBlock-output_block encryption iv j is_iv makes_blocks, ap (output_block encryption iv) (sym (add-one j))));
-  xored = ofb;
-}
-
-pub CtrUnder-from_Ctr : (Answers : List ℕ → List ℕ → Type 0) (encryption : List ℕ → List ℕ) (t p c : List ℕ)
-    → IsGraphOf encryption Answers → Ctr encryption t p c → CtrUnder Answers t p c
-CtrUnder-from_Ctr Answers encryption t p c graph ctr = record {
-  outputs = λ j. encryption (counter_block t j);
-  answered = λ j below.
-      (graph (counter_block t j) (encryption (counter_block t j))).1 (IsBlock-to_be_bytes _, refl);
-  xored = ctr;
-}
+OfbUnder-from_Ofb Answers encryption iv p c graph is_iv makes_blocks ofb =
+    Under-from encryption (λ j. output_block encryption iv (j + 1)) graph
+    (λ j. rw (before encryption iv j)
+    (IsBlock-output_block encryption iv j is_iv makes_blocks, ap (output_block encryption iv) (sym (add-one j)))) ofb
 
 -- the register before a segment, in bits
 input_bits-bits : (s k : ℕ) (iv c : List ℕ) (j : ℕ) → k ≡ 8 * s → IsBlock iv → AreBytes c → s * j ≤ length c

@@ -7,14 +7,15 @@ use Rattle.des.specs.Relations.{AnswerAlike, IsGraphOf}
 use Rattle.des.specs.Laws.BlockBits.{IsBlock-block_of_bits, IsBlock-to_be_bytes}
 use Rattle.des_modes.specs.CfbBits.{Cfb1, block_bit}
 use Rattle.des_modes.specs.Modes.{InMode, InModeUnder, mode_by}
+use Rattle.des_modes.specs.Ctr.{counter_block}
 use Rattle.des_modes.specs.Ofb.{output_block}
-use Rattle.des_modes.specs.StreamStates.{IsBitStreamAt, IsPlace, IsSound, IsStreamAt}
+use Rattle.des_modes.specs.StreamStates.{IsBitStreamAt, IsPlace, IsStreamAt, size_of}
 use Rattle.des_modes.specs.declared.modes.Mode.{Mode}
 use Rattle.des_modes.specs.declared.modes.Mode.TheVariants.{Counter, OutputFeedback, BitFeedback, CipherFeedback}
 use Rattle.des_modes.specs.declared.stream.Place.{Place}
 use Rattle.des_modes.specs.declared.stream.Stream.{Stream}
-use Rattle.des_modes.proofs.RelatedStreams.{XorsBitsFrom-from_Cfb, CfbBits-from_bits, CtrUnder-from_Ctr, IsBlock-input_block, IsBlock-output_block, OfbUnder-from_Ofb}
-use Rattle.des_modes.proofs.StreamPlaces.{IsSound-by}
+use Rattle.des_modes.proofs.RelatedStreams.{XorsBitsFrom-from_Cfb, CfbBits-from_bits, Under-from, IsBlock-input_block, IsBlock-output_block, OfbUnder-from_Ofb}
+use Rattle.des_modes.proofs.StreamPlaces.{size_of-mode_by}
 use Rattle.des_modes.proofs.Pieces.{Xors-other}
 
 module _ (e f : List ℕ → List ℕ) (alike : AnswerAlike e f) where
@@ -77,9 +78,10 @@ module _ (e f : List ℕ → List ℕ) (alike : AnswerAlike e f) where
   }
 
 pub InModeUnder-from : (mode : Mode) (Answers : List ℕ → List ℕ → Type 0) (encryption : List ℕ → List ℕ) (iv p c : List ℕ)
-    → IsSound mode → IsGraphOf encryption Answers → ((block : List ℕ) → IsBlock block → IsBlock (encryption block))
+    → (1 ≤ size_of mode) × (size_of mode ≤ 8) → IsGraphOf encryption Answers → ((block : List ℕ) → IsBlock block → IsBlock (encryption block))
     → IsBlock iv → AreBytes c → InMode mode encryption iv p c → InModeUnder mode Answers iv p c
-InModeUnder-from Counter Answers e iv p c sound graph makes is_iv bytes made = CtrUnder-from_Ctr Answers e iv p c graph made
+InModeUnder-from Counter Answers e iv p c sound graph makes is_iv bytes made =
+    Under-from e (λ j. e (counter_block iv j)) graph (λ j. (IsBlock-to_be_bytes _, refl)) made
 InModeUnder-from OutputFeedback Answers e iv p c sound graph makes is_iv bytes made =
     OfbUnder-from_Ofb Answers e iv p c graph is_iv makes made
 InModeUnder-from BitFeedback Answers e iv p c sound graph makes is_iv bytes made =
@@ -113,5 +115,5 @@ module _ (e k : List ℕ → List ℕ) (alike : AnswerAlike e k) (makes : (block
       (stream : Stream) → IsStreamAt number k iv p c stream → InModeUnder (mode_by number) Answers iv p c
   InModeUnder-by_key Answers graph number iv p c stream is =
       let same = IsStreamAt-alike k e back number iv p c stream makes_too is in
-      InModeUnder-from (mode_by number) Answers e iv p c (IsSound-by number (rw (← is.is_mode) is.begun.1)) graph makes
+      InModeUnder-from (mode_by number) Answers e iv p c (size_of-mode_by number (rw (← is.is_mode) is.begun.1)) graph makes
       is.is_block is.are_bytes same.made

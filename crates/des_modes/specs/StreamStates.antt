@@ -1,5 +1,5 @@
 -- How far a stream has come, in words: what is behind, the bytes p that became the bytes c.
-use Rattle.std.specs.Prelude.{⊤, ◌≡◌, ℕ, ◌<◌, ◌≤◌, Bool, List, length}
+use Rattle.std.specs.Prelude.{◌≡◌, ℕ, ◌<◌, Bool, List, length}
 use Rattle.std.specs.Int.{w64, from_be_bytes}
 use Rattle.des.specs.Bits.{bits_of_bytes}
 use Rattle.des.specs.Blocks.{AreBytes, IsBlock}
@@ -18,11 +18,6 @@ abbrev pub size_of : Mode → ℕ
 size_of BitFeedback = 1
 size_of (CipherFeedback s) = s
 size_of mode = 8
-
--- a segment has 1 to 8 bytes
-abbrev pub IsSound : Mode → Type 0
-IsSound (CipherFeedback s) = (1 ≤ s) × (s ≤ 8)
-IsSound mode = ⊤
 
 -- the words are those of a stream that has begun, of this mode or of any
 abbrev pub IsInMode : Mode → Stream → Type 0

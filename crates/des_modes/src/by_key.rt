@@ -9,14 +9,41 @@ ghost use Rattle.des.specs.Blocks.{IsBlock};
 ghost use Rattle.des_modes.specs.CfbBits.{CfbBits, first_bits};
 ghost use Rattle.des_modes.specs.CmsKeyWrap.{WrapsUnder};
 ghost use Rattle.des_modes.specs.Ctr.{CtrUnder};
+ghost use Rattle.des_modes.specs.Directions.{plaintext, ciphertext};
+ghost use Rattle.des_modes.specs.Modes.{InModeUnder};
 ghost use Rattle.des_modes.specs.Ofb.{OfbUnder};
+ghost use Rattle.des_modes.specs.StreamStates.{size_of};
 ghost use Rattle.des_modes.specs.Tkw.{IsSemiblock, TkwUnder};
 
+use crate::direction::Direction;
 use crate::lists::ByLists;
+use crate::modes::Mode;
+use crate::stream::Place;
 use crate::unwrap_error::UnwrapError;
-use crate::{cfb, cfb_bits, cms_key_wrap, ctr, ofb, tkw};
+use crate::{cfb_bits, cms_key_wrap, tkw};
 use des::cipher::{Relating, are_bytes};
 use des_fast::many::{ManyBlocks, Slice};
+
+// Encrypts or decrypts a text in place in a mode.
+fn apply_by<C: ManyBlocks, S: Slice>(
+    cipher: &C,
+    no_tables: bool,
+    direction: Direction,
+    mode: Mode,
+    iv: &[u8; 8],
+    bytes: &mut [u8],
+)
+    requires some { 1 ≤ size_of mode }
+    requires short { size_of mode ≤ 8 }
+    ensures { (key : List ℕ) → C.is_made_from cipher.now key → InModeUnder mode (C.relation key) iv.now
+        (plaintext direction bytes.old bytes.new) (ciphertext direction bytes.old bytes.new) }
+{
+    are_bytes(iv);
+    are_bytes(bytes);
+    let cipher = ByLists::<C, S>::new(cipher, no_tables);
+    Place::new(iv).apply(direction, mode, &cipher, bytes);
+    are_bytes(bytes);
+}
 
 /// Encrypts or decrypts a text in place by the counter mode, as `ctr::apply` does.
 pub fn apply_ctr<C: ManyBlocks, S: Slice>(
@@ -28,7 +55,14 @@ pub fn apply_ctr<C: ManyBlocks, S: Slice>(
     ensures { (key : List ℕ) → C.is_made_from cipher.now key
         → CtrUnder (C.relation key) block.now bytes.old bytes.new }
 {
-    ctr::apply(&ByLists::<C, S>::new(cipher, no_tables), block, bytes);
+    apply_by::<C, S>(
+        cipher,
+        no_tables,
+        Direction::Encrypt,
+        Mode::Counter,
+        block,
+        bytes,
+    );
 }
 
 /// Encrypts or decrypts a text in place by output feedback, as `ofb::apply` does.
@@ -41,8 +75,14 @@ pub fn apply_ofb<C: ManyBlocks, S: Slice>(
     ensures { (key : List ℕ) → C.is_made_from cipher.now key
         → OfbUnder (C.relation key) iv.now bytes.old bytes.new }
 {
-    are_bytes(iv);
-    ofb::apply(&ByLists::<C, S>::new(cipher, no_tables), iv, bytes);
+    apply_by::<C, S>(
+        cipher,
+        no_tables,
+        Direction::Encrypt,
+        Mode::OutputFeedback,
+        iv,
+        bytes,
+    );
 }
 
 /// Encrypts a text in place by cipher feedback with segments of `segment` bytes, as `cfb::encrypt` does.
@@ -58,9 +98,14 @@ pub fn encrypt_cfb<C: ManyBlocks, S: Slice>(
     ensures { (key : List ℕ) → C.is_made_from cipher.now key → CfbBits (C.relation key) (8 * segment)
         iv.now (bits_of_bytes bytes.old) (bits_of_bytes bytes.new) }
 {
-    are_bytes(iv);
-    cfb::encrypt(&ByLists::<C, S>::new(cipher, no_tables), iv, segment, bytes);
-    are_bytes(bytes);
+    apply_by::<C, S>(
+        cipher,
+        no_tables,
+        Direction::Encrypt,
+        Mode::CipherFeedback(segment),
+        iv,
+        bytes,
+    );
 }
 
 /// Decrypts a text in place by cipher feedback with segments of `segment` bytes, as `cfb::decrypt` does.
@@ -76,9 +121,14 @@ pub fn decrypt_cfb<C: ManyBlocks, S: Slice>(
     ensures { (key : List ℕ) → C.is_made_from cipher.now key → CfbBits (C.relation key) (8 * segment)
         iv.now (bits_of_bytes bytes.new) (bits_of_bytes bytes.old) }
 {
-    are_bytes(iv);
-    are_bytes(bytes);
-    cfb::decrypt(&ByLists::<C, S>::new(cipher, no_tables), iv, segment, bytes);
+    apply_by::<C, S>(
+        cipher,
+        no_tables,
+        Direction::Decrypt,
+        Mode::CipherFeedback(segment),
+        iv,
+        bytes,
+    );
 }
 
 /// Encrypts the first `bits` bits of the bytes in place by cipher feedback of one bit, as

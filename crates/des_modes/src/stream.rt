@@ -9,7 +9,7 @@ ghost use Rattle.des_modes.specs.Ctr.{Ctr};
 ghost use Rattle.des_modes.specs.Directions.{plaintext, ciphertext};
 ghost use Rattle.des_modes.specs.Modes.{InMode, IsMode};
 ghost use Rattle.des_modes.specs.Ofb.{Ofb};
-ghost use Rattle.des_modes.specs.StreamStates.{HasBegun, IsBitStreamAt, IsCfbBitPlace, IsInMode, IsPlace, IsSound, IsStreamAt, size_of};
+ghost use Rattle.des_modes.specs.StreamStates.{HasBegun, IsBitStreamAt, IsCfbBitPlace, IsInMode, IsPlace, IsStreamAt, size_of};
 ghost use Rattle.des_modes.specs.declared.modes.Mode.TheVariants.{BitFeedback, CipherFeedback, Counter as CounterMode, OutputFeedback};
 ghost use Rattle.des_modes.specs.declared.modes.TheConstants.{CFB1, CTR};
 
@@ -38,7 +38,7 @@ pub struct Place {
 
 impl Place {
     // The beginning of a stream, or the place behind eight bytes of ciphertext.
-    fn new(register: &[u8; 8]) -> Place
+    pub(crate) fn new(register: &[u8; 8]) -> Place
         ensures register { result.register ≡ register.now }
         ensures used { result.used ≡ 0 }
     {
@@ -166,14 +166,14 @@ impl Place {
     }
 
     // Encrypts or decrypts the bytes that come next in a mode.
-    fn apply<C: BlockCipherEncrypt>(
+    pub(crate) fn apply<C: BlockCipherEncrypt>(
         &mut self,
         direction: Direction,
         mode: Mode,
         cipher: &C,
         bytes: &mut [u8],
     )
-        requires sound { IsSound mode }
+        requires short { size_of mode ≤ 8 }
         requires fits { self.old.used < size_of mode }
         ensures after { (iv c : List ℕ) → IsPlace mode (C.encrypted cipher.now) iv c self.old
             → IsPlace mode (C.encrypted cipher.now) iv

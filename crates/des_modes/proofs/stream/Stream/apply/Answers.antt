@@ -1,26 +1,36 @@
-use Rattle.std.proofs.Common.{refl}
-use Rattle.des.specs.Bits.{bits_of_bytes}
+use Rattle.std.proofs.Common.{◌≡◌, ◌<◌, ap, ◌∙◌, arith}
+use Rattle.std.proofs.lemmas.List.Elements.{All-append}
 use Rattle.des.specs.Blocks.{AreBytes}
-use Rattle.des_modes.specs.Directions.{plaintext, ciphertext}
+use Rattle.des_modes.specs.Modes.{mode_by}
+use Rattle.des_modes.specs.declared.modes.Mode.TheVariants.{BitFeedback}
 use Rattle.des_modes.proofs.Pieces.{ciphertext-is}
-use Rattle.des_modes.proofs.StreamPlaces.{IsSound-mode, IsStreamAt-more, IsBitStreamAt-more}
+use Rattle.des_modes.proofs.StreamPlaces.{size_of-mode_by, used-fits}
 use Rattle.des_modes.proofs.stream.Stream.apply.Goals as goal
 
-pub apply-requires-clause-sound : goal.apply-requires-clause-sound
-apply-requires-clause-sound g c = IsSound-mode _ c.args.self.now c.requires
+pub apply-requires-clause-short : goal.apply-requires-clause-short
+apply-requires-clause-short g c = rw c.requires.2 (size_of-mode_by c.args.self.now.mode c.requires.1).1
 
 pub returns-clause-bytes : goal.returns-clause-bytes
 returns-clause-bytes g c number iv p d is =
-    let old = c.args.bytes.now in
-    let new = c.apply.new.bytes in
-    IsStreamAt-more number _ _ iv p d (plaintext c.args.direction old new) (ciphertext c.args.direction old new) c.args.self.now _
-    c.requires refl refl (ciphertext-is AreBytes c.args.direction old new c.are_bytes.ensures c.are_bytes-2.ensures) is
-    (c.apply.ensures.after iv d) (c.apply.ensures.made iv p d)
+    let same : c.args.mode ≡ mode_by number = c.requires.2 ∙ ap mode_by is.is_mode in
+    let place = rw (← same) at is.place in
+    let after = c.apply.ensures.after iv d place in record {
+      begun = (c.requires.0, c.requires.1, rw (← c.requires.2) (used-fits c.args.mode _ iv _ _ (omega (arith, c.requires)) after));
+      is_mode = is.is_mode;
+      is_block = is.is_block;
+      are_bytes =
+          All-append (λ byte. byte < 256) d _ is.are_bytes
+          (ciphertext-is AreBytes c.args.direction c.args.bytes.now c.apply.new.bytes c.are_bytes.ensures c.are_bytes-2.ensures);
+      place = rw (← same) after;
+      made = rw (← same) (c.apply.ensures.made iv p d place (rw (← same) at is.made));
+    }
 
 pub returns-clause-bits : goal.returns-clause-bits
 returns-clause-bits g c iv p d is =
-    let old = c.args.bytes.now in
-    let new = c.apply.new.bytes in
-    IsBitStreamAt-more _ _ iv p d (bits_of_bytes (plaintext c.args.direction old new))
-    (bits_of_bytes (ciphertext c.args.direction old new)) c.args.self.now _ c.requires refl refl is
-    (λ same. c.apply.ensures.after_bits same iv d) (λ same. c.apply.ensures.made_bits same iv p d)
+    let same : c.args.mode ≡ BitFeedback = c.requires.2 ∙ ap mode_by is.is_mode in
+    let at = c.apply.ensures.after_bits same iv d is.place in record {
+      begun = (c.requires.0, c.requires.1, rw is.is_mode (omega (arith, at.1)));
+      is_mode = is.is_mode;
+      place = at;
+      made = c.apply.ensures.made_bits same iv p d is.place is.made;
+    }
