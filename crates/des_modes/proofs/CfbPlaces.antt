@@ -1,15 +1,13 @@
 -- The shift register along a ciphertext, by bytes and by bits.
-use Rattle.std.proofs.Common.{◌≡◌, inl, inr, ℕ, ◌+◌, ◌*◌, ◌/◌, ◌%◌, ◌<◌, ◌≤◌, List, [], ◌++◌, length, get_or, take, drop, bit_xor, ap, ap₂, sym, ◌∙◌, arith, append_assoc, length-append, length-drop, false, Bool, ◌∷◌}
-use Rattle.std.proofs.lemmas.Bool.{cases_lt}
-use Rattle.std.proofs.lemmas.List.{drop-drop, drop-append-le, take-append-le, take_all, append-nil}
+use Rattle.std.proofs.Common.{◌≡◌, ℕ, ◌+◌, ◌*◌, ◌/◌, ◌%◌, ◌<◌, ◌≤◌, List, [], ◌++◌, length, get_or, take, drop, bit_xor, ap, ap₂, sym, ◌∙◌, arith, append_assoc, length-append, length-drop, false, Bool, ◌∷◌}
+use Rattle.std.proofs.lemmas.List.{drop-drop, drop-append-le, take-append-le, take_all}
 use Rattle.std.proofs.lemmas.Nat.{div_below}
-use Rattle.std.proofs.Math.Nat.{mul-div-le, mod_self, mod-eq_of_lt, div-add-mod, div-one, mod-one}
+use Rattle.std.proofs.Math.Nat.{mul-div-le, mul-add, mul-add-div, mod-add-mod, mod-eq_of_lt, div-add-mod, div-eq_of_lt, div-one, mod-one}
 use Rattle.des_modes.specs.Streams.{XorsFrom}
 use Rattle.des_modes.specs.Cfb.{input_block, cfb_stream}
 use Rattle.des_modes.specs.States.{CfbAt, IsCfbAt, CfbBitsAt, IsCfbBitsAt}
 use Rattle.des_modes.specs.declared.cfb.Register.{Register}
-use Rattle.des_modes.proofs.Pieces.{GoesByFront, Directed, ByText-directed, ByText, Xors-single, bits_undone}
-use Rattle.des_modes.proofs.Segments.{further-mod, same_segment, same_segment-mod, between-div, between-mod, between-times}
+use Rattle.des_modes.proofs.Pieces.{GoesByFront, Directed, ByText, Xors-single, bits_undone}
 use Rattle.des.specs.Bits.{bits_of_bytes, xor}
 use Rattle.des.specs.Blocks.{block_of_bits}
 use Rattle.des.specs.Laws.BitLists.{length-bits_of_bytes}
@@ -18,7 +16,6 @@ use Rattle.des_modes.specs.declared.cfb_bits.BitRegister.{BitRegister}
 use Rattle.des_modes.specs.Directions.{ciphertext}
 use Rattle.des_modes.specs.declared.direction.Direction.{Direction}
 use Rattle.des_modes.specs.declared.direction.Direction.TheVariants.{Encrypt, Decrypt}
-use Rattle.des_modes.proofs.BitPlaces.{bits-append}
 
 -- what stands behind n + m bytes of IV | C, where C goes on: what stands behind m of the register and
 -- of what C goes on with
@@ -47,133 +44,129 @@ window-front {X} w n iv c more wide begun =
     ∙ ap (take w) (drop-append-le n (iv ++ c) more (omega (arith, size)))
     ∙ take-append-le w (drop n (iv ++ c)) more (omega (arith, size, length-drop n (iv ++ c)))
 
--- the initialization vector has the register's width
-pub length-iv : (s : ℕ) (encryption : List ℕ → List ℕ) (iv c : List ℕ) (state : Register)
-    → length state.register ≡ 8 → IsCfbAt s encryption iv c state → length iv ≡ 8
-length-iv s encryption iv c state wide is =
-    omega (arith, ap length is.register, length-drop (length c) (iv ++ c), length-append iv c)
+-- ---- bytes, from a place behind c on
 
-pub cfb_stream-front : (s : ℕ) (encryption : List ℕ → List ℕ) (iv c : List ℕ) (state : Register) → length state.register ≡ 8
-    → IsCfbAt s encryption iv c state → GoesByFront (cfb_stream s encryption iv)
-cfb_stream-front s encryption iv c state wide is t more i below =
-    ap (λ (block : List ℕ). get_or (encryption block) (i % s) 0)
-    (window-front 8 (s * (i / s)) iv t more (length-iv s encryption iv c state wide is) (omega (arith, mul-div-le i s)))
+module _ (s : ℕ) (E : List ℕ → List ℕ) (iv c : List ℕ) (state : Register) (wide : length state.register ≡ 8)
+    (is : IsCfbAt s E iv c state) where
+  -- the initialization vector has the register's width
+  length-iv : length iv ≡ 8
+  length-iv = omega (arith, ap length is.register, length-drop (length c) (iv ++ c), length-append iv c)
 
--- between segments the register is the one before the next
-pub input_block-next : (s : ℕ) (iv c : List ℕ) → length iv ≡ 8 → length c % s ≡ 0
-    → input_block s iv c (length c / s) ≡ drop (length c) (iv ++ c)
-input_block-next s iv c wide between =
-    let place : s * (length c / s) ≡ length c = omega (arith, div-add-mod (length c) s) in
-    ap (λ (n : ℕ). take 8 (drop n (iv ++ c))) place
-    ∙ take_all 8 (drop (length c) (iv ++ c))
-    (omega (arith, length-drop (length c) (iv ++ c), length-append iv c))
+  pub cfb_stream-front : GoesByFront (cfb_stream s E iv)
+  cfb_stream-front t more i below =
+      ap (λ (block : List ℕ). get_or (E block) (i % s) 0)
+      (window-front 8 (s * (i / s)) iv t more length-iv (omega (arith, mul-div-le i s)))
 
--- bytes further on
-IsCfbAt-further : {size taken : ℕ} {held answer : List ℕ} (s : ℕ) (encryption : List ℕ → List ℕ) (iv c bytes : List ℕ)
-    (old : Register) → IsCfbAt s encryption iv c old → size ≡ old.segment → held ≡ drop (length bytes) (old.register ++ bytes)
-    → taken ≡ (old.used + length bytes) % old.segment
-    → (1 ≤ taken → answer ≡ encryption (input_block s iv (c ++ bytes) ((length c + length bytes) / s)))
-    → CfbAt s encryption iv (c ++ bytes) size held answer taken
-IsCfbAt-further s encryption iv c bytes old is segment shifted used made =
-    let n : ℕ = length c in
-    let size : n + length bytes ≡ length (c ++ bytes) = sym (length-append c bytes) in record {
-      segment = segment ∙ is.segment;
-      register = register-further iv c bytes old.register _ is.register shifted;
-      used =
-          used ∙ ap₂ (λ (m k : ℕ). (m + length bytes) % k) is.used is.segment ∙ sym (further-mod s n (length bytes))
-          ∙ ap (λ (m : ℕ). m % s) size;
-      output = λ some. made some ∙ ap (λ (m : ℕ). encryption (input_block s iv (c ++ bytes) (m / s))) size;
-    }
+  -- the output block of the segment does not depend on what comes
+  same_block : (more : List ℕ) → E (input_block s iv c (length c / s)) ≡ E (input_block s iv (c ++ more) (length c / s))
+  same_block more = ap E (sym (window-front 8 (s * (length c / s)) iv c more length-iv (mul-div-le (length c) s)))
 
--- in a segment
-pub IsCfbAt-within : {size taken : ℕ} {held answer : List ℕ} (s : ℕ) (encryption : List ℕ → List ℕ) (iv c bytes output : List ℕ)
-    (old : Register) → length old.register ≡ 8 → old.used + length bytes ≤ old.segment → IsCfbAt s encryption iv c old
-    → output ≡ encryption (input_block s iv c (length c / s)) → size ≡ old.segment → answer ≡ output
-    → taken ≡ (old.used + length bytes) % old.segment → held ≡ drop (length bytes) (old.register ++ bytes)
-    → CfbAt s encryption iv (c ++ bytes) size held answer taken
-IsCfbAt-within {size} {taken} s encryption iv c bytes output old wide within is made segment kept used shifted =
-    let n : ℕ = length c in
-    IsCfbAt-further s encryption iv c bytes old is segment shifted used (λ some.
-    elim (cases_lt (n % s + length bytes) s) [
-      | inl inside ↦
-          kept ∙ made
-          ∙ ap encryption (sym (window-front 8 (s * (n / s)) iv c bytes (length-iv s encryption iv c old wide is) (mul-div-le n s))
-          ∙ ap (input_block s iv (c ++ bytes)) (sym (same_segment s n (length bytes) inside)))
-      | inr full ↦
-          let end : old.used + length bytes ≡ s = omega (arith, is.used, is.segment) in
-          let none : taken ≡ 0 = used ∙ ap₂ (λ (m k : ℕ). m % k) end is.segment ∙ mod_self s in absurd (omega arith)
-    ])
+  -- between segments the register is the input block of the next
+  pub input_block-next : state.used ≡ 0 → state.register ≡ input_block s iv c (length c / s)
+  input_block-next unused =
+      let place : length c ≡ s * (length c / s) = omega (arith, is.used, div-add-mod (length c) s) in
+      sym (take_all 8 state.register (omega arith)) ∙ ap (take 8) is.register
+      ∙ ap (λ (n : ℕ). take 8 (drop n (iv ++ c))) place
 
--- bytes of a segment under its output block
-pub XorsFrom-within : (s : ℕ) (encryption : List ℕ → List ℕ) (iv c more output old new : List ℕ) (state : Register)
-    → length state.register ≡ 8 → state.used + length old ≤ state.segment → IsCfbAt s encryption iv c state
-    → output ≡ encryption (input_block s iv c (length c / s)) → length new ≡ length old
-    → ((i : ℕ) → i < length old → get_or new i 0 ≡ bit_xor (get_or old i 0) (get_or output (state.used + i) 0))
-    → XorsFrom (length c) (cfb_stream s encryption iv (c ++ more)) old new
-XorsFrom-within s encryption iv c more output old new state wide within is made count xored = record {
-  count = count;
-  xored = λ i below.
-      let n : ℕ = length c in
-      let inside : n % s + i < s = omega (arith, is.used, is.segment) in
-      let byte : state.used + i ≡ (n + i) % s = omega (arith, is.used, same_segment-mod s n i inside) in
-      let block : output ≡ encryption (input_block s iv (c ++ more) ((n + i) / s)) =
-      made
-      ∙ ap encryption (sym (window-front 8 (s * (n / s)) iv c more (length-iv s encryption iv c state wide is) (mul-div-le n s))
-      ∙ ap (input_block s iv (c ++ more)) (sym (same_segment s n i inside))) in
-      xored i below ∙ ap (bit_xor (get_or old i 0)) (ap₂ (λ (xs : List ℕ) (m : ℕ). get_or xs m 0) block byte);
-}
+  -- so is the one before a segment of what comes
+  input_block-beyond : (bytes : List ℕ) (j : ℕ) → state.used ≡ 0
+      → take 8 (drop (state.segment * j) (state.register ++ bytes)) ≡ input_block s iv (c ++ bytes) (length c / s + j)
+  input_block-beyond bytes j unused =
+      let place : length c + s * j ≡ s * (length c / s + j) = omega (arith, is.used, mul-add s (length c / s) j, div-add-mod (length c) s) in
+      ap₂ (λ (m : ℕ) (xs : List ℕ). take 8 (drop (m * j) (xs ++ bytes))) is.segment is.register
+      ∙ ap (take 8) (sym (drop-further iv c bytes (length c) (s * j) (omega (arith, length-append iv c))))
+      ∙ ap (λ (n : ℕ). take 8 (drop n (iv ++ (c ++ bytes)))) place
 
--- ---- from the beginning of a segment on
+  -- i bytes further on
+  segment_at : (i : ℕ) → 1 ≤ s → length c / s + (state.used + i) / s ≡ (length c + i) / s
+  segment_at i some =
+      let split : s * (length c / s) + (state.used + i) ≡ length c + i = omega (arith, is.used, div-add-mod (length c) s) in
+      sym (mul-add-div some (length c / s) (state.used + i)) ∙ ap (λ (m : ℕ). m / s) split
 
--- the register before a segment of what comes
-pub input_block-beyond : (s : ℕ) (iv c bytes : List ℕ) (j : ℕ) → length iv ≡ 8 → length c % s ≡ 0
-    → input_block s iv (c ++ bytes) (length c / s + j) ≡ take 8 (drop (s * j) (drop (length c) (iv ++ c) ++ bytes))
-input_block-beyond s iv c bytes j wide between =
-    ap (λ (n : ℕ). take 8 (drop n (iv ++ (c ++ bytes)))) (between-times s (length c) j between)
-    ∙ ap (take 8) (drop-further iv c bytes (length c) (s * j) (omega (arith, length-append iv c)))
+  place_at : (i : ℕ) → (state.used + i) % s ≡ (length c + i) % s
+  place_at i = ap (λ (m : ℕ). (m + i) % s) is.used ∙ mod-add-mod (length c) s i
 
-pub IsCfbAt-beyond : {size taken : ℕ} {held answer : List ℕ} (s : ℕ) (encryption : List ℕ → List ℕ) (iv c bytes : List ℕ)
-    (old : Register) → 1 ≤ s → length old.register ≡ 8 → old.used ≡ 0 → IsCfbAt s encryption iv c old → size ≡ old.segment
-    → held ≡ drop (length bytes) (old.register ++ bytes) → taken ≡ length bytes % old.segment
-    → (1 ≤ taken → answer ≡ encryption (take 8 (drop (old.segment * (length bytes / old.segment)) (old.register ++ bytes))))
-    → CfbAt s encryption iv (c ++ bytes) size held answer taken
-IsCfbAt-beyond s encryption iv c bytes old some wide between is segment shifted used made =
-    let n : ℕ = length c in
-    let begins : n % s ≡ 0 = sym is.used ∙ between in
-    let place : length bytes ≡ old.used + length bytes = omega arith in
-    IsCfbAt-further s encryption iv c bytes old is segment shifted
-    (used ∙ ap (λ (m : ℕ). m % old.segment) place) (λ there.
-    made there
-    ∙ ap₂ (λ (m : ℕ) (xs : List ℕ). encryption (take 8 (drop (m * (length bytes / m)) (xs ++ bytes)))) is.segment is.register
-    ∙ ap encryption (sym (input_block-beyond s iv c bytes (length bytes / s) (length-iv s encryption iv c old wide is) begins)
-    ∙ ap (input_block s iv (c ++ bytes)) (sym (between-div s n (length bytes) some begins))))
+  IsCfbAt-further : {size taken : ℕ} {held answer : List ℕ} (bytes : List ℕ) → size ≡ state.segment
+      → held ≡ drop (length bytes) (state.register ++ bytes) → taken ≡ (state.used + length bytes) % state.segment
+      → (1 ≤ taken → answer ≡ E (input_block s iv (c ++ bytes) ((length c + length bytes) / s)))
+      → CfbAt s E iv (c ++ bytes) size held answer taken
+  IsCfbAt-further bytes segment shifted used made =
+      let size : length c + length bytes ≡ length (c ++ bytes) = sym (length-append c bytes) in record {
+        segment = segment ∙ is.segment;
+        register = register-further iv c bytes state.register _ is.register shifted;
+        used =
+            used ∙ ap (λ (k : ℕ). (state.used + length bytes) % k) is.segment ∙ place_at (length bytes)
+            ∙ ap (λ (m : ℕ). m % s) size;
+        output = λ some. made some ∙ ap (λ (m : ℕ). E (input_block s iv (c ++ bytes) (m / s))) size;
+      }
 
-pub XorsFrom-beyond : (s : ℕ) (encryption : List ℕ → List ℕ) (iv c bytes new : List ℕ) (blocks : List (List ℕ)) (old : Register)
-    → 1 ≤ s → length old.register ≡ 8 → old.used ≡ 0 → IsCfbAt s encryption iv c old
-    → length bytes ≤ old.segment * length blocks
-    → ((j : ℕ) → j < length blocks
-    → get_or blocks j [] ≡ encryption (take 8 (drop (old.segment * j) (old.register ++ bytes))))
-    → XorsFrom 0 (λ i. get_or (get_or blocks (i / old.segment) []) (i % old.segment) 0) bytes new
-    → XorsFrom (length c) (cfb_stream s encryption iv (c ++ bytes)) bytes new
-XorsFrom-beyond s encryption iv c bytes new blocks old some wide between is enough made xors =
-    let n : ℕ = length c in
-    let begins : n % s ≡ 0 = sym is.used ∙ between in
-    let outputs = rw (is.segment, is.register) at made in
-    let xored = rw is.segment at xors in record {
-      count = xors.count;
-      xored = λ i below.
-          let j : ℕ = i / s in
-          let zero_plus : 0 + i ≡ i = omega arith in
-          let within : i < s * length blocks = rw (← is.segment) (omega arith) in
-          let block : get_or blocks j [] ≡ encryption (input_block s iv (c ++ bytes) ((n + i) / s)) =
-          outputs j (div_below i s (length blocks) some (omega arith))
-          ∙ ap encryption (sym (input_block-beyond s iv c bytes j (length-iv s encryption iv c old wide is) begins)
-          ∙ ap (input_block s iv (c ++ bytes)) (sym (between-div s n i some begins))) in
-          xored.xored i below
-          ∙ ap (λ (m : ℕ). bit_xor (get_or bytes i 0) (get_or (get_or blocks (m / s) []) (m % s) 0)) zero_plus
-          ∙ ap (bit_xor (get_or bytes i 0))
-          (ap₂ (λ (xs : List ℕ) (m : ℕ). get_or xs m 0) block (sym (between-mod s n i begins)));
-    }
+  XorsFrom-outputs : (more old new : List ℕ) (outputs : ℕ → List ℕ) → 1 ≤ s → length new ≡ length old
+      → ((i : ℕ) → i < length old
+      → outputs ((state.used + i) / s) ≡ E (input_block s iv (c ++ more) (length c / s + (state.used + i) / s)))
+      → ((i : ℕ) → i < length old → get_or new i 0
+      ≡ bit_xor (get_or old i 0) (get_or (outputs ((state.used + i) / s)) ((state.used + i) % s) 0))
+      → XorsFrom (length c) (cfb_stream s E iv (c ++ more)) old new
+  XorsFrom-outputs more old new outputs some same made xored = record {
+    count = same;
+    xored = λ i below.
+        xored i below
+        ∙ ap (bit_xor (get_or old i 0)) (ap₂ (λ (xs : List ℕ) (m : ℕ). get_or xs m 0)
+        (made i below ∙ ap (λ (m : ℕ). E (input_block s iv (c ++ more) m)) (segment_at i some)) (place_at i));
+  }
+
+  -- in a segment
+  pub IsCfbAt-within : {size taken : ℕ} {held answer : List ℕ} (bytes output : List ℕ) → 1 ≤ s
+      → output ≡ E (input_block s iv c (length c / s)) → size ≡ state.segment → answer ≡ output
+      → taken ≡ (state.used + length bytes) % state.segment → (1 ≤ taken → state.used + length bytes < state.segment)
+      → held ≡ drop (length bytes) (state.register ++ bytes) → CfbAt s E iv (c ++ bytes) size held answer taken
+  IsCfbAt-within bytes output some made segment kept used inside shifted =
+      IsCfbAt-further bytes segment shifted used (λ more.
+      let within : state.used + length bytes < s = omega (arith, is.segment, inside more) in
+      let here : length c / s ≡ (length c + length bytes) / s = omega (arith, segment_at (length bytes) some, div-eq_of_lt within) in
+      kept ∙ made ∙ same_block bytes ∙ ap (λ (m : ℕ). E (input_block s iv (c ++ bytes) m)) here)
+
+  pub XorsFrom-within : (more output old new : List ℕ) → 1 ≤ s → state.used + length old ≤ state.segment
+      → output ≡ E (input_block s iv c (length c / s)) → length new ≡ length old
+      → ((i : ℕ) → i < length old → get_or new i 0 ≡ bit_xor (get_or old i 0) (get_or output (state.used + i) 0))
+      → XorsFrom (length c) (cfb_stream s E iv (c ++ more)) old new
+  XorsFrom-within more output old new some within made same xored =
+      let inside : (i : ℕ) → i < length old → state.used + i < s = λ i below. omega (arith, is.segment) in
+      XorsFrom-outputs more old new (λ j. output) some same
+      (λ i below.
+      let here : length c / s ≡ length c / s + (state.used + i) / s = omega (arith, div-eq_of_lt (inside i below)) in
+      made ∙ same_block more ∙ ap (λ (m : ℕ). E (input_block s iv (c ++ more) m)) here)
+      (λ i below. xored i below ∙ ap (λ (m : ℕ). bit_xor (get_or old i 0) (get_or output m 0)) (sym (mod-eq_of_lt (inside i below))))
+
+  -- from the beginning of a segment on
+  pub IsCfbAt-beyond : {size taken : ℕ} {held answer : List ℕ} (bytes : List ℕ) → 1 ≤ s → state.used ≡ 0 → size ≡ state.segment
+      → held ≡ drop (length bytes) (state.register ++ bytes) → taken ≡ length bytes % state.segment
+      → (1 ≤ taken → answer ≡ E (take 8 (drop (state.segment * (length bytes / state.segment)) (state.register ++ bytes))))
+      → CfbAt s E iv (c ++ bytes) size held answer taken
+  IsCfbAt-beyond bytes some unused segment shifted used made =
+      let place : length bytes ≡ state.used + length bytes = omega arith in
+      IsCfbAt-further bytes segment shifted (used ∙ ap (λ (m : ℕ). m % state.segment) place) (λ more.
+      made more ∙ ap E (input_block-beyond bytes (length bytes / state.segment) unused)
+      ∙ ap (λ (m : ℕ). E (input_block s iv (c ++ bytes) (length c / s + m))) (ap₂ ◌/◌ place is.segment)
+      ∙ ap (λ (m : ℕ). E (input_block s iv (c ++ bytes) m)) (segment_at (length bytes) some))
+
+  pub XorsFrom-beyond : (bytes new : List ℕ) (blocks : List (List ℕ)) → 1 ≤ s → state.used ≡ 0
+      → length bytes ≤ state.segment * length blocks
+      → ((j : ℕ) → j < length blocks
+      → get_or blocks j [] ≡ E (take 8 (drop (state.segment * j) (state.register ++ bytes))))
+      → XorsFrom 0 (λ i. get_or (get_or blocks (i / state.segment) []) (i % state.segment) 0) bytes new
+      → XorsFrom (length c) (cfb_stream s E iv (c ++ bytes)) bytes new
+  XorsFrom-beyond bytes new blocks some unused enough made xors =
+      let all : length bytes ≤ s * length blocks = rw is.segment at enough in
+      XorsFrom-outputs bytes bytes new (λ j. get_or blocks j []) some xors.count
+      (λ i below.
+      made _ (div_below (state.used + i) s (length blocks) some (omega arith))
+      ∙ ap E (input_block-beyond bytes ((state.used + i) / s) unused))
+      (λ i below.
+      let place : 0 + i ≡ state.used + i = omega arith in
+      xors.xored i below
+      ∙ ap₂ (λ (m k : ℕ). bit_xor (get_or bytes i 0) (get_or (get_or blocks (m / k) []) (m % k) 0)) place is.segment)
+
+-- ---- bits
 
 -- the initialization vector has the register's width
 pub length-iv_bits : (iv : List ℕ) (c : List Bool) (held : List ℕ) → length held ≡ 8 → CfbBitsAt iv c held

@@ -213,16 +213,17 @@ impl Register {
             → XorsFrom (length c) (cfb_stream s (C.encrypted cipher.now) iv (c ++ bytes.old))
             bytes.old bytes.new }
     {
+        let count = bytes.len();
         let mut joined = [0; 8 + 8 * TOGETHER];
-        let inputs = &mut joined[..8 + bytes.len()];
+        let inputs = &mut joined[..8 + count];
         write_joined(inputs, &self.register, bytes);
         let mut blocks = [[0; 8]; TOGETHER];
-        let part = &mut blocks[..count_of(bytes.len(), self.segment)];
+        let part = &mut blocks[..count_of(count, self.segment)];
         write_outputs(cipher, part, inputs, self.segment);
         xor_segments(bytes, part, self.segment);
-        self.register.copy_from_slice(&inputs[bytes.len()..]);
-        self.used = bytes.len() % self.segment;
-        self.output = block_at(part, bytes.len() / self.segment);
+        self.register.copy_from_slice(&inputs[count..]);
+        self.used = count % self.segment;
+        self.output = block_at(part, count / self.segment);
     }
 
     /// Encrypts or decrypts the next bytes of the stream in place. However a text is cut into pieces,

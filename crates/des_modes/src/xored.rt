@@ -36,12 +36,7 @@ pub(crate) fn xor_segments(bytes: &mut [u8], blocks: &[[u8; 8]], segment: usize)
         xor_blocks_from(bytes, blocks, 0);
         return;
     }
-    let mut from = 0;
-    let mut j = 0;
-    'segments: while from < bytes.len() {
-        let count = segment.min(bytes.len() - from);
-        xor_from(&mut bytes[from..from + count], &blocks[j], 0);
-        from += count;
-        j += 1;
+    for (i, byte) in bytes.iter_mut().enumerate() {
+        *byte ^= blocks[i / segment][i % segment];
     }
 }

@@ -1,16 +1,10 @@
--- The bytes before the index are xored, and those from it on are as they were; a segment begins at the index.
-use Rattle.std.proofs.Common.{◌≡◌, ◌-◌, ◌*◌, ◌/◌, ◌%◌, ◌<◌, ◌≤◌, [], length, get_or}
-use Rattle.des_modes.specs.Streams.{XorsFrom}
-use Rattle.des_modes.proofs.Pieces.{InPlace}
+-- The bytes before the index are xored, and those from it on are as they were.
+use Rattle.std.proofs.Common.{◌≡◌, ◌/◌, ◌%◌, ◌<◌, ◌≤◌, ℕ, [], get_or, bit_xor}
 use Rattle.des_modes.proofs.xored.xor_segments.Given as goal
 
-abbrev pub invariant-segments : goal.invariant-segments
-invariant-segments l = record {
-  within : l.from ≤ length l.bytes;
-  counted : l.j ≤ l.from;
-  place : l.from < length l.bytes → l.from ≡ l.j * l.segment;
-  so_far : InPlace (XorsFrom 0 (λ i. get_or (get_or l.blocks (i / l.segment) []) (i % l.segment) 0)) l.from l.initial.bytes l.bytes;
+abbrev pub invariant-loop-i : goal.invariant-loop-i
+invariant-loop-i l = record {
+  xored : (k : ℕ) → k < l.i → get_or l.bytes k 0
+      ≡ bit_xor (get_or l.initial.bytes k 0) (get_or (get_or l.blocks (k / l.segment) []) (k % l.segment) 0);
+  rest : (k : ℕ) → l.i ≤ k → get_or l.bytes k 0 ≡ get_or l.initial.bytes k 0;
 }
-
-abbrev pub decreases-segments : goal.decreases-segments
-decreases-segments l = length l.initial.bytes - l.from

@@ -12,15 +12,13 @@ returns-in-Decrypt-clause-after g c =
     rw c.in-Decrypt.is (λ s iv d is. c.advance-in-Decrypt.ensures s _ iv d is (c.current-output.ensures s iv d is))
 
 pub returns-in-Encrypt-clause-xored : goal.returns-in-Encrypt-clause-xored
-returns-in-Encrypt-clause-xored g c = λ s iv d is.
-    XorsFrom-within s (g.C.BlockCipherEncrypt.encrypted c.args.cipher.now) iv d
-    (ciphertext c.args.direction c.args.bytes.now c.xor_from.new.bytes) c.current-output.result c.args.bytes.now
-    c.xor_from.new.bytes c.args.self.now (omega arith) c.requires is (c.current-output.ensures s iv d is) c.xor_from.auto.bytes
-    c.xor_from.ensures
+returns-in-Encrypt-clause-xored g c s iv d is =
+    XorsFrom-within s _ iv d c.args.self.now (omega arith) is (ciphertext c.args.direction c.args.bytes.now c.xor_from.new.bytes)
+    c.current-output.result c.args.bytes.now c.xor_from.new.bytes (omega (arith, is.segment)) c.requires (c.current-output.ensures s iv d is)
+    c.xor_from.auto.bytes c.xor_from.ensures
 
 pub returns-in-Decrypt-clause-xored : goal.returns-in-Decrypt-clause-xored
-returns-in-Decrypt-clause-xored g c = λ s iv d is.
-    XorsFrom-within s (g.C.BlockCipherEncrypt.encrypted c.args.cipher.now) iv d
-    (ciphertext c.args.direction c.args.bytes.now c.xor_from-in-Decrypt.new.bytes) c.current-output.result c.args.bytes.now
-    c.xor_from-in-Decrypt.new.bytes c.args.self.now (omega arith) c.requires is (c.current-output.ensures s iv d is)
-    c.xor_from-in-Decrypt.auto.bytes c.xor_from-in-Decrypt.ensures
+returns-in-Decrypt-clause-xored g c s iv d is =
+    XorsFrom-within s _ iv d c.args.self.now (omega arith) is (ciphertext c.args.direction c.args.bytes.now c.xor_from-in-Decrypt.new.bytes)
+    c.current-output.result c.args.bytes.now c.xor_from-in-Decrypt.new.bytes (omega (arith, is.segment)) c.requires
+    (c.current-output.ensures s iv d is) c.xor_from-in-Decrypt.auto.bytes c.xor_from-in-Decrypt.ensures
