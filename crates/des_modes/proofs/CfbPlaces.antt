@@ -72,7 +72,8 @@ module _ (s : ℕ) (E : List ℕ → List ℕ) (iv c : List ℕ) (state : Regist
   input_block-beyond : (bytes : List ℕ) (j : ℕ) → state.used ≡ 0
       → take 8 (drop (state.segment * j) (state.register ++ bytes)) ≡ input_block s iv (c ++ bytes) (length c / s + j)
   input_block-beyond bytes j unused =
-      let place : length c + s * j ≡ s * (length c / s + j) = omega (arith, is.used, mul-add s (length c / s) j, div-add-mod (length c) s) in
+      let place : length c + s * j ≡ s * (length c / s + j) =
+      omega (arith, is.used, mul-add s (length c / s) j, div-add-mod (length c) s) in
       ap₂ (λ (m : ℕ) (xs : List ℕ). take 8 (drop (m * j) (xs ++ bytes))) is.segment is.register
       ∙ ap (take 8) (sym (drop-further iv c bytes (length c) (s * j) (omega (arith, length-append iv c))))
       ∙ ap (λ (n : ℕ). take 8 (drop n (iv ++ (c ++ bytes)))) place

@@ -1,5 +1,5 @@
 -- Lists under the xor with a key stream, changed in place, piece after piece, and encrypted or decrypted so.
-use Rattle.std.proofs.Common.{◌≡◌, inl, inr, ℕ, ◌+◌, ◌-◌, ◌<◌, true, false, List, [], ◌∷◌, ◌++◌, length, get_or, bit_xor, refl, ap, ap₂, sym, ◌∙◌, arith, length-append, ◌≤◌, set, take, drop, add-zero, append_assoc, take-add, length-drop, length-take-le, replicate, subst}
+use Rattle.std.proofs.Common.{◌≡◌, inl, inr, ℕ, ◌+◌, ◌-◌, ◌<◌, true, false, List, [], ◌∷◌, ◌++◌, length, get_or, bit_xor, refl, ap, ap₂, sym, ◌∙◌, arith, length-append, ◌≤◌, set, take, drop, append_assoc, take-add, length-drop, length-take-le, replicate, subst}
 use Rattle.std.specs.Int.Bits.{xor_self, xor_assoc, xor_zero_r}
 use Rattle.std.proofs.Math.ListN.{get_or-append}
 use Rattle.std.proofs.lemmas.Bool.{cases_lt}
@@ -78,9 +78,9 @@ module _ {X : Type 0} {op : X → X → X} {d : X} where
   }
 
   -- the ciphertext has one plaintext
-  pub Xors-one : (n : ℕ) (k : ℕ → X) (p other c : List X) → UndoesItself op → Xors op d n k p c → Xors op d n k other c
+  pub Xors-one : {n : ℕ} {k : ℕ → X} {p other c : List X} → UndoesItself op → Xors op d n k p c → Xors op d n k other c
       → p ≡ other
-  Xors-one n k p other c undone first second =
+  Xors-one {n} {k} {p} {other} {c} undone first second =
       let back = Xors-back n k p c undone first in
       let again = Xors-back n k other c undone second in
       ext_get_or d p other (omega (arith, first.count, second.count)) (λ i below.

@@ -4,18 +4,18 @@ use Rattle.std.proofs.Common.{◌≡◌, ℕ, Bool, zero, suc, ◌+◌, ◌*◌,
 use Rattle.std.proofs.lemmas.List.Elements.{All-append, All-take, All-drop}
 use Rattle.des.specs.Blocks.{AreBytes, IsBlock, block_of_bits}
 use Rattle.des.specs.Relations.{IsGraphOf, TakesBlock}
-use Rattle.des.specs.Laws.BlockBits.{IsBlock-block_of_bits, IsBlock-to_be_bytes, block_of_bits-bits_of_bytes}
-use Rattle.des_modes.specs.Cfb.{input_block, Cfb}
+use Rattle.des.specs.Laws.BlockBits.{IsBlock-block_of_bits, block_of_bits-bits_of_bytes}
+use Rattle.des_modes.specs.Cfb.{input_block, cfb_stream, Cfb}
 use Rattle.des_modes.specs.CfbBits.{CfbBits, XorsBitsFrom, cfb_bits, input_bits, block_bit}
 use Rattle.des_modes.specs.Streams.{Xors, Under}
 use Rattle.des_modes.specs.Ofb.{Ofb, OfbUnder, output_before, output_block}
-use Rattle.des_modes.specs.Ctr.{Ctr, CtrUnder, counter_block}
-use Rattle.std.proofs.Math.Nat.{div-div-eq-div-mul, div-add-mod, mul-add-mod_self_left, mod-lt, mul_assoc, mod-eq_of_lt, mul-div-le}
+use Rattle.std.proofs.Math.Arith.{mod-mul}
+use Rattle.std.proofs.Math.Nat.{div-div-eq-div-mul, mod-lt, mul_assoc, mul-div-le}
 use Rattle.std.specs.Int.{bit_at}
 use Rattle.des.specs.Bits.{bits_of_bytes, xor}
 use Rattle.des.specs.Laws.BitLists.{length-bits_of_bytes}
-use Rattle.des.proofs.BitParts.{get_or-bits_of, bit_at-xor}
-use Rattle.des_modes.proofs.BitPlaces.{bits-window, block_bit-of_byte, get_or-bits_of_bytes}
+use Rattle.des.proofs.BitParts.{bit_at-xor}
+use Rattle.des_modes.proofs.BitPlaces.{bits-window, block_bit-at, block_bit-of_byte}
 
 -- the registers are blocks
 pub IsBlock-input_block : (s : ℕ) (iv c : List ℕ) (j : ℕ) → IsBlock iv → AreBytes c → s * j ≤ length c
@@ -63,58 +63,42 @@ OfbUnder-from_Ofb Answers encryption iv p c graph is_iv makes_blocks ofb =
     (IsBlock-output_block encryption iv j is_iv makes_blocks, ap (output_block encryption iv) (sym (add-one j)))) ofb
 
 -- the register before a segment, in bits
-input_bits-bits : (s k : ℕ) (iv c : List ℕ) (j : ℕ) → k ≡ 8 * s → IsBlock iv → AreBytes c → s * j ≤ length c
-    → input_bits k iv (bits_of_bytes c) j ≡ input_block s iv c j
-input_bits-bits s k iv c j same is_iv are_bytes begun =
-    let place : k * j ≡ 8 * (s * j) = ap (λ (m : ℕ). m * j) same ∙ mul_assoc 8 s j in
-    ap block_of_bits (bits-window (s * j) (k * j) iv c (omega (arith, is_iv.0, length-append iv c)) place)
+input_bits-bits : (s : ℕ) (iv c : List ℕ) (j : ℕ) → IsBlock iv → AreBytes c → s * j ≤ length c
+    → input_bits (8 * s) iv (bits_of_bytes c) j ≡ input_block s iv c j
+input_bits-bits s iv c j is_iv are_bytes begun =
+    ap block_of_bits (bits-window (s * j) (8 * s * j) iv c (omega (arith, is_iv.0, length-append iv c)) (mul_assoc 8 s j))
     ∙ block_of_bits-bits_of_bytes (input_block s iv c j) (IsBlock-input_block s iv c j is_iv are_bytes begun)
 
--- the segment of a bit, and its place in it
-segment_of_bit : (s k i : ℕ) → k ≡ 8 * s → i / k ≡ i / 8 / s
-segment_of_bit s k i same = ap (λ (m : ℕ). i / m) same ∙ sym (div-div-eq-div-mul i 8 s)
+-- the place of a bit in its segment
+place_of_bit : (s i : ℕ) → 1 ≤ s → i % (8 * s) ≡ 8 * (i / 8 % s) + i % 8
+place_of_bit s i some =
+    let swapped : 8 * s ≡ s * 8 = omega arith in
+    let digits : i % (s * 8) ≡ (i / 8 % s) * 8 + i % 8 = mod-mul i some (omega arith) in
+    ap (λ (m : ℕ). i % m) swapped ∙ omega arith
 
-place_of_bit : (s k i : ℕ) → 1 ≤ s → k ≡ 8 * s → i % k ≡ 8 * (i / 8 % s) + i % 8
-place_of_bit s k i some same =
-    let positive : 0 < s = omega arith in
-    let b : ℕ = i / 8 in
-    let r : ℕ = 8 * (b % s) + i % 8 in
-    let times : k * (b / s) ≡ 8 * (s * (b / s)) = ap (λ (m : ℕ). m * (b / s)) same ∙ mul_assoc 8 s (b / s) in
-    let whole : s * (b / s) + b % s ≡ b = div-add-mod b s in
-    let less : b % s < s = mod-lt b positive in
-    let sum : k * (b / s) + r ≡ i = omega arith in
-    let below : r < k = omega arith in
-    ap (λ (m : ℕ). m % k) (sym sum) ∙ mul-add-mod_self_left k (b / s) r ∙ mod-eq_of_lt below
-
-pub XorsBitsFrom-from_Cfb : (s k : ℕ) (encryption : List ℕ → List ℕ) (iv p c : List ℕ) → 1 ≤ s → k ≡ 8 * s
-    → IsBlock iv → AreBytes c → ((block : List ℕ) → IsBlock block → IsBlock (encryption block))
-    → s ≤ 8 → Cfb s encryption iv p c
-    → XorsBitsFrom 0 (cfb_bits k encryption iv (bits_of_bytes c)) (bits_of_bytes p) (bits_of_bytes c)
-XorsBitsFrom-from_Cfb s k encryption iv p c some same is_iv are_bytes makes_blocks short cfb = record {
+pub XorsBitsFrom-from_Cfb : (s : ℕ) (E : List ℕ → List ℕ) (iv p c : List ℕ) → 1 ≤ s → s ≤ 8 → IsBlock iv → AreBytes c
+    → ((block : List ℕ) → IsBlock block → IsBlock (E block)) → Cfb s E iv p c
+    → XorsBitsFrom 0 (cfb_bits (8 * s) E iv (bits_of_bytes c)) (bits_of_bytes p) (bits_of_bytes c)
+XorsBitsFrom-from_Cfb s E iv p c some short is_iv are_bytes makes_blocks cfb = record {
   count = omega (arith, length-bits_of_bytes p, length-bits_of_bytes c, cfb.count);
   xored = λ i below.
       let b : ℕ = i / 8 in
-      let r : ℕ = i % 8 in
+      let k : ℕ = 7 - i % 8 in
       let inside : b < length p = omega (arith, length-bits_of_bytes p) in
-      let bit : r < 8 = omega arith in
       let begun : s * (b / s) ≤ length c = omega (arith, mul-div-le b s, cfb.count) in
-      let output : List ℕ = encryption (input_block s iv c (b / s)) in
+      let output : List ℕ = E (input_block s iv c (b / s)) in
       let is_block : IsBlock output = makes_blocks _ (IsBlock-input_block s iv c (b / s) is_iv are_bytes begun) in
-      let positive : 0 < s = omega arith in
-      let inner : b % s < length output = omega (arith, is_block.0, mod-lt b positive) in
       let here : 0 + i ≡ i = omega arith in
       let byte : 0 + b ≡ b = omega arith in
-      let stream : cfb_bits k encryption iv (bits_of_bytes c) (0 + i) ≡ (bit_at (get_or output (b % s) 0) (7 - r) == 1) =
-      ap (cfb_bits k encryption iv (bits_of_bytes c)) here
-      ∙ ap₂ (λ (n m : ℕ). block_bit (encryption (input_bits k iv (bits_of_bytes c) n)) m)
-      (segment_of_bit s k i same) (place_of_bit s k i some same)
-      ∙ ap (λ (block : List ℕ). block_bit (encryption block) (8 * (b % s) + r))
-      (input_bits-bits s k iv c (b / s) same is_iv are_bytes begun)
-      ∙ get_or-bits_of_bytes output (b % s) r (8 * (b % s) + r) refl inner bit
-      ∙ get_or-bits_of 8 (get_or output (b % s) 0) r bit in
+      let stream : cfb_bits (8 * s) E iv (bits_of_bytes c) (0 + i) ≡ (bit_at (get_or output (b % s) 0) k == 1) =
+      ap (cfb_bits (8 * s) E iv (bits_of_bytes c)) here
+      ∙ ap₂ (λ (n m : ℕ). block_bit (E (input_bits (8 * s) iv (bits_of_bytes c) n)) m)
+      (sym (div-div-eq-div-mul i 8 s)) (place_of_bit s i some)
+      ∙ ap (λ (block : List ℕ). block_bit (E block) (8 * (b % s) + i % 8)) (input_bits-bits s iv c (b / s) is_iv are_bytes begun)
+      ∙ block_bit-at output (b % s) (i % 8) _ refl (omega (arith, is_block.0, mod-lt b some)) (omega arith) in
       block_bit-of_byte c i (omega (arith, length-bits_of_bytes p, cfb.count))
-      ∙ ap (λ (x : ℕ). bit_at x (7 - r) == 1) (cfb.xored b inside
-      ∙ ap (λ (m : ℕ). bit_xor (get_or p b 0) (get_or (encryption (input_block s iv c (m / s))) (m % s) 0)) byte)
-      ∙ bit_at-xor (get_or p b 0) (get_or output (b % s) 0) (7 - r)
+      ∙ ap (λ (x : ℕ). bit_at x k == 1) (cfb.xored b inside
+      ∙ ap (λ (m : ℕ). bit_xor (get_or p b 0) (cfb_stream s E iv c m)) byte)
+      ∙ bit_at-xor (get_or p b 0) (get_or output (b % s) 0) k
       ∙ ap₂ xor (sym (block_bit-of_byte p i (omega (arith, length-bits_of_bytes p)))) (sym stream);
 }

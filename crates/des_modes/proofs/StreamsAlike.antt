@@ -1,7 +1,7 @@
 -- Streams under ciphers that answer blocks alike, and by the relation of a key.
 use Rattle.std.proofs.Common.{◌≡◌, ℕ, zero, suc, ◌+◌, ◌*◌, ◌/◌, ◌%◌, ◌≤◌, Bool, List, length, get_or, ap, refl, sym, subst, ◌∙◌, arith}
 use Rattle.std.proofs.Math.Nat.{mul-div-le}
-use Rattle.des.specs.Bits.{bits_of_bytes, xor}
+use Rattle.des.specs.Bits.{bits_of_bytes}
 use Rattle.des.specs.Blocks.{AreBytes, IsBlock}
 use Rattle.des.specs.Relations.{AnswerAlike, IsGraphOf}
 use Rattle.des.specs.Laws.BlockBits.{IsBlock-block_of_bits, IsBlock-to_be_bytes}
@@ -78,7 +78,8 @@ module _ (e f : List ℕ → List ℕ) (alike : AnswerAlike e f) where
   }
 
 pub InModeUnder-from : (mode : Mode) (Answers : List ℕ → List ℕ → Type 0) (encryption : List ℕ → List ℕ) (iv p c : List ℕ)
-    → (1 ≤ size_of mode) × (size_of mode ≤ 8) → IsGraphOf encryption Answers → ((block : List ℕ) → IsBlock block → IsBlock (encryption block))
+    → (1 ≤ size_of mode) × (size_of mode ≤ 8) → IsGraphOf encryption Answers
+    → ((block : List ℕ) → IsBlock block → IsBlock (encryption block))
     → IsBlock iv → AreBytes c → InMode mode encryption iv p c → InModeUnder mode Answers iv p c
 InModeUnder-from Counter Answers e iv p c sound graph makes is_iv bytes made =
     Under-from e (λ j. e (counter_block iv j)) graph (λ j. (IsBlock-to_be_bytes _, refl)) made
@@ -88,7 +89,7 @@ InModeUnder-from BitFeedback Answers e iv p c sound graph makes is_iv bytes made
     CfbBits-from_bits Answers e 1 iv (bits_of_bytes p) (bits_of_bytes c) graph made
 InModeUnder-from (CipherFeedback s) Answers e iv p c sound graph makes is_iv bytes made =
     CfbBits-from_bits Answers e (8 * s) iv (bits_of_bytes p) (bits_of_bytes c) graph
-    (XorsBitsFrom-from_Cfb s (8 * s) e iv p c sound.0 refl is_iv bytes makes sound.1 made)
+    (XorsBitsFrom-from_Cfb s e iv p c sound.0 sound.1 is_iv bytes makes made)
 
 -- a cipher whose encryption takes blocks to blocks and, of them, is that of a key
 module _ (e k : List ℕ → List ℕ) (alike : AnswerAlike e k) (makes : (block : List ℕ) → IsBlock block → IsBlock (e block)) where

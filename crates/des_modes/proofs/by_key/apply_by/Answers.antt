@@ -10,7 +10,8 @@ returns g c key made =
     let E = g.C.BlockCipherEncrypt.encrypted c.args.cipher.now in
     let iv = c.args.iv.now in
     let is_iv : IsBlock iv = (omega arith, c.are_bytes.ensures) in
-    InModeUnder-from c.args.mode _ E iv _ _ (c.requires.some, c.requires.short) (g.met.C.Relating.encrypts_by_relation c.args.cipher.now key made)
+    InModeUnder-from c.args.mode _ E iv _ _ (c.requires.some, c.requires.short)
+    (g.met.C.Relating.encrypts_by_relation c.args.cipher.now key made)
     (g.met.C.BlockCipher.encrypted_is_block c.args.cipher.now) is_iv
     (ciphertext-is AreBytes c.args.direction c.args.bytes.now c.apply.new.bytes c.are_bytes-2.ensures c.are_bytes-3.ensures)
     (rw c.new-cipher.ensures at (c.apply.ensures.made iv [] []

@@ -6,4 +6,4 @@ use Rattle.des_modes.proofs.cfb.encrypt.Goals as goal
 pub returns : goal.returns
 returns g c =
     c.apply.ensures.xored c.args.segment c.args.iv.now []
-    (c.new.ensures (g.C.BlockCipherEncrypt.encrypted c.args.cipher.now) c.args.iv.now [] (zero-mod c.args.segment) (sym (append-nil c.args.iv.now)))
+    (c.new.ensures _ c.args.iv.now [] (zero-mod c.args.segment) (sym (append-nil c.args.iv.now)))

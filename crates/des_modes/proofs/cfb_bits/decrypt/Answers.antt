@@ -1,7 +1,6 @@
 use Rattle.std.proofs.Common.{[], sym}
 use Rattle.std.proofs.lemmas.List.{append-nil}
 use Rattle.des.specs.Bits.{bits_of_bytes}
-use Rattle.des_modes.specs.CfbBits.{first_bits}
 use Rattle.des_modes.proofs.Pieces.{Xors-one, bits_undone}
 use Rattle.des_modes.proofs.cfb_bits.decrypt.Goals as goal
 
@@ -11,6 +10,4 @@ returns-clause-decrypted g c =
     (c.new.ensures c.args.iv.now [] (sym (append-nil (bits_of_bytes c.args.iv.now))))
 
 pub returns-clause-undone : goal.returns-clause-undone
-returns-clause-undone g c = λ text made.
-    Xors-one 0 _ (first_bits c.args.bits c.apply.new.bytes) text (first_bits c.args.bits c.args.bytes.now) bits_undone
-    (returns-clause-decrypted g c) made
+returns-clause-undone g c text made = Xors-one bits_undone (returns-clause-decrypted g c) made

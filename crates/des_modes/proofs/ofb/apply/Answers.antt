@@ -3,8 +3,5 @@ use Rattle.des_modes.proofs.ofb.apply.Goals as goal
 
 pub returns : goal.returns
 returns g c =
-    let applied =
-    c.apply.ensures.applied c.args.iv.now 0 (c.new.ensures (g.C.BlockCipherEncrypt.encrypted c.args.cipher.now)) in record {
-      applied = applied;
-      undone = λ text made. Xors-one 0 _ c.apply.new.bytes text c.args.bytes.now bytes_undone (Xors-back 0 _ _ _ bytes_undone applied) made;
-    }
+    let applied = c.apply.ensures.applied c.args.iv.now 0 (c.new.ensures _) in
+    record { applied = applied; undone = λ text made. Xors-one bytes_undone (Xors-back 0 _ _ _ bytes_undone applied) made }

@@ -14,8 +14,8 @@ returns-in-Decrypt-clause-after g c =
 pub returns-in-Encrypt-clause-xored : goal.returns-in-Encrypt-clause-xored
 returns-in-Encrypt-clause-xored g c s iv d is =
     XorsFrom-within s _ iv d c.args.self.now (omega arith) is (ciphertext c.args.direction c.args.bytes.now c.xor_from.new.bytes)
-    c.current-output.result c.args.bytes.now c.xor_from.new.bytes (omega (arith, is.segment)) c.requires (c.current-output.ensures s iv d is)
-    c.xor_from.auto.bytes c.xor_from.ensures
+    c.current-output.result c.args.bytes.now c.xor_from.new.bytes (omega (arith, is.segment)) c.requires
+    (c.current-output.ensures s iv d is) c.xor_from.auto.bytes c.xor_from.ensures
 
 pub returns-in-Decrypt-clause-xored : goal.returns-in-Decrypt-clause-xored
 returns-in-Decrypt-clause-xored g c s iv d is =

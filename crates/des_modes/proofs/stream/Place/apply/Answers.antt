@@ -1,4 +1,3 @@
-use Rattle.std.proofs.Common.{refl}
 use Rattle.des.specs.Bits.{bits_of_bytes}
 use Rattle.des_modes.specs.Directions.{plaintext, ciphertext}
 use Rattle.des_modes.proofs.BitPlaces.{bits-append, first_bits-all}
