@@ -3,10 +3,10 @@
 ghost use Rattle.std.specs.Prelude.{◌≡◌, ◌≢◌, ◌↔◌, ◌≤◌, ◌*◌, ◌++◌, ℕ, Bool, List, [], length, drop};
 ghost use Rattle.des.specs.Bits.{bits_of_bytes};
 ghost use Rattle.des.specs.Blocks.{AreBytes};
-ghost use Rattle.des_modes.specs.CfbBits.{first_bits};
+ghost use Rattle.des_modes.specs.Cfb.{first_bits};
 ghost use Rattle.des_modes.specs.Ctr.{Ctr};
 ghost use Rattle.des_modes.specs.Modes.{IsMode};
-ghost use Rattle.des_modes.specs.StreamStates.{HasBegun, IsBitStreamAt, IsStreamAt};
+ghost use Rattle.des_modes.specs.States.{HasBegun, IsBitStreamAt, IsStreamAt};
 ghost use Rattle.des_modes.specs.declared.modes.TheConstants.{CFB1, CTR};
 ghost use Rattle.des_context.specs.CipherTypes.{encryption_of};
 ghost use Rattle.des_context.specs.Contexts.{HasMark, IsContextOf, IsSoundIfMarked};

@@ -13,7 +13,7 @@ use Rattle.des.specs.Blocks.{IsBlock}
 use Rattle.des.specs.Laws.BitLists.{length-bits_of, length-bits_of_bytes, bits_of_bytes-to_be, bits_of_bytes-from_be}
 use Rattle.des.specs.Laws.BlockBits.{slice_index-lt}
 use Rattle.des.proofs.BitParts.{get_or-bits_of, bit_at-xor, drop-bits_of, bits_of-or_shl}
-use Rattle.des_modes.specs.CfbBits.{block_bit, first_bits}
+use Rattle.des_modes.specs.Cfb.{block_bit, first_bits}
 use Rattle.des_modes.specs.Directions.{plaintext, ciphertext}
 use Rattle.des_modes.specs.declared.direction.Direction.{Direction}
 use Rattle.des_modes.specs.declared.direction.Direction.TheVariants.{Encrypt, Decrypt}

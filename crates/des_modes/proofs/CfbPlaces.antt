@@ -4,14 +4,13 @@ use Rattle.std.proofs.lemmas.List.{drop-drop, drop-append-le, take-append-le, ta
 use Rattle.std.proofs.lemmas.Nat.{div_below}
 use Rattle.std.proofs.Math.Nat.{mul-div-le, mul-add, mul-add-div, mod-add-mod, mod-eq_of_lt, div-add-mod, div-eq_of_lt, div-one, mod-one}
 use Rattle.des_modes.specs.Streams.{XorsFrom}
-use Rattle.des_modes.specs.Cfb.{input_block, cfb_stream}
+use Rattle.des_modes.specs.Cfb.{block_bit, cfb_bits, cfb_stream, input_block}
 use Rattle.des_modes.specs.States.{CfbAt, IsCfbAt, CfbBitsAt, IsCfbBitsAt}
 use Rattle.des_modes.specs.declared.cfb.Register.{Register}
 use Rattle.des_modes.proofs.Pieces.{GoesByFront, Directed, ByText, Xors-single, bits_undone}
 use Rattle.des.specs.Bits.{bits_of_bytes, xor}
 use Rattle.des.specs.Blocks.{block_of_bits}
 use Rattle.des.specs.Laws.BitLists.{length-bits_of_bytes}
-use Rattle.des_modes.specs.CfbBits.{block_bit, cfb_bits}
 use Rattle.des_modes.specs.declared.cfb_bits.BitRegister.{BitRegister}
 use Rattle.des_modes.specs.Directions.{ciphertext}
 use Rattle.des_modes.specs.declared.direction.Direction.{Direction}

@@ -11,8 +11,7 @@ use Rattle.des.specs.KeySchedule.{c_half, d_half, rotate, shifts_through, round_
 use Rattle.des.specs.Cbc.{xor_blocks}
 use Rattle.des.specs.TripleCiphers.{ede3_encryption}
 use Rattle.des.specs.Rounds.{after_rounds, through_rounds}
-use Rattle.des_modes.specs.Cfb.{Cfb}
-use Rattle.des_modes.specs.CfbBits.{Cfb1, cfb_bits}
+use Rattle.des_modes.specs.Cfb.{Cfb, Cfb1, cfb_bits}
 use Rattle.des_modes.specs.Ctr.{counter_block}
 use Rattle.des_modes.specs.Ofb.{Ofb}
 use Rattle.des_modes.specs.Streams.{Xors}

@@ -5,8 +5,7 @@ use Rattle.std.proofs.lemmas.List.Elements.{All-append, All-take, All-drop}
 use Rattle.des.specs.Blocks.{AreBytes, IsBlock, block_of_bits}
 use Rattle.des.specs.Relations.{IsGraphOf, TakesBlock}
 use Rattle.des.specs.Laws.BlockBits.{IsBlock-block_of_bits, block_of_bits-bits_of_bytes}
-use Rattle.des_modes.specs.Cfb.{input_block, cfb_stream, Cfb}
-use Rattle.des_modes.specs.CfbBits.{CfbBits, XorsBitsFrom, cfb_bits, input_bits, block_bit}
+use Rattle.des_modes.specs.Cfb.{Cfb, CfbBits, XorsBitsFrom, block_bit, cfb_bits, cfb_stream, input_bits, input_block}
 use Rattle.des_modes.specs.Streams.{Xors, Under}
 use Rattle.des_modes.specs.Ofb.{Ofb, OfbUnder, output_before, output_block}
 use Rattle.std.proofs.Math.Arith.{mod-mul}

@@ -9,7 +9,7 @@ use Rattle.des.specs.Bits.{bits_of_bytes}
 use Rattle.des.specs.Blocks.{IsBlock}
 use Rattle.des.specs.Laws.BlockBits.{from_be_bytes-lt}
 use Rattle.des_modes.specs.Modes.{InMode, IsMode, mode_by}
-use Rattle.des_modes.specs.StreamStates.{IsPlace, size_of}
+use Rattle.des_modes.specs.States.{IsPlace, size_of}
 use Rattle.des_modes.specs.declared.modes.Mode.{Mode}
 use Rattle.des_modes.specs.declared.modes.Mode.TheVariants.{Counter, OutputFeedback, BitFeedback, CipherFeedback}
 use Rattle.des_modes.specs.declared.modes.TheConstants.{CTR, OFB, CFB1}

@@ -5,11 +5,11 @@ use Rattle.des.specs.Bits.{bits_of_bytes}
 use Rattle.des.specs.Blocks.{AreBytes, IsBlock}
 use Rattle.des.specs.Relations.{AnswerAlike, IsGraphOf}
 use Rattle.des.specs.Laws.BlockBits.{IsBlock-block_of_bits, IsBlock-to_be_bytes}
-use Rattle.des_modes.specs.CfbBits.{Cfb1, block_bit}
+use Rattle.des_modes.specs.Cfb.{Cfb1, block_bit}
 use Rattle.des_modes.specs.Modes.{InMode, InModeUnder, mode_by}
 use Rattle.des_modes.specs.Ctr.{counter_block}
 use Rattle.des_modes.specs.Ofb.{output_block}
-use Rattle.des_modes.specs.StreamStates.{IsBitStreamAt, IsPlace, IsStreamAt, size_of}
+use Rattle.des_modes.specs.States.{IsBitStreamAt, IsPlace, IsStreamAt, size_of}
 use Rattle.des_modes.specs.declared.modes.Mode.{Mode}
 use Rattle.des_modes.specs.declared.modes.Mode.TheVariants.{Counter, OutputFeedback, BitFeedback, CipherFeedback}
 use Rattle.des_modes.specs.declared.stream.Place.{Place}

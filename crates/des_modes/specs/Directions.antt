@@ -1,5 +1,4 @@
--- The two texts of a call that changes one in place, by its direction, and how many bytes are changed together.
-use Rattle.std.specs.Prelude.{ℕ, zero, suc, ◌-◌, ◌*◌}
+-- The two texts of a call that changes one in place, by its direction.
 use Rattle.des_modes.specs.declared.direction.Direction.{Direction}
 use Rattle.des_modes.specs.declared.direction.Direction.TheVariants.{Encrypt, Decrypt}
 
@@ -12,9 +11,3 @@ plaintext Decrypt old new = new
 abbrev pub ciphertext : {X : Type 0} → Direction → X → X → X
 ciphertext Encrypt old new = new
 ciphertext Decrypt old new = old
-
--- of cipher feedback what is left of a segment, or of ciphertext, if none has begun, 256 segments
-abbrev pub part_at_most : Direction → ℕ → ℕ → ℕ
-part_at_most Encrypt segment used = segment - used
-part_at_most Decrypt segment zero = segment * 256
-part_at_most Decrypt segment (suc used) = segment - suc used

@@ -3,9 +3,7 @@ pub mod Streams
 pub mod Ctr
 pub mod Ofb
 pub mod Cfb
-pub mod CfbBits
 pub mod States
 pub mod Modes
-pub mod StreamStates
 pub mod Tkw
 pub mod CmsKeyWrap

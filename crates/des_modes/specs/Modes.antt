@@ -3,8 +3,7 @@ use Rattle.std.specs.Prelude.{◌⊎◌, ◌≡◌, ◌≤◌, ℕ, ◌+◌, ◌
 use Rattle.des.specs.Bits.{bits_of_bytes}
 use Rattle.des_modes.specs.Ctr.{Ctr, CtrUnder}
 use Rattle.des_modes.specs.Ofb.{Ofb, OfbUnder}
-use Rattle.des_modes.specs.Cfb.{Cfb}
-use Rattle.des_modes.specs.CfbBits.{Cfb1, CfbBits}
+use Rattle.des_modes.specs.Cfb.{Cfb, Cfb1, CfbBits}
 use Rattle.des_modes.specs.declared.modes.Mode.{Mode}
 use Rattle.des_modes.specs.declared.modes.Mode.TheVariants.{Counter, OutputFeedback, BitFeedback, CipherFeedback}
 use Rattle.des_modes.specs.declared.modes.TheConstants.{CTR, OFB, CFB1}

@@ -6,16 +6,16 @@ ghost use Rattle.std.specs.Prelude.{◌≡◌, ◌<◌, ◌≤◌, ◌+◌, ◌*
 ghost use Rattle.std.specs.List.{All};
 ghost use Rattle.des.specs.Bits.{bits_of_bytes};
 ghost use Rattle.des.specs.Blocks.{IsBlock};
-ghost use Rattle.des_modes.specs.CfbBits.{CfbBits, first_bits};
+ghost use Rattle.des_modes.specs.Cfb.{CfbBits, first_bits};
 ghost use Rattle.des_modes.specs.CmsKeyWrap.{WrapsUnder};
 ghost use Rattle.des_modes.specs.Ctr.{CtrUnder};
 ghost use Rattle.des_modes.specs.Directions.{plaintext, ciphertext};
 ghost use Rattle.des_modes.specs.Modes.{InModeUnder};
 ghost use Rattle.des_modes.specs.Ofb.{OfbUnder};
-ghost use Rattle.des_modes.specs.StreamStates.{size_of};
+ghost use Rattle.des_modes.specs.States.{size_of};
 ghost use Rattle.des_modes.specs.Tkw.{IsSemiblock, TkwUnder};
 
-use crate::direction::Direction;
+use crate::direction::Direction::{self, Decrypt, Encrypt};
 use crate::lists::ByLists;
 use crate::modes::Mode;
 use crate::stream::Place;
@@ -55,14 +55,7 @@ pub fn apply_ctr<C: ManyBlocks, S: Slice>(
     ensures { (key : List ℕ) → C.is_made_from cipher.now key
         → CtrUnder (C.relation key) block.now bytes.old bytes.new }
 {
-    apply_by::<C, S>(
-        cipher,
-        no_tables,
-        Direction::Encrypt,
-        Mode::Counter,
-        block,
-        bytes,
-    );
+    apply_by::<C, S>(cipher, no_tables, Encrypt, Mode::Counter, block, bytes);
 }
 
 /// Encrypts or decrypts a text in place by output feedback, as `ofb::apply` does.
@@ -75,14 +68,7 @@ pub fn apply_ofb<C: ManyBlocks, S: Slice>(
     ensures { (key : List ℕ) → C.is_made_from cipher.now key
         → OfbUnder (C.relation key) iv.now bytes.old bytes.new }
 {
-    apply_by::<C, S>(
-        cipher,
-        no_tables,
-        Direction::Encrypt,
-        Mode::OutputFeedback,
-        iv,
-        bytes,
-    );
+    apply_by::<C, S>(cipher, no_tables, Encrypt, Mode::OutputFeedback, iv, bytes);
 }
 
 /// Encrypts a text in place by cipher feedback with segments of `segment` bytes, as `cfb::encrypt` does.
@@ -98,14 +84,8 @@ pub fn encrypt_cfb<C: ManyBlocks, S: Slice>(
     ensures { (key : List ℕ) → C.is_made_from cipher.now key → CfbBits (C.relation key) (8 * segment)
         iv.now (bits_of_bytes bytes.old) (bits_of_bytes bytes.new) }
 {
-    apply_by::<C, S>(
-        cipher,
-        no_tables,
-        Direction::Encrypt,
-        Mode::CipherFeedback(segment),
-        iv,
-        bytes,
-    );
+    let mode = Mode::CipherFeedback(segment);
+    apply_by::<C, S>(cipher, no_tables, Encrypt, mode, iv, bytes);
 }
 
 /// Decrypts a text in place by cipher feedback with segments of `segment` bytes, as `cfb::decrypt` does.
@@ -121,14 +101,8 @@ pub fn decrypt_cfb<C: ManyBlocks, S: Slice>(
     ensures { (key : List ℕ) → C.is_made_from cipher.now key → CfbBits (C.relation key) (8 * segment)
         iv.now (bits_of_bytes bytes.new) (bits_of_bytes bytes.old) }
 {
-    apply_by::<C, S>(
-        cipher,
-        no_tables,
-        Direction::Decrypt,
-        Mode::CipherFeedback(segment),
-        iv,
-        bytes,
-    );
+    let mode = Mode::CipherFeedback(segment);
+    apply_by::<C, S>(cipher, no_tables, Decrypt, mode, iv, bytes);
 }
 
 /// Encrypts the first `bits` bits of the bytes in place by cipher feedback of one bit, as

@@ -1,11 +1,11 @@
 //! Cipher feedback over any block cipher (FIPS 81, cipher feedback mode; NIST SP 800-38A, 6.3), with
 //! segments of one to eight bytes: eight for the feedback of 64 bits, one for that of 8.
 
-ghost use Rattle.std.specs.Prelude.{◌≡◌, ◌<◌, ◌≤◌, ◌+◌, ◌*◌, ◌/◌, ◌%◌, ℕ, List, [], ◌++◌, length, take, drop, slice_index_or};
+ghost use Rattle.std.specs.Prelude.{◌≡◌, ◌<◌, ◌≤◌, ◌+◌, ◌-◌, ◌*◌, ◌/◌, ◌%◌, ℕ, List, [], ◌++◌, length, take, drop, slice_index_or, nat_eq, if◌then◌else◌};
 ghost use Rattle.std.specs.List.{All};
 ghost use Rattle.des_modes.specs.Streams.{XorsFrom};
 ghost use Rattle.des_modes.specs.Cfb.{Cfb, cfb_stream, input_block};
-ghost use Rattle.des_modes.specs.Directions.{plaintext, ciphertext, part_at_most};
+ghost use Rattle.des_modes.specs.Directions.{plaintext, ciphertext};
 
 use crate::direction::Direction;
 use crate::parts::{TakesParts, apply_parts};
@@ -257,7 +257,9 @@ impl TakesParts for Register {
 
     ghost key_stream = { λ encryption s iv c. cfb_stream s encryption iv c };
 
-    ghost limit = { λ direction register. part_at_most direction register.segment register.used };
+    // What is left of a segment, or of ciphertext, if none has begun, 256 segments.
+    ghost limit = { λ direction register. plaintext direction (register.segment - register.used)
+        (if nat_eq register.used 0 then register.segment * 256 else register.segment - register.used) };
 
     fn most(&self, direction: Direction) -> usize {
         match direction {

@@ -4,7 +4,7 @@
 ghost use Rattle.std.specs.Prelude.{◌≡◌, ◌<◌, ◌≤◌, ◌*◌, ◌++◌, ℕ, Bool, List, [], ◌∷◌, length, drop, slice_set};
 ghost use Rattle.des.specs.Bits.{bits_of_bytes, xor};
 ghost use Rattle.des.specs.Blocks.{block_of_bits};
-ghost use Rattle.des_modes.specs.CfbBits.{Cfb1, XorsBitsFrom, block_bit, cfb_bits, first_bits};
+ghost use Rattle.des_modes.specs.Cfb.{Cfb1, XorsBitsFrom, block_bit, cfb_bits, first_bits};
 ghost use Rattle.des_modes.specs.Directions.{plaintext, ciphertext};
 
 use crate::direction::Direction;

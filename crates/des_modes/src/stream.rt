@@ -3,13 +3,12 @@
 ghost use Rattle.std.specs.Prelude.{◌≡◌, ◌<◌, ◌≤◌, ◌+◌, ◌*◌, ◌++◌, ℕ, Bool, List, [], length, drop, IfNone, IfSome};
 ghost use Rattle.des.specs.Bits.{bits_of_bytes};
 ghost use Rattle.des.specs.Blocks.{AreBytes, IsBlock};
-ghost use Rattle.des_modes.specs.Cfb.{Cfb};
-ghost use Rattle.des_modes.specs.CfbBits.{Cfb1, XorsBitsFrom, cfb_bits, first_bits};
+ghost use Rattle.des_modes.specs.Cfb.{Cfb, Cfb1, XorsBitsFrom, cfb_bits, first_bits};
 ghost use Rattle.des_modes.specs.Ctr.{Ctr};
 ghost use Rattle.des_modes.specs.Directions.{plaintext, ciphertext};
 ghost use Rattle.des_modes.specs.Modes.{InMode, IsMode};
 ghost use Rattle.des_modes.specs.Ofb.{Ofb};
-ghost use Rattle.des_modes.specs.StreamStates.{HasBegun, IsBitStreamAt, IsCfbBitPlace, IsInMode, IsPlace, IsStreamAt, size_of};
+ghost use Rattle.des_modes.specs.States.{HasBegun, IsBitStreamAt, IsCfbBitPlace, IsInMode, IsPlace, IsStreamAt, size_of};
 ghost use Rattle.des_modes.specs.declared.modes.Mode.TheVariants.{BitFeedback, CipherFeedback, Counter as CounterMode, OutputFeedback};
 ghost use Rattle.des_modes.specs.declared.modes.TheConstants.{CFB1, CTR};
 

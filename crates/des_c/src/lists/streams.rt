@@ -3,7 +3,7 @@
 ghost use Rattle.std.specs.Prelude.{◌≡◌, ◌≢◌, ◌↔◌, ◌++◌, ℕ, Bool, List};
 ghost use Rattle.des.specs.Bits.{bits_of_bytes};
 ghost use Rattle.des_modes.specs.Modes.{InModeUnder, IsMode, mode_by};
-ghost use Rattle.des_modes.specs.StreamStates.{HasBegun, IsBitStreamAt, IsStreamAt};
+ghost use Rattle.des_modes.specs.States.{HasBegun, IsBitStreamAt, IsStreamAt};
 ghost use Rattle.des_context.specs.CipherTypes.{encryption_of, relation_of};
 ghost use Rattle.des_context.specs.Contexts.{HasMark, IsContextOf, IsSoundIfMarked};
 

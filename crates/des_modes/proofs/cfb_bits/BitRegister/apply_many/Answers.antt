@@ -3,7 +3,7 @@ use Rattle.std.proofs.Common.{◌≡◌, ℕ, ◌<◌, Bool, false, List, [], le
 use Rattle.std.proofs.lemmas.List.{get_or-set_same}
 use Rattle.des.specs.Bits.{bits_of_bytes, xor}
 use Rattle.des.specs.Laws.BitLists.{length-bits_of_bytes}
-use Rattle.des_modes.specs.CfbBits.{first_bits}
+use Rattle.des_modes.specs.Cfb.{first_bits}
 use Rattle.des_modes.specs.Directions.{ciphertext}
 use Rattle.des_modes.proofs.Pieces.{ByText-begun, ByText-directed, texts-map, InPlace-set, Xors-whole}
 use Rattle.des_modes.proofs.CfbPlaces.{ByText-bit_directed, cfb_bits-front}

@@ -1,7 +1,7 @@
 -- The bits before the index are done, and those from it on are as they were.
 use Rattle.std.proofs.Common.{ℕ, false, List}
 use Rattle.des.specs.Bits.{bits_of_bytes, xor}
-use Rattle.des_modes.specs.CfbBits.{cfb_bits}
+use Rattle.des_modes.specs.Cfb.{cfb_bits}
 use Rattle.des_modes.specs.States.{IsCfbBitsAt}
 use Rattle.des_modes.proofs.Pieces.{Directed, InPlace, ByText}
 use Rattle.des_modes.proofs.cfb_bits.BitRegister.apply_many.Given as goal

@@ -1,7 +1,7 @@
 use Rattle.std.proofs.Common.{ℕ, List, ap, sym, ◌∙◌, arith}
 use Rattle.des.specs.Blocks.{IsBlock}
 use Rattle.des.specs.Laws.BlockBits.{block_of_bits-bits_of_bytes}
-use Rattle.des_modes.specs.CfbBits.{block_bit}
+use Rattle.des_modes.specs.Cfb.{block_bit}
 use Rattle.des_modes.proofs.cfb_bits.BitRegister.key_bit.Goals as goal
 
 pub returns-clause-bit : goal.returns-clause-bit
