@@ -17,8 +17,7 @@ use Rattle.des_modes.specs.declared.stream.Place.{Place}
 use Rattle.des_modes.specs.declared.stream.Stream.{Stream}
 use Rattle.des_modes.specs.declared.stream.TheConstants.{MARK}
 
--- CTR, n bytes behind: the counter is that of the block in which byte n stands, of whose output block n modulo 8 bytes
--- are used
+-- CTR, n bytes behind: the counter is that of the block in which byte n stands, of whose output block n modulo 8 are used
 pub record CtrAt (t : List ℕ) (n now taken : ℕ) : Type 0 where
   pub counter : now ≡ (from_be_bytes w64 t + n / 8) % 2 ^ 64
   pub used : taken ≡ n % 8
@@ -26,8 +25,7 @@ pub record CtrAt (t : List ℕ) (n now taken : ℕ) : Type 0 where
 abbrev pub IsCtrAt : List ℕ → ℕ → Counter → Type 0
 IsCtrAt t n state = CtrAt t n state.counter state.used
 
--- OFB, n bytes behind: the block is the last output block that they took from, of which n modulo 8 bytes are used, where
--- 0 stands for all
+-- OFB, n bytes behind: the block is the last output block that they took from, of which n modulo 8 are used, 0 for all
 pub record OfbAt (encryption : List ℕ → List ℕ) (iv : List ℕ) (n : ℕ) (last : List ℕ) (taken : ℕ) : Type 0 where
   pub block : last ≡ output_block encryption iv ((n + 7) / 8)
   pub used : taken ≡ n % 8
@@ -36,8 +34,7 @@ abbrev pub IsOfbAt : (List ℕ → List ℕ) → List ℕ → ℕ → Feedback �
 IsOfbAt encryption iv n state = OfbAt encryption iv n state.block state.used
 
 -- CFB, the ciphertext c behind: the register holds the last eight bytes of IV | C
-pub record CfbAt (s : ℕ) (encryption : List ℕ → List ℕ) (iv c : List ℕ) (size : ℕ) (held answer : List ℕ) (taken : ℕ)
-    : Type 0 where
+pub record CfbAt (s : ℕ) (encryption : List ℕ → List ℕ) (iv c : List ℕ) (size : ℕ) (held answer : List ℕ) (taken : ℕ) : Type 0 where
   pub segment : size ≡ s
   pub register : held ≡ drop (length c) (iv ++ c)
   pub used : taken ≡ length c % s
@@ -61,8 +58,7 @@ size_of mode = 8
 
 -- the words are those of a stream that has begun, of this mode or of any
 abbrev pub IsInMode : Mode → Stream → Type 0
-IsInMode mode stream =
-    (stream.mark ≡ MARK) × IsMode stream.mode × (mode ≡ mode_by stream.mode) × (stream.place.used < size_of mode)
+IsInMode mode stream = (stream.mark ≡ MARK) × IsMode stream.mode × (mode ≡ mode_by stream.mode) × (stream.place.used < size_of mode)
 
 abbrev pub HasBegun : Stream → Type 0
 HasBegun stream = (stream.mark ≡ MARK) × IsMode stream.mode × (stream.place.used < size_of (mode_by stream.mode))

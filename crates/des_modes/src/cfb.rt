@@ -250,7 +250,7 @@ impl Register {
     }
 }
 
-impl TakesParts for Register {
+impl<C: BlockCipherEncrypt> TakesParts<C> for Register {
     ghost use Rattle.des_modes.specs.States.{IsCfbAt};
 
     ghost is_at = { λ encryption s iv c register. IsCfbAt s encryption iv c register };
@@ -268,12 +268,7 @@ impl TakesParts for Register {
         }
     }
 
-    fn apply_part<C: BlockCipherEncrypt>(
-        &mut self,
-        direction: Direction,
-        cipher: &C,
-        bytes: &mut [u8],
-    ) {
+    fn apply_part(&mut self, direction: Direction, cipher: &C, bytes: &mut [u8]) {
         match direction {
             Direction::Decrypt if self.used == 0 => self.decrypt_segments(cipher, bytes),
             _ => self.apply_in_segment(direction, cipher, bytes),

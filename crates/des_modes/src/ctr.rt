@@ -111,7 +111,7 @@ impl Counter {
     }
 }
 
-impl TakesParts for Counter {
+impl<C: BlockCipherEncrypt> TakesParts<C> for Counter {
     ghost use Rattle.des_modes.specs.States.{IsCtrAt};
 
     ghost is_at = { λ encryption s t c counter. IsCtrAt t (length c) counter };
@@ -124,12 +124,7 @@ impl TakesParts for Counter {
         8 * TOGETHER - self.used
     }
 
-    fn apply_part<C: BlockCipherEncrypt>(
-        &mut self,
-        _direction: Direction,
-        cipher: &C,
-        bytes: &mut [u8],
-    ) {
+    fn apply_part(&mut self, _direction: Direction, cipher: &C, bytes: &mut [u8]) {
         let next = self.advanced(bytes.len());
         apply_outputs(cipher, self.counter, self.used, bytes);
         *self = next;

@@ -75,7 +75,7 @@ impl Feedback {
     }
 }
 
-impl TakesParts for Feedback {
+impl<C: BlockCipherEncrypt> TakesParts<C> for Feedback {
     ghost use Rattle.des_modes.specs.States.{IsOfbAt};
 
     ghost is_at = { λ encryption s iv c feedback. IsOfbAt encryption iv (length c) feedback };
@@ -88,12 +88,7 @@ impl TakesParts for Feedback {
         8 - self.used
     }
 
-    fn apply_part<C: BlockCipherEncrypt>(
-        &mut self,
-        _direction: Direction,
-        cipher: &C,
-        bytes: &mut [u8],
-    ) {
+    fn apply_part(&mut self, _direction: Direction, cipher: &C, bytes: &mut [u8]) {
         self.apply_block(cipher, bytes);
     }
 }

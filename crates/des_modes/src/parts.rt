@@ -9,7 +9,7 @@ use crate::direction::Direction;
 use des::cipher::BlockCipherEncrypt;
 
 /// A place in a stream of bytes, which goes on by so many bytes at a time.
-pub(crate) trait TakesParts {
+pub(crate) trait TakesParts<C: BlockCipherEncrypt> {
     // The place behind the ciphertext c, under an encryption, in segments of s bytes.
     ghost is_at: { (List ℕ → List ℕ) → ℕ → List ℕ → List ℕ → Self → Type 0 };
 
@@ -24,12 +24,7 @@ pub(crate) trait TakesParts {
         ensures most { result ≡ limit direction self.now };
 
     /// Encrypts or decrypts the next bytes in place.
-    fn apply_part<C: BlockCipherEncrypt>(
-        &mut self,
-        direction: Direction,
-        cipher: &C,
-        bytes: &mut [u8],
-    )
+    fn apply_part(&mut self, direction: Direction, cipher: &C, bytes: &mut [u8])
         requires some { 1 ≤ length bytes.old }
         requires few { length bytes.old ≤ limit direction self.old }
         ensures after { (s : ℕ) (iv c : List ℕ) → is_at (C.encrypted cipher.now) s iv c self.old
@@ -46,7 +41,7 @@ pub(crate) trait TakesParts {
 }
 
 /// Encrypts or decrypts the bytes that come next in place, a part after another.
-pub(crate) fn apply_parts<P: TakesParts, C: BlockCipherEncrypt>(
+pub(crate) fn apply_parts<C: BlockCipherEncrypt, P: TakesParts<C>>(
     state: &mut P,
     direction: Direction,
     cipher: &C,

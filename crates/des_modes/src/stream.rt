@@ -48,122 +48,6 @@ impl Place {
         }
     }
 
-    // Encrypts or decrypts the bytes that come next by the counter mode.
-    fn apply_ctr<C: BlockCipherEncrypt>(
-        &mut self,
-        direction: Direction,
-        cipher: &C,
-        bytes: &mut [u8],
-    )
-        requires { self.old.used < 8 }
-        ensures after { (iv c : List ℕ) → IsPlace CounterMode (C.encrypted cipher.now) iv c self.old
-            → IsPlace CounterMode (C.encrypted cipher.now) iv
-            (c ++ ciphertext direction bytes.old bytes.new) self.new }
-        ensures made { (iv p c : List ℕ) → IsPlace CounterMode (C.encrypted cipher.now) iv c self.old
-            → Ctr (C.encrypted cipher.now) iv p c → Ctr (C.encrypted cipher.now) iv
-            (p ++ plaintext direction bytes.old bytes.new)
-            (c ++ ciphertext direction bytes.old bytes.new) }
-    {
-        let mut counter = Counter {
-            counter: u64::from_be_bytes(self.register),
-            used: self.used,
-        };
-        apply_parts(&mut counter, direction, cipher, bytes);
-        self.register = counter.counter.to_be_bytes();
-        self.used = counter.used;
-    }
-
-    // Encrypts or decrypts the bytes that come next by output feedback.
-    fn apply_ofb<C: BlockCipherEncrypt>(
-        &mut self,
-        direction: Direction,
-        cipher: &C,
-        bytes: &mut [u8],
-    )
-        requires { self.old.used < 8 }
-        ensures after { (iv c : List ℕ)
-            → IsPlace OutputFeedback (C.encrypted cipher.now) iv c self.old
-            → IsPlace OutputFeedback (C.encrypted cipher.now) iv
-            (c ++ ciphertext direction bytes.old bytes.new) self.new }
-        ensures made { (iv p c : List ℕ)
-            → IsPlace OutputFeedback (C.encrypted cipher.now) iv c self.old
-            → Ofb (C.encrypted cipher.now) iv p c → Ofb (C.encrypted cipher.now) iv
-            (p ++ plaintext direction bytes.old bytes.new)
-            (c ++ ciphertext direction bytes.old bytes.new) }
-    {
-        let mut feedback = Feedback {
-            block: self.register,
-            used: self.used,
-        };
-        apply_parts(&mut feedback, direction, cipher, bytes);
-        self.register = feedback.block;
-        self.used = feedback.used;
-    }
-
-    // Encrypts or decrypts the bytes that come next by cipher feedback.
-    fn apply_cfb<C: BlockCipherEncrypt>(
-        &mut self,
-        direction: Direction,
-        segment: usize,
-        cipher: &C,
-        bytes: &mut [u8],
-    )
-        requires some { 1 ≤ segment }
-        requires short { segment ≤ 8 }
-        requires fits { self.old.used < segment }
-        ensures after { (iv c : List ℕ)
-            → IsPlace (CipherFeedback segment) (C.encrypted cipher.now) iv c self.old
-            → IsPlace (CipherFeedback segment) (C.encrypted cipher.now) iv
-            (c ++ ciphertext direction bytes.old bytes.new) self.new }
-        ensures made { (iv p c : List ℕ)
-            → IsPlace (CipherFeedback segment) (C.encrypted cipher.now) iv c self.old
-            → Cfb segment (C.encrypted cipher.now) iv p c → Cfb segment (C.encrypted cipher.now) iv
-            (p ++ plaintext direction bytes.old bytes.new)
-            (c ++ ciphertext direction bytes.old bytes.new) }
-    {
-        let mut register = Register {
-            register: self.register,
-            output: self.output,
-            segment,
-            used: self.used,
-        };
-        register.apply(direction, cipher, bytes);
-        self.register = register.register;
-        self.output = register.output;
-        self.used = register.used;
-    }
-
-    // Encrypts or decrypts the bits that come next by cipher feedback of one bit.
-    fn apply_bits<C: BlockCipherEncrypt>(
-        &mut self,
-        direction: Direction,
-        cipher: &C,
-        bytes: &mut [u8],
-        bits: u128,
-    )
-        requires { bits ≤ 8 * length bytes.old }
-        ensures after { (iv : List ℕ) (c : List Bool) → IsCfbBitPlace iv c self.old
-            → IsCfbBitPlace iv
-            (c ++ first_bits bits (ciphertext direction bytes.old bytes.new)) self.new }
-        ensures xored { (iv : List ℕ) (c : List Bool) → IsCfbBitPlace iv c self.old
-            → XorsBitsFrom (length c) (cfb_bits 1 (C.encrypted cipher.now) iv
-            (c ++ first_bits bits (ciphertext direction bytes.old bytes.new)))
-            (first_bits bits (plaintext direction bytes.old bytes.new))
-            (first_bits bits (ciphertext direction bytes.old bytes.new)) }
-        ensures whole { (iv : List ℕ) (p c : List Bool) → IsCfbBitPlace iv c self.old
-            → Cfb1 (C.encrypted cipher.now) iv p c → Cfb1 (C.encrypted cipher.now) iv
-            (p ++ first_bits bits (plaintext direction bytes.old bytes.new))
-            (c ++ first_bits bits (ciphertext direction bytes.old bytes.new)) }
-        ensures rest { drop bits (bits_of_bytes bytes.new) ≡ drop bits (bits_of_bytes bytes.old) }
-        ensures used { self.new.used ≡ self.old.used }
-    {
-        let mut register = BitRegister {
-            register: self.register,
-        };
-        register.apply_many(direction, cipher, bytes, bits);
-        self.register = register.register;
-    }
-
     // Encrypts or decrypts the bytes that come next in a mode.
     pub(crate) fn apply<C: BlockCipherEncrypt>(
         &mut self,
@@ -191,10 +75,43 @@ impl Place {
             (c ++ bits_of_bytes (ciphertext direction bytes.old bytes.new)) }
     {
         match mode {
-            Mode::Counter => self.apply_ctr(direction, cipher, bytes),
-            Mode::OutputFeedback => self.apply_ofb(direction, cipher, bytes),
-            Mode::BitFeedback => self.apply_bits(direction, cipher, bytes, 8 * bytes.len() as u128),
-            Mode::CipherFeedback(segment) => self.apply_cfb(direction, segment, cipher, bytes),
+            Mode::Counter => {
+                let mut counter = Counter {
+                    counter: u64::from_be_bytes(self.register),
+                    used: self.used,
+                };
+                apply_parts(&mut counter, direction, cipher, bytes);
+                self.register = counter.counter.to_be_bytes();
+                self.used = counter.used;
+            }
+            Mode::OutputFeedback => {
+                let mut feedback = Feedback {
+                    block: self.register,
+                    used: self.used,
+                };
+                apply_parts(&mut feedback, direction, cipher, bytes);
+                self.register = feedback.block;
+                self.used = feedback.used;
+            }
+            Mode::BitFeedback => {
+                let mut register = BitRegister {
+                    register: self.register,
+                };
+                register.apply_many(direction, cipher, bytes, 8 * bytes.len() as u128);
+                self.register = register.register;
+            }
+            Mode::CipherFeedback(segment) => {
+                let mut register = Register {
+                    register: self.register,
+                    output: self.output,
+                    segment,
+                    used: self.used,
+                };
+                register.apply(direction, cipher, bytes);
+                self.register = register.register;
+                self.output = register.output;
+                self.used = register.used;
+            }
         }
     }
 }
@@ -326,7 +243,10 @@ impl Stream {
             (c ++ first_bits bits (ciphertext direction bytes.old bytes.new)) self.new }
         ensures rest { drop bits (bits_of_bytes bytes.new) ≡ drop bits (bits_of_bytes bytes.old) }
     {
-        self.place
-            .apply_bits(direction, cipher, bytes, bits as u128);
+        let mut register = BitRegister {
+            register: self.place.register,
+        };
+        register.apply(direction, cipher, bytes, bits);
+        self.place.register = register.register;
     }
 }
