@@ -1,5 +1,5 @@
 -- The shift register along a ciphertext, by bytes and by bits.
-use Rattle.std.proofs.Common.{◌≡◌, ℕ, ◌+◌, ◌*◌, ◌/◌, ◌%◌, ◌<◌, ◌≤◌, List, [], ◌++◌, length, get_or, take, drop, bit_xor, ap, ap₂, sym, ◌∙◌, arith, append_assoc, length-append, length-drop, false, Bool, ◌∷◌}
+use Rattle.std.proofs.Common.{◌≡◌, ℕ, ◌+◌, ◌*◌, ◌/◌, ◌%◌, ◌<◌, ◌≤◌, List, [], ◌++◌, length, get_or, take, drop, bit_xor, ap, ap₂, subst, sym, ◌∙◌, arith, append_assoc, length-append, length-drop, false, Bool, ◌∷◌}
 use Rattle.std.proofs.lemmas.List.{drop-drop, drop-append-le, take-append-le, take_all}
 use Rattle.std.proofs.lemmas.Nat.{div_below}
 use Rattle.std.proofs.Math.Nat.{mul-div-le, mul-add, mul-add-div, mod-add-mod, mod-eq_of_lt, div-add-mod, div-eq_of_lt, div-one, mod-one}
@@ -7,14 +7,13 @@ use Rattle.des_modes.specs.Streams.{XorsFrom}
 use Rattle.des_modes.specs.Cfb.{block_bit, cfb_bits, cfb_stream, input_block}
 use Rattle.des_modes.specs.States.{CfbAt, IsCfbAt, CfbBitsAt, IsCfbBitsAt}
 use Rattle.des_modes.specs.declared.cfb.Register.{Register}
-use Rattle.des_modes.proofs.Pieces.{GoesByFront, Directed, ByText, Xors-single, bits_undone}
+use Rattle.des_modes.proofs.Pieces.{GoesByFront, Directed, ByText, Xors-directed, Xors-single, texts-map, bits_undone}
 use Rattle.des.specs.Bits.{bits_of_bytes, xor}
 use Rattle.des.specs.Blocks.{block_of_bits}
 use Rattle.des.specs.Laws.BitLists.{length-bits_of_bytes}
 use Rattle.des_modes.specs.declared.cfb_bits.BitRegister.{BitRegister}
 use Rattle.des_modes.specs.Directions.{ciphertext}
 use Rattle.des_modes.specs.declared.direction.Direction.{Direction}
-use Rattle.des_modes.specs.declared.direction.Direction.TheVariants.{Encrypt, Decrypt}
 
 -- what stands behind n + m bytes of IV | C, where C goes on: what stands behind m of the register and
 -- of what C goes on with
@@ -166,64 +165,50 @@ module _ (s : ℕ) (E : List ℕ → List ℕ) (iv c : List ℕ) (state : Regist
       xors.xored i below
       ∙ ap₂ (λ (m k : ℕ). bit_xor (get_or bytes i 0) (get_or (get_or blocks (m / k) []) (m % k) 0)) place is.segment)
 
--- ---- bits
+-- ---- bits, from a place behind c on
 
--- the initialization vector has the register's width
-pub length-iv_bits : (iv : List ℕ) (c : List Bool) (held : List ℕ) → length held ≡ 8 → CfbBitsAt iv c held
-    → length (bits_of_bytes iv) ≡ 64
-length-iv_bits iv c held wide is =
-    let all : List Bool = bits_of_bytes iv ++ c in
-    omega (arith, ap length is.register, length-bits_of_bytes held, length-drop (length c) all, length-append (bits_of_bytes iv) c)
+module _ (E : List ℕ → List ℕ) (iv : List ℕ) (c : List Bool) (held : List ℕ) (wide : length held ≡ 8) (is : CfbBitsAt iv c held) where
+  -- the initialization vector has the register's width
+  length-iv_bits : length (bits_of_bytes iv) ≡ 64
+  length-iv_bits =
+      let all : List Bool = bits_of_bytes iv ++ c in
+      omega (arith, ap length is.register, length-bits_of_bytes held, length-drop (length c) all, length-append (bits_of_bytes iv) c)
 
-single : (i : ℕ) → 1 * (i / 1) ≡ i
-single i = omega (arith, div-one i)
+  cfb_bits-before : (t more : List Bool) (i : ℕ) → i ≤ length t → cfb_bits 1 E iv (t ++ more) i ≡ cfb_bits 1 E iv t i
+  cfb_bits-before t more i within =
+      ap (λ (xs : List Bool). block_bit (E (block_of_bits xs)) (i % 1))
+      (window-front 64 (1 * (i / 1)) (bits_of_bytes iv) t more length-iv_bits (omega (arith, div-one i)))
 
-cfb_bits-before : (encryption : List ℕ → List ℕ) (iv : List ℕ) (c more : List Bool) (i : ℕ)
-    → length (bits_of_bytes iv) ≡ 64 → i ≤ length c
-    → cfb_bits 1 encryption iv (c ++ more) i ≡ cfb_bits 1 encryption iv c i
-cfb_bits-before encryption iv c more i wide within =
-    ap (λ (xs : List Bool). block_bit (encryption (block_of_bits xs)) (i % 1))
-    (window-front 64 (1 * (i / 1)) (bits_of_bytes iv) c more wide (omega (arith, single i)))
+  pub cfb_bits-front : GoesByFront (cfb_bits 1 E iv)
+  cfb_bits-front t more i below = cfb_bits-before t more i (omega arith)
 
-pub cfb_bits-front : (encryption : List ℕ → List ℕ) (iv : List ℕ) (c : List Bool) (held : List ℕ) → length held ≡ 8
-    → CfbBitsAt iv c held → GoesByFront (cfb_bits 1 encryption iv)
-cfb_bits-front encryption iv c held wide is t more i below =
-    cfb_bits-before encryption iv t more i (length-iv_bits iv c held wide is) (omega arith)
-
--- the bit that goes with the next one
-cfb_bits-next : (encryption : List ℕ → List ℕ) (iv : List ℕ) (c more : List Bool) (held : List ℕ)
-    → length held ≡ 8 → CfbBitsAt iv c held
-    → cfb_bits 1 encryption iv (c ++ more) (length c) ≡ block_bit (encryption (block_of_bits (bits_of_bytes held))) 0
-cfb_bits-next encryption iv c more held wide is =
-    let n : ℕ = length c in
-    let all : List Bool = bits_of_bytes iv ++ c in
-    let long : length (drop n all) ≤ 64 = omega (arith, ap length is.register, length-bits_of_bytes held) in
-    cfb_bits-before encryption iv c more n (length-iv_bits iv c held wide is) (omega arith)
-    ∙ ap₂ (λ (m k : ℕ). block_bit (encryption (block_of_bits (take 64 (drop m all)))) k) (single n) (mod-one n)
-    ∙ ap (λ (xs : List Bool). block_bit (encryption (block_of_bits xs)) 0) (take_all 64 (drop n all) long ∙ sym is.register)
+  -- the bit that goes with the next one
+  cfb_bits-next : (more : List Bool)
+      → cfb_bits 1 E iv (c ++ more) (length c) ≡ block_bit (E (block_of_bits (bits_of_bytes held))) 0
+  cfb_bits-next more =
+      let n : ℕ = length c in
+      let single : 1 * (n / 1) ≡ n = omega (arith, div-one n) in
+      cfb_bits-before c more n (omega arith)
+      ∙ ap₂ (λ (m k : ℕ). block_bit (E (block_of_bits (take 64 (drop m (bits_of_bytes iv ++ c))))) k) single (mod-one n)
+      ∙ ap (λ (xs : List Bool). block_bit (E (block_of_bits xs)) 0)
+      (ap (take 64) (sym is.register) ∙ take_all 64 (bits_of_bytes held) (omega (arith, length-bits_of_bytes held)))
 
 -- a bit more
-ByText-bit : (encryption : List ℕ → List ℕ) (iv : List ℕ) (old new : BitRegister) (p c : Bool)
-    → length old.register ≡ 8 → bits_of_bytes new.register ≡ drop 1 (bits_of_bytes old.register ++ c ∷ [])
-    → c ≡ xor p (block_bit (encryption (block_of_bits (bits_of_bytes old.register))) 0)
-    → ByText xor false (IsCfbBitsAt iv) (cfb_bits 1 encryption iv) old new (p ∷ []) (c ∷ [])
-ByText-bit encryption iv old new p c wide shifted is = record {
-  goes = λ t at. (
-    record {
-      register =
-          register-further (bits_of_bytes iv) t (c ∷ []) (bits_of_bytes old.register) (bits_of_bytes new.register) at.register
-          shifted;
-    },
-    Xors-single (length t) _ p c (is ∙ ap (xor p) (sym (cfb_bits-next encryption iv t (c ∷ []) old.register wide at))),
-  );
-}
-
-pub ByText-bit_directed : (encryption : List ℕ → List ℕ) (iv : List ℕ) (old new : BitRegister) (direction : Direction) (x y : Bool)
+pub ByText-bit : (E : List ℕ → List ℕ) (iv : List ℕ) (old new : BitRegister) (direction : Direction) (x y : Bool)
     → length old.register ≡ 8
     → bits_of_bytes new.register ≡ drop 1 (bits_of_bytes old.register ++ ciphertext direction x y ∷ [])
-    → y ≡ xor x (block_bit (encryption (block_of_bits (bits_of_bytes old.register))) 0)
-    → Directed direction (ByText xor false (IsCfbBitsAt iv) (cfb_bits 1 encryption iv) old new) (x ∷ []) (y ∷ [])
-ByText-bit_directed encryption iv old new Encrypt x y wide shifted is = ByText-bit encryption iv old new x y wide shifted is
-ByText-bit_directed encryption iv old new Decrypt x y wide shifted is =
-    ByText-bit encryption iv old new y x wide shifted
-    (sym (ap (λ z. xor z (block_bit (encryption (block_of_bits (bits_of_bytes old.register))) 0)) is ∙ bits_undone x _))
+    → y ≡ xor x (block_bit (E (block_of_bits (bits_of_bytes old.register))) 0)
+    → Directed direction (ByText xor false (IsCfbBitsAt iv) (cfb_bits 1 E iv) old new) (x ∷ []) (y ∷ [])
+ByText-bit E iv old new direction x y wide shifted is =
+    let text = (texts-map (λ (bit : Bool). bit ∷ []) direction x y).1 in
+    let held : List Bool = bits_of_bytes old.register in record {
+      goes = λ t at. (
+        record {
+          register =
+              register-further (bits_of_bytes iv) t _ held (bits_of_bytes new.register) at.register
+              (subst (λ (more : List Bool). bits_of_bytes new.register ≡ drop (length more) (held ++ more)) text shifted);
+        },
+        Xors-directed direction (length t) _ (x ∷ []) (y ∷ []) bits_undone
+            (Xors-single (length t) _ x y (is ∙ ap (xor x) (sym (cfb_bits-next E iv t old.register wide at _)))),
+      );
+    }

@@ -6,7 +6,7 @@ use Rattle.des.specs.Laws.BitLists.{length-bits_of_bytes}
 use Rattle.des_modes.specs.Cfb.{first_bits}
 use Rattle.des_modes.specs.Directions.{ciphertext}
 use Rattle.des_modes.proofs.Pieces.{ByText-begun, ByText-directed, texts-map, InPlace-set, Xors-whole}
-use Rattle.des_modes.proofs.CfbPlaces.{ByText-bit_directed, cfb_bits-front}
+use Rattle.des_modes.proofs.CfbPlaces.{ByText-bit, cfb_bits-front}
 use Rattle.des_modes.proofs.cfb_bits.BitRegister.apply_many.Goals as goal
 
 pub bits-init : goal.bits-init
@@ -24,7 +24,7 @@ bits-preserved g c iv =
     c.ciphertext.ensures ∙ ap₂ (ciphertext c.args.direction) c.bit_at-old.ensures written in
     InPlace-set _ false c.xor_bit.ensures within
     (λ done. ByText-directed c.args.direction _ _ _ _ (λ t at. cfb_bits-front E iv t c.bits.self.register c.key_bit.ensures.wide at) done
-    (ByText-bit_directed E iv c.bits.self c.advance.new.self c.args.direction _ _ c.key_bit.ensures.wide (rw bit at c.advance.ensures)
+    (ByText-bit E iv c.bits.self c.advance.new.self c.args.direction _ _ c.key_bit.ensures.wide (rw bit at c.advance.ensures)
     (ap (xor (get_or now place false)) c.key_bit.ensures.bit))) (c.bits.invariant iv)
 
 pub returns : goal.returns
