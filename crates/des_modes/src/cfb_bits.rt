@@ -69,7 +69,7 @@ impl BitRegister {
         self.register = ((word << 1) | u64::from(bit)).to_be_bytes();
     }
 
-    /// As `apply`, since a `usize` may not count all bits of the bytes.
+    /// As `apply`, of so many bits that a `usize` may not count them.
     pub(crate) fn apply_many<C: BlockCipherEncrypt>(
         &mut self,
         direction: Direction,

@@ -16,6 +16,7 @@ pub(crate) trait TakesParts<C: BlockCipherEncrypt> {
     // The key stream along the ciphertext.
     ghost key_stream: { (List ℕ → List ℕ) → ℕ → List ℕ → List ℕ → ℕ → ℕ };
 
+    // The most bytes that may go together.
     ghost limit: { DirectionOf → Self → ℕ };
 
     /// The most bytes that may be encrypted or decrypted together.
