@@ -1,4 +1,4 @@
-use Rattle.std.proofs.Common.{◌<◌, ◌^◌, length, refl, ap, ◌∙◌, arith}
+use Rattle.std.proofs.Common.{◌<◌, ◌^◌, length, ap, ◌∙◌, arith}
 use Rattle.std.specs.Int.{w64, from_be_bytes}
 use Rattle.std.proofs.lemmas.Nat.{from_be_bytes-to_be_bytes_8}
 use Rattle.des.specs.Bits.{bits_of_bytes}
@@ -56,12 +56,3 @@ returns-in-BitFeedback-clause-made g c =
     rw c.in-BitFeedback.is (λ iv p d at made.
     rw (bits-append p (plaintext c.args.direction old new), bits-append d (ciphertext c.args.direction old new))
     (returns-in-BitFeedback-clause-made_bits g c c.in-BitFeedback.is iv (bits_of_bytes p) (bits_of_bytes d) at made))
-
-pub returns-in-CipherFeedback-clause-after : goal.returns-in-CipherFeedback-clause-after
-returns-in-CipherFeedback-clause-after g c =
-    rw c.in-CipherFeedback.is (λ iv d at.
-    let is = c.apply.ensures.after _ iv d at in
-    record { segment = refl; register = is.register; used = is.used; output = is.output })
-
-pub returns-in-CipherFeedback-clause-made : goal.returns-in-CipherFeedback-clause-made
-returns-in-CipherFeedback-clause-made g c = rw c.in-CipherFeedback.is (λ iv p d at made. c.apply.ensures.whole _ iv d p at made)
