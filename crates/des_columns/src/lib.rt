@@ -20,7 +20,5 @@ pub mod one_key;
 pub mod pbe;
 pub mod pgcrypto;
 pub mod status;
-#[cfg(test)]
-mod tests;
 pub mod value_keys;
 pub mod writing;
