@@ -17,11 +17,6 @@ _cukvashe() {
           words='des-ecb des-cbc des-cfb des-cfb8 des-ofb des-ctr des-ede-ecb des-ede-cbc des-ede-cfb des-ede-cfb8 des-ede-ofb des-ede-ctr
           des-ede3-ecb des-ede3-cbc des-ede3-cfb des-ede3-cfb8 des-ede3-ofb des-ede3-ctr'
           ;;
-        'decrypt-lines:1:'*)
-          words='mysql jasypt des des/pad:pkcs des/pad:none des-cbc des-cbc/pad:pkcs des-cbc/pad:none des-ecb des-ecb/pad:pkcs
-          des-ecb/pad:none 3des 3des/pad:pkcs 3des/pad:none 3des-cbc 3des-cbc/pad:pkcs 3des-cbc/pad:none 3des-ecb 3des-ecb/pad:pkcs
-          3des-ecb/pad:none'
-          ;;
         'mac:1:'*) words='cbc-mac retail cmac' ;;
         'dukpt:2:'*) words='pin mac data data-variant' ;;
         'pin encode:1:'* | 'pin decode:1:'*) words='0 1 2 3' ;;
@@ -52,8 +47,8 @@ _cukvashe() {
               ;;
             decrypt-pem) words='--form --any-count --in --out --password-file --password-fd --password-env' ;;
             decrypt-lines)
-              words='--iv --algorithm --iterations --base64 --hex --keep-going --in --out --progress --key-file --key-fd --key-env
-              --password-file --password-fd --password-env'
+              words='--iv --algorithm --iterations --base64 --hex --keep-going --in --out --progress --des-key-file --key-file --key-fd
+              --key-env --password-file --password-fd --password-env'
               ;;
             mac) words='--padding --in --length --verify --hex --key-file --key-fd --key-env' ;;
             check-value) words='--bytes --key-file --key-fd --key-env' ;;
