@@ -23,10 +23,11 @@
  *
  * STATUSES
  *
- * A call that can refuse its arguments returns CUKVASHE_OK, or a CUKVASHE_ERR_.., and then it has changed nothing (but
- * see KEY WRAP). Each section names its errors in order: the first that applies is returned. CUKVASHE_OK is 0, so `if`
- * is true for a wrong tag or PIN where it asks verify: let it ask is_tag or is_pin, which are true for the right one
- * alone.
+ * A call that can refuse its arguments returns CUKVASHE_OK, or a CUKVASHE_ERR_.., and then it has changed nothing, except
+ * that a wrong wrapped key leaves zeros (see KEY WRAP), and that CUKVASHE_ERR_VALUES comes with the values that can be
+ * read (see OLD RECORDS). Each section names its errors in order: the first that applies is returned. CUKVASHE_OK is 0,
+ * so `if` is true for a wrong tag or PIN where it asks verify: let it ask is_tag or is_pin, which are true for the right
+ * one alone.
  *
  * WHAT YOU MUST UPHOLD
  *
@@ -180,7 +181,7 @@ enum cukvashe_status {
   CUKVASHE_ERR_VALUES = 50,                /* some values can't be read: their statuses say why */
   CUKVASHE_ERR_ALGORITHM = 51,             /* the algorithm is not one that the call takes */
   CUKVASHE_ERR_BASE64 = 52,                /* the value is not Base64 */
-  CUKVASHE_ERR_KEY_NUMBER = 53,            /* the number is not one of a key */
+  CUKVASHE_ERR_KEY_NUMBER = 53,            /* the number is not 0 to 9, or the file has no key of that number */
 };
 
 /* Sizes, in bytes. */

@@ -161,7 +161,7 @@ export class NotEncrypted extends CukvasheError {}
 export class AlgorithmName extends CukvasheError {}
 /** The value is not Base64. */
 export class Base64 extends CukvasheError {}
-/** The number is not one of a key. */
+/** The number is not 0 to 9, or the file has no key of that number. */
 export class KeyNumber extends CukvasheError {}
 // This ends what bindings/describe made.
 

@@ -21,8 +21,8 @@ export const BLOCK_SIZE = 8;
 export const TAG_SIZE = 8;
 
 // The SHA-256 of the modules that this file was built with: the one of a 64-bit memory, and the same of a 32-bit memory.
-const MODULE_SUM = "159f506b970aa9ffe1b76e0e87b4ba4534b350f7842a6fa7a1adaee2c6afcd62";
-const NARROW_SUM = "536652a4ae2a3d69125f2af3538286845f1f3e81c9c396e4af77e5c75abdfb5b";
+const MODULE_SUM = "39a76d3e1ae316793418170f792332ec751183864118ff1164e0792d29b0ce0a";
+const NARROW_SUM = "616b2409fccdd3098ee08281ae17aa11a6193465fb6769747ed146fe6d6ce3b7";
 
 // The bytes of the module's stack, which lies at its address 0. `build` links it so.
 const STACK_SIZE = 131072;
@@ -163,7 +163,7 @@ const SENTENCES = [
   "some values can't be read: their statuses say why",
   "the algorithm is not one that the call takes",
   "the value is not Base64",
-  "the number is not one of a key",
+  "the number is not 0 to 9, or the file has no key of that number",
 ];
 export const KeyLength = fault("KeyLength");
 export const BlockLength = fault("BlockLength");
@@ -1031,7 +1031,7 @@ function bitsOf(bits) {
   return (mode, bytes) => {
     if (mode !== CFB1) throw new SegmentSize("bits are taken with segments of 1 bit alone");
     if (Number.isInteger(bits) && bits >= 0 && bits <= 8 * bytes.length) return [BigInt(bits)];
-    throw new DataLength(`${bytes.length} bytes do not have so many bits`);
+    throw new DataLength(`${bytes.length} bytes have fewer bits than that`);
   };
 }
 
