@@ -1,5 +1,5 @@
 -- The maps of words to words of groups and back select the bits that they should.
-use Rattle.std.proofs.Common.{◌≡◌, ℕ, ◌+◌, ◌*◌, ◌/◌, ◌%◌, ◌^◌, ◌<◌, ◌≤◌, List, ◌++◌, Bool, length, take, drop, replicate, bit_and, bit_xor, refl, ap, sym, ◌∙◌, arith, take_all, lit≤}
+use Rattle.std.proofs.Common.{◌≡◌, ℕ, ◌+◌, ◌*◌, ◌/◌, ◌%◌, ◌^◌, ◌<◌, ◌≤◌, List, ◌++◌, Bool, length, take, drop, replicate, bit_and, bit_xor, refl, ap, sym, subst, ◌∙◌, arith, take_all, lit≤}
 use Rattle.std.specs.List.{range_with_len}
 use Rattle.std.proofs.lemmas.Nat.{and_le_r, and_mask}
 use Rattle.std.proofs.lemmas.List.{length-drop, length-take-le}

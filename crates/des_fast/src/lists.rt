@@ -135,7 +135,7 @@ fn decrypt_cbc_part<W: BoxLookup, A: BlockTransform>(
 }
 
 // How many of the blocks that are left go next: no clause says where one by one begins, or where
-// a few at a time are quicker than what fits and the rest, since only the time depends on it.
+// twice a few are quicker than what fits and the rest, since only the time depends on it.
 fn next_count<W: BoxLookup>(left: usize) -> usize
     requires { 1 ≤ left }
     ensures some { 1 ≤ result }

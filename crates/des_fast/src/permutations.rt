@@ -1,6 +1,5 @@
-//! The initial and the final permutation of four blocks side by side, in the words of a vector.
-//! `halves` has the same for one block, by `des::utils`, and for the words of three, by half words,
-//! and tells the layout of the halves.
+//! The initial and the final permutation of four blocks side by side, in the words of a vector. For
+//! one block `halves` has the same, by `des::utils`, and tells the layout of the halves.
 
 ghost use Rattle.std.specs.Prelude.{◌≡◌, ◌<◌, ◌^◌, ◌++◌, ℕ, List, map, take, drop};
 ghost use Rattle.des.specs.Bits.{bits_of, bits_of_bytes, bits_of_word, select};

@@ -55,10 +55,7 @@ pub trait Groups: Copy {
             → (half_of (word b result.0), half_of (word b result.1)) ≡ first_halves block) }
     {
         let (left, right) = permutations::halves_of(u64x4::from_array(words));
-        (
-            Self::of_words(left.to_array()),
-            Self::of_words(right.to_array()),
-        )
+        (Self::of_words(left.to_array()), Self::of_words(right.to_array()))
     }
 
     /// The words of the blocks that the halves after the rounds make.
