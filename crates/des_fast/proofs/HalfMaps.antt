@@ -1,17 +1,14 @@
 -- The maps of words to words of groups and back select the bits that they should.
-use Rattle.std.proofs.Common.{◌≡◌, ℕ, ◌+◌, ◌*◌, ◌/◌, ◌%◌, ◌^◌, ◌<◌, ◌≤◌, List, ◌++◌, Bool, length, take, drop, replicate, bit_and, bit_xor, refl, ap, sym, subst, ◌∙◌, arith, take_all, lit≤}
+use Rattle.std.proofs.Common.{◌≡◌, ℕ, ◌+◌, ◌^◌, ◌<◌, ◌≤◌, List, ◌++◌, Bool, length, take, drop, replicate, refl, ap, sym, ◌∙◌, arith, take_all, lit≤}
 use Rattle.std.specs.List.{range_with_len}
-use Rattle.std.proofs.lemmas.Nat.{and_le_r, and_mask}
+use Rattle.std.proofs.lemmas.Nat.{and_le_r}
 use Rattle.std.proofs.lemmas.List.{length-drop, length-take-le}
 use Rattle.des.specs.Bits.{bits_of, bits_of_word, select}
 use Rattle.des.specs.Tables.{expansion}
 use Rattle.des.specs.Laws.BitLists.{length-bits_of}
 use Rattle.des.specs.Laws.Selections.{composed, select-select, select-range_with_len}
 use Rattle.des.proofs.BitParts.{drop-bits_of}
-use Rattle.des.proofs.LinearWords.{IsLinear-id, IsLinear-shl, IsLinear-shr, IsLinear-mask, IsLinear-xor}
-use Rattle.des.proofs.LinearUnder.{IsLinearUnder-mask}
 use Rattle.des_fast.specs.Groups.{positions_in_word, half_positions, half_of}
-use Rattle.des_fast.proofs.FirstHalves.{IsLinear-shl_half}
 use Rattle.des_fast.proofs.GroupWords.{IsOfGroups-lt}
 use Rattle.des_fast.proofs.HalfExpansions.{IsExpansionOf, IsExpansionOf-Holds}
 use Rattle.des_fast.proofs.WordMaps.{WordMap, left_under, right_under, under, left, right, joined, Selects, selected}
@@ -66,35 +63,6 @@ IsExpansionOf-right_groups word below =
     let width : length (drop 32 (bits_of_word word)) ≤ 32 =
     omega (arith, length-drop 32 (bits_of_word word), length-bits_of 64 word) in
     rw take_all at (IsExpansionOf-selected right_groups 32 refl (lit≤ tt) refl word below)
-
--- ---- a half word
-
--- its rotations for the groups 1, 3, 5 and 7 and for the others, in a word of groups
-abbrev pub expanded_word : ℕ → ℕ
-expanded_word x =
-    bit_and
-    (bit_xor (bit_xor (x / 2 ^ 3) (x * 2 ^ 29 % 2 ^ 32) * 2 ^ 32 % 2 ^ 64)
-    (bit_xor (x * 2 ^ 1 % 2 ^ 32) (x / 2 ^ 31))) 0x3f3f3f3f3f3f3f3f
-
--- as a map of words
-abbrev half_groups : WordMap
-half_groups =
-    let half = IsLinear-mask 0x00000000ffffffff IsLinear-id in
-    record {
-      mask = 0x3f3f3f3f3f3f3f3f;
-      of = λ x. expanded_word (bit_and x 0x00000000ffffffff);
-      is = IsLinearUnder-mask 0x3f3f3f3f3f3f3f3f
-          (IsLinear-xor (IsLinear-shl 32 (IsLinear-xor (IsLinear-shr 3 half) (IsLinear-shl_half 29 half)))
-          (IsLinear-xor (IsLinear-shl_half 1 half) (IsLinear-shr 31 half)));
-    }
-
-pub IsExpansionOf-expanded_word : (x : ℕ) → x < 2 ^ 32 → IsExpansionOf (expanded_word x) (bits_of 32 x)
-unfolding bits_of select
-IsExpansionOf-expanded_word x below =
-    let same : bit_and x 0x00000000ffffffff ≡ x = omega (arith, and_mask x 32) in
-    let width : length (drop 32 (bits_of_word x)) ≤ 32 =
-    omega (arith, length-drop 32 (bits_of_word x), length-bits_of 64 x) in
-    rw (take_all, drop-bits_of 32 32 x, same) at (IsExpansionOf-selected half_groups 32 refl (lit≤ tt) refl x (omega arith))
 
 -- ---- the half block of an expansion
 

@@ -60,5 +60,3 @@ pub mod ExpandedEntries
 pub mod PassDirections
 pub mod RelatedChains
 mod RelatedTriples
-mod FirstHalves
-mod LastWords

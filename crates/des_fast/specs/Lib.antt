@@ -7,7 +7,6 @@ pub mod SpreadKeys
 pub mod CombinedTables
 pub mod RoundKeyRows
 pub mod HalfBlocks
-pub mod ExchangedBits
 pub mod Des
 pub mod Words
 pub mod EachKey

@@ -4,13 +4,10 @@
 //! groups 1, 3, 5 and 7 in bytes 1 to 4, the groups 2, 4, 6 and 8 in bytes 5 to 8. So the expansion
 //! E of a half block is the half block rotated, once for each four bytes.
 
-ghost use Rattle.std.specs.Prelude.{◌≡◌, ◌<◌, ◌^◌, ◌++◌, ℕ, List, take, drop, bit_xor};
-ghost use Rattle.des.specs.Bits.{bits_of, bits_of_bytes, bits_of_word, select, xor_bits};
+ghost use Rattle.std.specs.Prelude.{◌≡◌, ◌<◌, ◌^◌, ◌++◌, take, drop, bit_xor};
+ghost use Rattle.des.specs.Bits.{bits_of, bits_of_bytes, bits_of_word, xor_bits};
 ghost use Rattle.des.specs.Blocks.{IsBlock, block_of_bits};
 ghost use Rattle.des.specs.CipherFunction.{cipher_function};
-ghost use Rattle.des.specs.SwapForms.{delta_swapped};
-ghost use Rattle.des.specs.Tables.{final_permutation};
-ghost use Rattle.des_fast.specs.ExchangedBits.{first_exchanged, second_exchanged};
 ghost use Rattle.des_fast.specs.Groups.{IsOfGroups, IsExpansion, bits_of_groups, half_of};
 
 use crate::tables::substitute;
@@ -32,53 +29,6 @@ pub(crate) fn block_of(word: u64) -> [u8; 8]
 {
     // As `to_be_bytes`, which the compiler stores byte by byte.
     word.swap_bytes().to_le_bytes()
-}
-
-// Half words, the bits of the first that stand `shift` places above the mask exchanged with those of
-// the second that stand under it.
-#[inline(always)]
-fn exchanged(first: u32, second: u32, shift: u32, mask: u32) -> (u32, u32)
-    requires { shift < 32 }
-    ensures first { result.0 ≡ first_exchanged first second shift mask }
-    ensures second { result.1 ≡ second_exchanged first second shift mask }
-{
-    let differing = ((first >> shift) ^ second) & mask;
-    (first ^ (differing << shift), second ^ differing)
-}
-
-// The expansion E of a half block, a rotation for each four bytes.
-#[inline(always)]
-fn expanded(half: u32) -> u64
-    ensures expansion { IsExpansion result }
-    ensures half { half_of result ≡ bits_of 32 half }
-{
-    let odd = (half >> 3) ^ (half << 29);
-    let even = (half << 1) ^ (half >> 31);
-    (((odd as u64) << 32) ^ (even as u64)) & 0x3f3f3f3f3f3f3f3f
-}
-
-// What `des::utils::delta_swap` makes of a word.
-#[inline(always)]
-fn delta_swap(word: u64, delta: u32, mask: u64) -> u64
-    requires { delta < 64 }
-    ensures { result ≡ delta_swapped word delta mask }
-{
-    let differing = (word ^ (word >> delta)) & mask;
-    word ^ differing ^ (differing << delta)
-}
-
-/// The word of the block that the words of the halves after the rounds make.
-#[inline(always)]
-pub(crate) fn last_word(left: u64, right: u64) -> u64
-    ensures { bits_of_word result ≡ select final_permutation (half_of right ++ half_of left) }
-{
-    // The half block's own bits are the middle four of each group.
-    let word = ((right >> 1) & 0x0f0f0f0f0f0f0f0f) ^ ((left << 3) & 0xf0f0f0f0f0f0f0f0);
-    let word = (word << 32) ^ (word >> 32);
-    let word = delta_swap(word, 12, 0x0000f0f00000f0f0);
-    let word = delta_swap(word, 24, 0x000000ff000000ff);
-    let word = delta_swap(word, 18, 0x0000333300003333);
-    delta_swap(word, 9, 0x0055005500550055)
 }
 
 /// A round key, 48 bits in a word of groups.
@@ -137,29 +87,6 @@ impl Halves {
         };
         let right = HalfBlock {
             groups: (odd << 32) | (even & 0x000000003f3f3f3f),
-        };
-        Halves { left, right }
-    }
-
-    /// Those of the block of a word, by half words: of the words of several blocks the compiler would
-    /// make vectors, which takes longer.
-    #[inline(always)]
-    pub(crate) fn of_word(word: u64) -> Halves
-        ensures { (block : List ℕ) → bits_of_bytes block ≡ bits_of_word word
-            → half_blocks_of result ≡ first_halves block }
-    {
-        let left = (word >> 32) as u32;
-        let right = (word & 0x00000000ffffffff) as u32;
-        let first = exchanged(left, right, 4, 0x0f0f0f0f);
-        let second = exchanged(first.0, first.1, 16, 0x0000ffff);
-        let third = exchanged(second.1, second.0, 2, 0x33333333);
-        let fourth = exchanged(third.0, third.1, 8, 0x00ff00ff);
-        let fifth = exchanged(fourth.1, fourth.0, 1, 0x55555555);
-        let left = HalfBlock {
-            groups: expanded(fifth.0),
-        };
-        let right = HalfBlock {
-            groups: expanded(fifth.1),
         };
         Halves { left, right }
     }

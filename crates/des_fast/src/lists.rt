@@ -13,9 +13,11 @@ ghost use Rattle.des_fast.specs.SideBySide.{AreExpansions, lane};
 
 use crate::box_lookup::BoxLookup;
 use crate::halves::{block_of, word_of};
+use crate::permutations;
 use crate::rounds::Groups;
 use des::cbc::{self, next_vector};
 use des::cipher::are_blocks;
+use std::simd::prelude::*;
 
 /// A pass of DES, or several in a row.
 pub(crate) trait BlockTransform {
@@ -41,18 +43,18 @@ pub(crate) trait BlockTransform {
 // The words of the first four blocks. A place after the last block repeats it, and what becomes
 // of it is not used.
 #[inline(always)]
-fn words_of_blocks(blocks: &[[u8; 8]]) -> [u64; 4]
+fn words_of_blocks(blocks: &[[u8; 8]]) -> u64x4
     requires { 1 ≤ length blocks.now }
     ensures { InEachBlock 4 (λ b. b < length blocks.now
         → bits_of_word (lane b result) ≡ bits_of_bytes (slice_index_or blocks.now b [])) }
 {
     let last = blocks.len() - 1;
-    [
+    u64x4::from_array([
         word_of(&blocks[0]),
         word_of(&blocks[last.min(1)]),
         word_of(&blocks[last.min(2)]),
         word_of(&blocks[last.min(3)]),
-    ]
+    ])
 }
 
 // The halves that the rounds of blocks side by side begin with.
@@ -65,7 +67,8 @@ fn halves_of_blocks<G: Groups>(blocks: &[[u8; 8]]) -> (G, G)
         → (half_of (G.word b result.0), half_of (G.word b result.1))
         ≡ first_halves (slice_index_or blocks.now b [])) }
 {
-    G::first_halves(words_of_blocks(blocks))
+    let (left, right) = permutations::halves_of(words_of_blocks(blocks));
+    (G::of_words(left.to_array()), G::of_words(right.to_array()))
 }
 
 // Makes blocks those that their halves make after the rounds.
@@ -80,7 +83,9 @@ fn write_blocks<G: Groups>(blocks: &mut [[u8; 8]], left: G, right: G)
         ≡ last_block (half_of (G.word b left), half_of (G.word b right)) }
 {
     let last = blocks.len() - 1;
-    let words = G::last_words(left, right);
+    let left = u64x4::from_array(left.into_words());
+    let right = u64x4::from_array(right.into_words());
+    let words = permutations::words_of_halves(left, right).to_array();
     // The last place first: places after the last block repeat it, and are written over.
     blocks[last.min(3)] = block_of(words[3]);
     blocks[last.min(2)] = block_of(words[2]);
@@ -146,7 +151,7 @@ fn next_count<W: BoxLookup>(left: usize) -> usize
     let few = <W::FewGroups as Groups>::BLOCKS.min(most);
     if left <= W::ONE_BY_ONE {
         1
-    } else if left == 2 * few || left == 3 * few {
+    } else if left == 2 * few {
         few
     } else {
         most.min(left)

@@ -2,20 +2,17 @@
 //!
 //! A half block is kept as its expansion E in a word of groups, as in `halves`.
 
-ghost use Rattle.std.specs.Prelude.{◌≡◌, ◌<◌, ◌≤◌, ◌-◌, ℕ, List, [], min, slice_index_or};
-ghost use Rattle.des.specs.Bits.{bits_of_bytes, bits_of_word, xor_bits};
-ghost use Rattle.des.specs.Blocks.{block_of_bits};
+ghost use Rattle.std.specs.Prelude.{◌≡◌, ◌<◌, ◌≤◌, ◌-◌, ℕ, [], min, slice_index_or};
+ghost use Rattle.des.specs.Bits.{xor_bits};
 ghost use Rattle.des.specs.CipherFunction.{cipher_function};
 ghost use Rattle.des.specs.Rounds.{after_rounds};
 ghost use Rattle.des_fast.specs.Slices.{InEachBlock};
 ghost use Rattle.des_fast.specs.Groups.{IsExpansion, bits_of_groups, half_of};
-ghost use Rattle.des_fast.specs.HalfBlocks.{first_halves, last_block, round_keys_of};
+ghost use Rattle.des_fast.specs.HalfBlocks.{round_keys_of};
 ghost use Rattle.des_fast.specs.SideBySide.{AreExpansions, in_direction};
 
 use crate::halves::RoundKey;
-use crate::permutations;
 use crate::tables::substitute_in_rows;
-use std::simd::prelude::*;
 
 /// A word of groups of each of some blocks.
 pub trait Groups: Copy {
@@ -44,30 +41,6 @@ pub trait Groups: Copy {
     /// The words of the blocks, and then the last of them again.
     fn into_words(self) -> [u64; 4]
         ensures { (b : ℕ) → b < 4 → slice_index_or result b 0 ≡ word (min b (BLOCKS - 1)) self };
-
-    /// The halves that the rounds of the blocks of the first of these words begin with.
-    #[inline(always)]
-    fn first_halves(words: [u64; 4]) -> (Self, Self)
-        ensures left { AreExpansions BLOCKS word result.0 }
-        ensures right { AreExpansions BLOCKS word result.1 }
-        ensures halves { InEachBlock BLOCKS (λ b. (block : List ℕ)
-            → bits_of_bytes block ≡ bits_of_word (slice_index_or words b 0)
-            → (half_of (word b result.0), half_of (word b result.1)) ≡ first_halves block) }
-    {
-        let (left, right) = permutations::halves_of(u64x4::from_array(words));
-        (Self::of_words(left.to_array()), Self::of_words(right.to_array()))
-    }
-
-    /// The words of the blocks that the halves after the rounds make.
-    #[inline(always)]
-    fn last_words(left: Self, right: Self) -> [u64; 4]
-        ensures { InEachBlock BLOCKS (λ b. block_of_bits (bits_of_word (slice_index_or result b 0))
-            ≡ last_block (half_of (word b left), half_of (word b right))) }
-    {
-        let left = u64x4::from_array(left.into_words());
-        let right = u64x4::from_array(right.into_words());
-        permutations::words_of_halves(left, right).to_array()
-    }
 
     // There are some blocks, and at most four.
     ghost some_blocks: { 1 ≤ BLOCKS };

@@ -2,7 +2,7 @@
 
 ghost use Rattle.des_fast.specs.ThreeBlocks.{word_of_three};
 
-use crate::halves::{Halves, RoundKey, last_word};
+use crate::halves::RoundKey;
 use crate::rounds::{Groups, next};
 
 /// A word of groups of each of three blocks.
@@ -43,35 +43,6 @@ impl Groups for ThreeGroups {
     #[inline(always)]
     fn into_words(self) -> [u64; 4] {
         [self.first, self.second, self.third, self.third]
-    }
-
-    #[inline(always)]
-    fn first_halves(words: [u64; 4]) -> (ThreeGroups, ThreeGroups) {
-        let first = Halves::of_word(words[0]);
-        let second = Halves::of_word(words[1]);
-        let third = Halves::of_word(words[2]);
-        (
-            ThreeGroups {
-                first: first.left.groups,
-                second: second.left.groups,
-                third: third.left.groups,
-            },
-            ThreeGroups {
-                first: first.right.groups,
-                second: second.right.groups,
-                third: third.right.groups,
-            },
-        )
-    }
-
-    #[inline(always)]
-    fn last_words(left: ThreeGroups, right: ThreeGroups) -> [u64; 4] {
-        [
-            last_word(left.first, right.first),
-            last_word(left.second, right.second),
-            last_word(left.third, right.third),
-            0,
-        ]
     }
 
     ghost some_blocks = { lit≤ tt };
