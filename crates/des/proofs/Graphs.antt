@@ -11,7 +11,7 @@ use Rattle.des.specs.Des.{IsDesOf, encrypted, decrypted, encryption, decryption}
 use Rattle.des.specs.Laws.BlockBits.{IsBlock-block_of_bits, bits_of_bytes-block_of_bits, block_of_bits-bits_of_bytes, length-bits_of_block}
 use Rattle.des.proofs.PassGraphs.{HasOneAnswerEachWay-graph, IsTheOne-graph, IsGraphOf-turned}
 use Rattle.des.specs.Laws.RoundsUndone.{length-through_rounds, IsPass-answer_by}
-use Rattle.des.specs.Laws.HeldRoundKeys.{round_keys_of-HoldRoundKeys}
+use Rattle.des.specs.Laws.KeptRoundKeys.{round_keys_of-HoldRoundKeys}
 use Rattle.des.proofs.OneAnswer.{IsDes-through_rounds, through_rounds-from_IsDes}
 
 -- DES takes a block to what the rounds of its key make of it

@@ -14,7 +14,7 @@ use Rattle.des.specs.KeySchedule.{c_half, d_half, rotate, key_schedule}
 use Rattle.des.specs.RoundKeyWords.{HoldRoundKeys, round_keys_of}
 use Rattle.des.specs.KeyHalves.{IsListedHalf}
 use Rattle.des.specs.Laws.BitLists.{number_of-bits_of_word}
-use Rattle.des.specs.Laws.HeldRoundKeys.{round_keys_of-HoldRoundKeys}
+use Rattle.des.specs.Laws.KeptRoundKeys.{round_keys_of-HoldRoundKeys}
 use Rattle.des.proofs.RoundKeys.{length-c_half, length-d_half}
 use Rattle.des.proofs.DistinctCounts.{count_of, distinct_count-sum, count_of-pos, count_of-map, copies_of_one}
 use Rattle.des.proofs.RoundKeyPlaces.{key_at, shifts, schedule_of_halves, key_schedule-halves}
@@ -49,14 +49,14 @@ AreByRemainders n c d = schedule_of_halves c d ≡ map (key_at c d) (map (λ m. 
 
 -- the words that hold the round keys of a key
 module _ (words : List ℕ) (key : List Bool) (small : All (λ word. word < 2 ^ 64) words)
-    (held : HoldRoundKeys words key) where
+    (kept : HoldRoundKeys words key) where
   -- they are the words of the round keys that its halves give
   made : words ≡ map word_of (schedule_of_halves (c_half key) (d_half key))
   made =
       sym (map_fixed (λ word. number_of (bits_of_word word)) words
       (λ k d within. number_of-bits_of_word _ (small k d within)))
       ∙ sym (map-map number_of bits_of_word words)
-      ∙ ap (map number_of) held
+      ∙ ap (map number_of) kept
       ∙ map-map number_of (λ round_key. round_key ++ zeros 16) (key_schedule key)
       ∙ ap (map word_of) (key_schedule-halves key)
 
@@ -76,7 +76,7 @@ module _ (words : List ℕ) (key : List Bool) (small : All (λ word. word < 2 ^ 
       let copies : words ≡ replicate 16 first =
       made ∙ ap (λ rest. first ∷ rest) (copies_of_one first _ (sym count ∙ one)) in
       let same : schedule_of_halves (c_half key) (d_half key) ≡ replicate 16 (take 48 (bits_of_word first)) =
-      sym (key_schedule-halves key) ∙ sym (round_keys_of-HoldRoundKeys words key held) ∙ ap round_keys_of copies in
+      sym (key_schedule-halves key) ∙ sym (round_keys_of-HoldRoundKeys words key kept) ∙ ap round_keys_of copies in
       constant_halves _ (c_half key) (d_half key) (length-c_half key) (length-d_half key) same
 
   -- there are at most as many as there are remainders, if the halves are their first n bits 1 + times times and

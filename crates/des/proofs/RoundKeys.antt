@@ -105,7 +105,7 @@ HoldRoundKeys-by_index words key size each =
 pub HoldRoundKeys-bytes : (words bytes : List ℕ) (word : ℕ) → length bytes ≡ 8 → ((i : ℕ) → slice_index bytes i < 256)
     → word ≡ from_be_bytes w64 bytes → HoldRoundKeys words (bits_of_word word)
     → IsKey 8 bytes × HoldRoundKeys words (bits_of_bytes bytes)
-HoldRoundKeys-bytes words bytes word eight small same held = (
+HoldRoundKeys-bytes words bytes word eight small same kept = (
   IsKey-array 8 bytes eight small,
-  rw (bits_of_bytes-from_be bytes eight small, ← same) held,
+  rw (bits_of_bytes-from_be bytes eight small, ← same) kept,
 )

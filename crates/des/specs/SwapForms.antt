@@ -16,7 +16,7 @@ Step = ℕ × ℕ
 
 -- a word after steps, the first of the list first
 abbrev pub after_steps : List Step → ℕ → ℕ
-after_steps steps word = fold (λ held step. delta_swapped held step.0 step.1) word steps
+after_steps steps word = fold (λ so_far step. delta_swapped so_far step.0 step.1) word steps
 
 -- the steps of IP
 abbrev pub initial_swaps : List Step

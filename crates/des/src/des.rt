@@ -91,7 +91,7 @@ impl Des {
     /// parity bits of the key; whoever has them has all its other bits.
     pub fn round_keys(&self) -> &[u64; 16]
         ensures words { result.now ≡ round_key_words self.now }
-        ensures held { (key : List ℕ) → IsDesOf self.now key
+        ensures of_key { (key : List ℕ) → IsDesOf self.now key
             → HoldRoundKeys result.now (bits_of_bytes key) }
     {
         &self.round_keys
@@ -209,33 +209,33 @@ impl BlockCipher for Des {
 impl KeyedCipher for Des {
     ghost use Rattle.std.specs.Prelude.{reverse};
     ghost use Rattle.des.specs.Des.{encryption as encryption_by, decryption as decryption_by};
-    ghost use Rattle.des.specs.Laws.HeldRoundKeys.{Agree-held};
+    ghost use Rattle.des.specs.Laws.KeptRoundKeys.{Agree-kept};
 
     ghost encryption = { encryption_by };
 
     ghost decryption = { decryption_by };
 
     ghost encrypts_by_key = { λ cipher key block _ made is_block.
-        (Agree-held (λ keys. keys) cipher.round_keys key made.0.1).at block is_block };
+        (Agree-kept (λ keys. keys) cipher.round_keys key made.0.1).at block is_block };
 
     ghost decrypts_by_key = { λ cipher key block _ made is_block.
-        (Agree-held reverse cipher.round_keys key made.0.1).at block is_block };
+        (Agree-kept reverse cipher.round_keys key made.0.1).at block is_block };
 }
 
 impl Relating for Des {
     ghost use Rattle.std.specs.Prelude.{reverse};
-    ghost use Rattle.des.specs.Laws.HeldRoundKeys.{Agree-held};
+    ghost use Rattle.des.specs.Laws.KeptRoundKeys.{Agree-kept};
     ghost use Rattle.des.specs.Laws.Passes.{IsGraphOf-alike};
 
     ghost relation = { λ key block answer. Enciphers key block answer };
 
     ghost encrypts_by_relation = { λ cipher key made.
         IsGraphOf-alike (λ x y. Enciphers key x y)
-        (Agree-held (λ keys. keys) cipher.round_keys key made.0.1) made.1.0 };
+        (Agree-kept (λ keys. keys) cipher.round_keys key made.0.1) made.1.0 };
 
     ghost decrypts_by_relation = { λ cipher key made.
         IsGraphOf-alike (λ y x. Enciphers key x y)
-        (Agree-held reverse cipher.round_keys key made.0.1) made.1.1 };
+        (Agree-kept reverse cipher.round_keys key made.0.1) made.1.1 };
 }
 
 impl Complementing for Des {

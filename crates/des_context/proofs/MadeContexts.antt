@@ -2,11 +2,11 @@
 use Rattle.std.proofs.Common.{◌≡◌, ℕ, ◌+◌, ◌*◌, ◌≤◌, List, length, slice_set, subst, sym, ◌∙◌, arith}
 use Rattle.std.proofs.lemmas.List.{length-set, take-set-le}
 use Rattle.des.specs.Blocks.{IsKey, part}
-use Rattle.des_fast.specs.Words.{AreRoundKeysOf}
+use Rattle.des_fast.specs.KeptRoundKeys.{AreRoundKeysOf, words_of_part}
 use Rattle.des_context.specs.declared.ciphers.CipherType.{CipherType}
 use Rattle.des_context.specs.CipherTypes.{parts_of}
 use Rattle.des_context.specs.CipherTypeLaws.{cipher_type-of_key}
-use Rattle.des_context.specs.Contexts.{words_of_part, AreWordsOf, IsContextOf}
+use Rattle.des_context.specs.Contexts.{AreWordsOf, IsContextOf}
 use Rattle.des_context.proofs.PartWords.{words-kept}
 
 pub IsContextOf-written : (cipher_type : CipherType) (words key : List ℕ) (word : ℕ) → IsKey (8 * parts_of cipher_type) key

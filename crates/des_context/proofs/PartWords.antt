@@ -1,7 +1,7 @@
 -- The words of a part, within words that are written.
 use Rattle.std.proofs.Common.{◌≡◌, ℕ, ◌*◌, ◌-◌, List, take, drop, sym, ap, ◌∙◌}
 use Rattle.std.proofs.lemmas.Slice.{between_is}
-use Rattle.des_context.specs.Contexts.{words_of_part}
+use Rattle.des_fast.specs.KeptRoundKeys.{words_of_part}
 
 -- they stay if the first words stay
 pub words-kept : (n : ℕ) (words other : List ℕ) → take (16 * n) words ≡ take (16 * n) other

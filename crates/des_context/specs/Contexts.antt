@@ -1,15 +1,11 @@
 -- A context, as words: sixteen for each part of its key, which hold the round keys of the part, and
 -- one more, the mark of the init that made them.
-use Rattle.std.specs.Prelude.{◌≡◌, ◌⊎◌, ℕ, ◌+◌, ◌*◌, ◌-◌, ◌/◌, ◌≤◌, List, length, slice_range, slice_index_or, Bool, true, false, if◌then◌else◌}
+use Rattle.std.specs.Prelude.{◌≡◌, ◌⊎◌, ℕ, ◌+◌, ◌*◌, ◌-◌, ◌/◌, ◌≤◌, List, length, slice_index_or, Bool, true, false, if◌then◌else◌}
 use Rattle.des.specs.Blocks.{IsKey, part}
-use Rattle.des_fast.specs.Words.{AreRoundKeysOf}
+use Rattle.des_fast.specs.KeptRoundKeys.{AreRoundKeysOf, words_of_part}
 use Rattle.des_context.specs.declared.ciphers.CipherType.{CipherType}
 use Rattle.des_context.specs.declared.contexts.TheConstants.{MARK, NO_MAC}
 use Rattle.des_context.specs.CipherTypes.{parts_of, cipher_type_of_length}
-
--- the words of part n of a key, from 1
-abbrev pub words_of_part : ℕ → List ℕ → List ℕ
-words_of_part n words = slice_range words (16 * (n - 1)) (16 * n)
 
 -- there are as many words as in a context of this type of cipher
 abbrev pub HasCipherType : CipherType → List ℕ → Type 0

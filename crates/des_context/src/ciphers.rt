@@ -14,7 +14,7 @@ use des::cipher::Relating;
 use des::tdes::{self, Ede2, Ede3};
 use des_fast::box_lookup::BoxLookup;
 use des_fast::single::Des;
-use des_fast::words::from_round_key_words;
+use des_fast::round_keys;
 
 /// A type of cipher: DES, or triple DES in the EDE form.
 #[derive(Clone, Copy)]
@@ -65,24 +65,12 @@ pub trait ContextCipher: Relating + Drop {
         → (Self.encryption key ≡ encryption_of key) × (Self.decryption key ≡ decryption_of key) };
 }
 
-// The single DES of a part of the key of a context, numbered from 1.
-#[inline(always)]
-fn single<W: BoxLookup>(context: &[u64], number: usize) -> Des<W>
-    requires from { 1 ≤ number }
-    requires to { 16 * number < length context.now }
-    requires made { (key : List ℕ) × IsContextOf context.now key }
-    ensures { (key : List ℕ) → IsContextOf context.now key → IsDesMadeFrom result (part number key) }
-{
-    let words = context[16 * (number - 1)..16 * number].as_array::<16>();
-    from_round_key_words(words.unwrap())
-}
-
 impl<W: BoxLookup> ContextCipher for Des<W> {
     ghost CIPHER_TYPE = { cipher_types.Des };
 
     #[inline(always)]
     fn of(context: &[u64]) -> Des<W> {
-        single(context, 1)
+        round_keys::from_words(context, 1)
     }
 
     ghost answers_by_length = { λ _ key made. AnswersByLength-cipher_type cipher_types.Des key made.0.0 };
@@ -99,7 +87,10 @@ impl<W: BoxLookup> ContextCipher for Ede2<Des<W>> {
 
     #[inline(always)]
     fn of(context: &[u64]) -> Ede2<Des<W>> {
-        tdes::of_two(single(context, 1), single(context, 2))
+        tdes::of_two(
+            round_keys::from_words(context, 1),
+            round_keys::from_words(context, 2),
+        )
     }
 
     ghost answers_by_length = { λ _ key made. AnswersByLength-cipher_type cipher_types.Ede2 key made.0.0 };
@@ -116,7 +107,11 @@ impl<W: BoxLookup> ContextCipher for Ede3<Des<W>> {
 
     #[inline(always)]
     fn of(context: &[u64]) -> Ede3<Des<W>> {
-        tdes::of_three(single(context, 1), single(context, 2), single(context, 3))
+        tdes::of_three(
+            round_keys::from_words(context, 1),
+            round_keys::from_words(context, 2),
+            round_keys::from_words(context, 3),
+        )
     }
 
     ghost answers_by_length = { λ _ key made. AnswersByLength-cipher_type cipher_types.Ede3 key made.0.0 };

@@ -6,15 +6,15 @@
 
 ghost use Rattle.std.specs.Prelude.{◌≡◌, ◌≢◌, ◌↔◌, ◌≤◌, ◌<◌, ◌+◌, ◌*◌, ℕ, List, length, IsSome, IfSome};
 ghost use Rattle.des.specs.Blocks.{part};
-ghost use Rattle.des_fast.specs.Words.{AreRoundKeysOf};
-ghost use Rattle.des_context.specs.Contexts.{HasSomeCipherType, HasCipherType, HasMark, IsContextOf, IsMarked, mark_of, words_of_part};
+ghost use Rattle.des_fast.specs.KeptRoundKeys.{AreRoundKeysOf, words_of_part};
+ghost use Rattle.des_context.specs.Contexts.{HasSomeCipherType, HasCipherType, HasMark, IsContextOf, IsMarked, mark_of};
 
 use crate::ciphers::CipherType;
 use crate::status::{ERR_KEY_LENGTH, OK};
 use des::cipher::{KeyInit, are_bytes};
 use des::tdes::key_part;
 use des_fast::Des;
-use des_fast::words::round_key_words;
+use des_fast::round_keys;
 
 /// What each mark begins with: no round key has a word that does.
 pub const MARK: u64 = 0xc0de000000000000;
@@ -38,7 +38,7 @@ fn write_part(context: &mut [u64], key: &[u8], number: usize)
     ensures kept { (n : ℕ) → 1 ≤ n → n < number
         → words_of_part n context.new ≡ words_of_part n context.old }
 {
-    let words = round_key_words(&Des::new(&key_part(key, number)));
+    let words = round_keys::to_words(&Des::new(&key_part(key, number)));
     context[16 * (number - 1)..16 * number].copy_from_slice(&words);
 }
 

@@ -104,12 +104,12 @@ pub AreWordsWritten-more : {A : Type 0} (bit : ℕ → A → Bool) (n : ℕ) (ro
     → block ≡ block_of_bits (bits_of_bytes (to_le_bytes w64 word))
     → AreWordsWritten bit n row m old new count → AreWordsWritten bit n row m old (set new i block) (count + 1)
 AreWordsWritten-more bit n row m old new count i block word at_row at_lane inside bits made are =
-    let room : i < length new = omega (arith, are.1.1) in (
+    let below_end : i < length new = omega (arith, are.1.1) in (
       λ k at below. elim (cases_eq (k % n) count) [
         | inl same ↦
             let here : k ≡ i = same-parts n k i (at ∙ sym at_row) (same ∙ sym at_lane) in
             ap (λ (j : ℕ). get_or (set new i block) j []) here
-            ∙ get_or-set_same new i block [] room
+            ∙ get_or-set_same new i block [] below_end
             ∙ made
             ∙ ap block_of_bits (bits ∙ ap (bits_of_lane bit row) (sym same))
         | inr other ↦

@@ -20,15 +20,15 @@ chosen zero value byte = value 0
 chosen (suc n) value byte = cond (has byte (2 ^ n)) (chosen n (λ k. value (2 ^ n + k)) byte) (chosen n value byte)
 
 -- what the vectors of the code hold in byte i for a group: its row, and its value of the first two bits
-abbrev held : ℕ → ℕ → ℕ → ℕ
-held i pair row = slice_index_or (slice_index_or ENTRIES row []) (8 * pair + i) 0
+abbrev kept : ℕ → ℕ → ℕ → ℕ
+kept i pair row = slice_index_or (slice_index_or ENTRIES row []) (8 * pair + i) 0
 
 -- what a group chooses of them
 abbrev pub choice : ℕ → ℕ → ℕ
 choice i byte =
     cond (has byte 16)
-    (cond (has byte 32) (chosen 4 (held i 3) byte) (chosen 4 (held i 1) byte))
-    (cond (has byte 32) (chosen 4 (held i 2) byte) (chosen 4 (held i 0) byte))
+    (cond (has byte 32) (chosen 4 (kept i 3) byte) (chosen 4 (kept i 1) byte))
+    (cond (has byte 32) (chosen 4 (kept i 2) byte) (chosen 4 (kept i 0) byte))
 
 -- is the entry of the box of that byte
 pub choice-entry : (i byte : ℕ) → i < 8 → byte < 64 → choice i byte ≡ box_entry (box_of_byte i) (bits_of 6 byte)

@@ -116,7 +116,7 @@ exchanged-first n d m xs ys b small p q within test =
     (nat_lt (place + d) 64 && (number_in_word (place + d) == number + d)) test in
     let masked = and_parts (not (bit_in m number)) (bit_in m (number + d)) outer.0 in
     let near = and_parts (nat_lt (place + d) 64) (number_in_word (place + d) == number + d) outer.1 in
-    let room : place + d < 64 = ltb-true _ _ near.0 in
+    let below_end : place + d < 64 = ltb-true _ _ near.0 in
     let partner : number_in_word (place + d) ≡ number + d = eqb-true _ _ near.1 in
     let other : number_in_word (b - d * 0 + d * 1) ≡ number_in_word (place + d) = omega arith in (
       ap₂ bit_in made.0 own

@@ -6,7 +6,7 @@ use Rattle.des.specs.Laws.Selections.{length-select}
 use Rattle.des_fast.specs.declared.halves.RoundKey.{RoundKey}
 use Rattle.des_fast.specs.Groups.{group_positions, bits_of_groups}
 use Rattle.des_fast.specs.HalfBlocks.{round_keys_of}
-use Rattle.des_fast.specs.Words.{round_keys_in}
+use Rattle.des_fast.specs.KeptRoundKeys.{round_keys_in}
 use Rattle.des_fast.proofs.GroupWords.{bits_of_word-mask, bits_of_groups-Holds}
 use Rattle.des_fast.proofs.RoundKeysByPlace.{round_keys_of-by_index}
 

@@ -172,7 +172,7 @@ pub IsRoundKey-row : (i halves : ℕ) (words : List ℕ) (key : List Bool) → i
 unfolding round_key
 IsRoundKey-row i halves words key below fits holds made =
     let row : ℕ = slice_index_or ROWS_OF_ROUNDS i 0 in
-    let held : Holds (slice_index_or words row 0) (round_key key (i + 1)) =
+    let kept : Holds (slice_index_or words row 0) (round_key key (i + 1)) =
     ap (λ (list : List ℕ). bits_of_word (slice_index_or list row 0)) made
     ∙ Holds-word_of i halves below fits
     ∙ ap (select positions_in_word) (round_key-halves (i + 1) halves key holds) in
@@ -180,6 +180,6 @@ IsRoundKey-row i halves words key below fits holds made =
     rw made (AreLinear-transposed.fits row halves (ROWS_OF_ROUNDS-lt i below)) in
     let width : length (round_key key (i + 1)) ≡ 48 = length-select permuted_choice_2 _ in
     record {
-      of_groups = IsOfGroups-Holds _ (round_key key (i + 1)) word_fits width held;
-      bits = bits_of_groups-Holds _ (round_key key (i + 1)) width held;
+      of_groups = IsOfGroups-Holds _ (round_key key (i + 1)) word_fits width kept;
+      bits = bits_of_groups-Holds _ (round_key key (i + 1)) width kept;
     }

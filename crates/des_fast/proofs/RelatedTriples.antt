@@ -1,5 +1,8 @@
 -- Triple ciphers over this crate's `Des`, and the relation of the key that they are made from.
 use Rattle.std.proofs.Common.{ℕ, List, Bool}
+use Rattle.std.specs.List.{All}
+use Rattle.des.specs.Blocks.{IsBlock}
+use Rattle.des.specs.Cbc.{Chains, Cbc}
 use Rattle.des.specs.Relations.{IsGraphOf}
 use Rattle.des.specs.Triple.{EnciphersTriple}
 use Rattle.des.specs.TripleCiphers.{IsTripleMadeFrom, triple_encrypted, triple_decrypted}
@@ -9,6 +12,7 @@ use Rattle.des.specs.Laws.TriplePasses as triple
 use Rattle.des_fast.specs.declared.single.Des.{Des}
 use Rattle.des_fast.specs.Des.{IsDesMadeFrom, encrypted, decrypted}
 use Rattle.des_fast.specs.Laws.DesLaws.{AnswersAsDes-Des}
+use Rattle.des_fast.proofs.RelatedChains.{Chains-related}
 
 module _ {W : Type 0} (deciphers : Bool) (ciphers : Des W × Des W × Des W) where
   single : AnswersAsDes (IsDesMadeFrom {W = W}) encrypted decrypted
@@ -30,3 +34,11 @@ module _ {W : Type 0} (deciphers : Bool) (ciphers : Des W × Des W × Des W) whe
     decrypts-triple =
         IsGraphOf-alike (λ y x. EnciphersTriple has_three deciphers key x y)
         (triple.Agree-triple_decrypted single deciphers ciphers has_three key made.0) made.1.1
+
+    pub Chains-triple : (iv : List ℕ) (p q : List (List ℕ)) → IsBlock iv → All IsBlock p
+        → Cbc (triple_encrypted encrypted decrypted deciphers ciphers) iv p q
+        → Chains (λ x y. EnciphersTriple has_three deciphers key x y) iv p q
+    Chains-triple iv p q is_iv are_blocks =
+        Chains-related (λ x y. EnciphersTriple has_three deciphers key x y)
+        (triple_encrypted encrypted decrypted deciphers ciphers) encrypts-triple iv p q is_iv are_blocks
+        IsPass-triple.forth_is_block

@@ -39,7 +39,7 @@ AreUnchainedBelow-more f sizes first q vectors blocks m place answer has in_vect
     let n : ℕ = place - start sizes m in
     let size : ℕ = get_or sizes m 0 in
     let at : start sizes m + n ≡ place = omega arith in
-    let room : place < length blocks = omega (arith, end-within sizes m there) in
+    let below_end : place < length blocks = omega (arith, end-within sizes m there) in
     elim (cases_eq k m) [
       | inl same ↦
           let before : ℕ → List ℕ = cipher_before (get_or first m []) q (start sizes m) in
@@ -57,7 +57,7 @@ AreUnchainedBelow-more f sizes first q vectors blocks m place answer has in_vect
           (omega arith)
           (get_or-set_same vectors m old [] (omega arith) ∙ block)
           (ap (λ (l : ℕ). get_or (set blocks place new) l []) at
-          ∙ get_or-set_same blocks place new [] room
+          ∙ get_or-set_same blocks place new [] below_end
           ∙ ap₂ xor_blocks (answered ∙ ap f block) is.end)
           (λ j low other. get_or-set_other blocks place (start sizes m + j) new [] (λ is. other (omega arith))) is))
       | inr other ↦

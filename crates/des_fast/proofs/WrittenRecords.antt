@@ -41,7 +41,7 @@ AreWritten-more sizes from n i lanes vectors blocks new_vectors new_blocks there
     let at : ℕ = from + n in
     let place : ℕ = start sizes at + i in
     let lane : List ℕ = get_or lanes n [] in
-    let room : place < length new_blocks = omega (arith, end-within sizes at there) in
+    let below_end : place < length new_blocks = omega (arith, end-within sizes at there) in
     let kept_block : (p : ℕ) → p ≢ place → get_or (set new_blocks place lane) p [] ≡ get_or new_blocks p [] =
     λ p other. get_or-set_other new_blocks place p lane [] other in
     let kept_vector : (k : ℕ) → k ≢ at → get_or (set new_vectors at lane) k [] ≡ get_or new_vectors k [] =
@@ -50,7 +50,7 @@ AreWritten-more sizes from n i lanes vectors blocks new_vectors new_blocks there
       block = λ k below has. elim (cases_eq k n) [
         | inl same ↦
             ap (λ (m : ℕ). get_or (set new_blocks place lane) (start sizes (from + m) + i) []) same
-            ∙ get_or-set_same new_blocks place lane [] room
+            ∙ get_or-set_same new_blocks place lane [] below_end
             ∙ ap (λ (m : ℕ). get_or lanes m []) (sym same)
         | inr other ↦
             kept_block (start sizes (from + k) + i)

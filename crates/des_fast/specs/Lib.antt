@@ -8,7 +8,7 @@ pub mod CombinedTables
 pub mod RoundKeyRows
 pub mod HalfBlocks
 pub mod Des
-pub mod Words
+pub mod KeptRoundKeys
 pub mod EachKey
 pub mod LaneKeys
 pub mod ChainingValues

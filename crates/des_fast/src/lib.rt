@@ -2,7 +2,7 @@
 //! edit the crate's name in one `use` line. One block takes a third of the time, a block of a long
 //! list a tenth of that. `many` has the calls for long lists, for keys of their own for each block,
 //! for chains in step and for records; `no_tables` the ciphers that read no table at an index that
-//! depends on the key or the block, `words` the round keys as plain words.
+//! depends on the key or the block, `round_keys` those of a cipher as plain words.
 //! The traits, `cbc` and the weak key test stay in `des`, and `Des::round_keys` and
 //! `Des::distinct_round_keys` are there alone.
 //!
@@ -21,6 +21,7 @@ mod lists;
 pub mod many;
 pub mod no_tables;
 mod permutations;
+pub mod round_keys;
 mod rounds;
 mod schedule;
 pub mod single;
@@ -28,7 +29,6 @@ mod slices;
 mod tables;
 pub mod tdes;
 mod three_blocks;
-pub mod words;
 
 use box_lookup::Tables;
 pub use tdes::{TdesEde2, TdesEde3, TdesEee2, TdesEee3};

@@ -1,4 +1,4 @@
--- How the chain and the held bytes follow a message as it grows.
+-- How the chain and the pending bytes follow a message as it grows.
 use Rattle.std.proofs.Common.{◌≡◌, ℕ, ◌+◌, ◌-◌, ◌*◌, ◌/◌, ◌%◌, ◌<◌, ◌≤◌, List, [], ◌++◌, length, take, drop, get_or, refl, sym, ap, ◌∙◌, arith, length-append, append_assoc}
 use Rattle.std.specs.Simd.{first_chunks}
 use Rattle.std.proofs.lemmas.List.{drop-append-le, take_all, drop-drop, take-append-drop, length-take-le, drop_at}
@@ -15,7 +15,7 @@ pub Absorbed-none : (e : List ℕ → List ℕ) (pending : List ℕ) → length 
 unfolding chain_after
 Absorbed-none e pending width = record { width = width; counted = refl; chained = refl; kept = refl }
 
--- more bytes are held
+-- more bytes are pending
 pub Absorbed-pending : (e : List ℕ → List ℕ) (n : ℕ) (chain pending : List ℕ) (count : ℕ) (m bytes : List ℕ) (now : List ℕ)
     (total : ℕ)
     → Absorbed e n chain pending count m → length now ≡ 8 → total ≡ count + length bytes
@@ -29,7 +29,7 @@ Absorbed-pending e n chain pending count m bytes now total a width sum joined =
       kept = rw (joined, a.kept) (sym (drop-append-le (8 * n) m bytes (omega arith)));
     }
 
--- the held bytes are a whole block: the chain with it
+-- the pending bytes are a whole block: the chain with it
 pub chain_after-pending : (e : List ℕ → List ℕ) (n : ℕ) (chain pending : List ℕ) (m : List ℕ)
     → Absorbed e n chain pending 8 m → e (xor_blocks pending chain) ≡ chain_after e m (n + 1)
 chain_after-pending e n chain pending m a =
@@ -38,13 +38,13 @@ chain_after-pending e n chain pending m a =
     let block : block_after m n ≡ pending = rw last (take_all 8 pending (omega arith)) in
     rw (chain_after-next e m n, block, a.chained) refl
 
--- bytes that fill the held block with their head go on with the blocks of their rest
+-- bytes that fill the pending block with their head go on with the blocks of their rest
 module _ (e : List ℕ → List ℕ) (n : ℕ) (m head rest bytes : List ℕ) (joined : head ++ rest ≡ bytes)
     (full : length (m ++ head) ≡ 8 * (n + 1)) where
   regrouped : (m ++ head) ++ rest ≡ m ++ bytes
   regrouped = append_assoc m head rest ∙ ap (λ (end : List ℕ). m ++ end) joined
 
-  -- the chain with the held block
+  -- the chain with the pending block
   pub chain_after-filled : (chain pending : List ℕ) → Absorbed e n chain pending 8 (m ++ head)
       → e (xor_blocks pending chain) ≡ chain_after e (m ++ bytes) (n + 1)
   chain_after-filled chain pending a =
@@ -64,7 +64,7 @@ module _ (e : List ℕ → List ℕ) (n : ℕ) (m head rest bytes : List ℕ) (j
         ∙ sym (block_after-past (m ++ head) rest (n + 1) i full)
         ∙ ap (λ (all : List ℕ). block_after all (n + 1 + i)) regrouped
 
-    -- and what comes after them is held
+    -- and what comes after them is pending
     pub Absorbed-rest : (chain pending : List ℕ) (count k : ℕ) → length pending ≡ 8 → length whole ≡ 8 * k
         → count ≡ length last
         → take count pending ≡ last → chain ≡ chain_after e (m ++ bytes) (n + 1 + k)

@@ -2,7 +2,7 @@
 use Rattle.std.specs.Prelude.{◌≡◌, ℕ, ◌+◌, ◌*◌, List, length, take, drop}
 use Rattle.des_mac.specs.CbcMac.{chain_after}
 
--- the first n blocks of the bytes are chained, and the other bytes are held
+-- the first n blocks of the bytes are chained, and the other bytes are pending
 pub record Absorbed (encryption : List ℕ → List ℕ) (n : ℕ) (chain pending : List ℕ)
     (count : ℕ) (m : List ℕ) : Type 0 where
   pub width : length pending ≡ 8

@@ -25,9 +25,9 @@ key_schedule-reversed key partner each =
 pub HoldRoundKeys-reversed : (words : List ℕ) (key partner : List Bool)
     → ((i : ℕ) → 1 ≤ i → i ≤ 16 → round_key partner i ≡ round_key key (17 - i))
     → HoldRoundKeys words key → HoldRoundKeys (reverse words) partner
-HoldRoundKeys-reversed words key partner each held =
+HoldRoundKeys-reversed words key partner each kept =
     let padded : List Bool → List Bool = λ round_key. round_key ++ zeros 16 in
     map-reverse bits_of_word words
-    ∙ ap reverse held
+    ∙ ap reverse kept
     ∙ sym (map-reverse padded (key_schedule key))
     ∙ ap (map padded) (key_schedule-reversed key partner each)

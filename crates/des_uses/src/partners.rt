@@ -50,7 +50,7 @@ pub fn round_keys_of_partner(key: &[u8; 8], partner: &[u8; 8]) -> Option<[u64; 1
     ensures found { IsSome result ↔ ArePartners key.now partner.now }
     ensures reversed { IsSome result ↔ ((i : ℕ) → 1 ≤ i → i ≤ 16
         → round_key (bits_of_bytes partner.now) i ≡ round_key (bits_of_bytes key.now) (17 - i)) }
-    ensures held { IfSome result (λ words. HoldRoundKeys words (bits_of_bytes partner.now)) }
+    ensures of_key { IfSome result (λ words. HoldRoundKeys words (bits_of_bytes partner.now)) }
 {
     if !is_partner(key, partner) {
         return None;

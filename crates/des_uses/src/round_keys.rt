@@ -16,7 +16,7 @@ use des::weak_key::equal_but_parity;
 /// The round keys K(1) to K(16) of a key, each in the first 48 bits of its word, and how many
 /// different words there are.
 pub fn counted_round_keys(key: &[u8; 8]) -> ([u64; 16], u8)
-    ensures held { HoldRoundKeys result.0 (bits_of_bytes key.now) }
+    ensures of_key { HoldRoundKeys result.0 (bits_of_bytes key.now) }
     ensures count { result.1 ≡ distinct_count nat_eq result.0 }
 {
     let cipher = Des::new(key);

@@ -9,7 +9,7 @@ use Rattle.des.specs.Des.{IsDesOf, encrypted, decrypted, encryption, decryption}
 use Rattle.des.specs.Laws.Passes.{IsPass, Agree}
 use Rattle.des.specs.Laws.SingleDes.{AnswersAsDes}
 use Rattle.des.specs.Laws.RoundsUndone.{IsPass-answer_by}
-use Rattle.des.specs.Laws.HeldRoundKeys.{Agree-held}
+use Rattle.des.specs.Laws.KeptRoundKeys.{Agree-kept}
 
 -- a cipher is a pass, and so is a key
 pub IsPass-Des : (cipher : Des) → IsPass (encrypted cipher) (decrypted cipher)
@@ -21,11 +21,11 @@ IsPass-key key = IsPass-answer_by (key_schedule (bits_of_bytes key))
 -- a cipher of a key answers as the key does, in each direction
 pub Agree-encrypted : (cipher : Des) (key : List ℕ) → IsDesOf cipher key
     → Agree (encrypted cipher) (encryption key)
-Agree-encrypted cipher key made = Agree-held (λ keys. keys) cipher.round_keys key made.1
+Agree-encrypted cipher key made = Agree-kept (λ keys. keys) cipher.round_keys key made.1
 
 pub Agree-decrypted : (cipher : Des) (key : List ℕ) → IsDesOf cipher key
     → Agree (decrypted cipher) (decryption key)
-Agree-decrypted cipher key made = Agree-held reverse cipher.round_keys key made.1
+Agree-decrypted cipher key made = Agree-kept reverse cipher.round_keys key made.1
 
 -- all that a triple cipher asks of a single one
 pub AnswersAsDes-Des : AnswersAsDes IsDesOf encrypted decrypted

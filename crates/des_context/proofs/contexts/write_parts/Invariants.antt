@@ -1,7 +1,6 @@
 use Rattle.std.proofs.Common.{ℕ, ◌≤◌}
 use Rattle.des.specs.Blocks.{part}
-use Rattle.des_fast.specs.Words.{AreRoundKeysOf}
-use Rattle.des_context.specs.Contexts.{words_of_part}
+use Rattle.des_fast.specs.KeptRoundKeys.{AreRoundKeysOf, words_of_part}
 use Rattle.des_context.proofs.contexts.write_parts.Given as goal
 
 abbrev pub invariant-parts : goal.invariant-parts

@@ -1,5 +1,5 @@
 -- A part more.
-use Rattle.std.proofs.Common.{◌≡◌, ℕ, ◌+◌, ◌-◌, ◌++◌, List, length, map, take, drop, ap, ◌∙◌, arith}
+use Rattle.std.proofs.Common.{◌≡◌, ℕ, ◌+◌, ◌-◌, ◌++◌, List, map, take, drop, ap, ◌∙◌, arith}
 use Rattle.des_fast.proofs.AnsweredBatches.{answered-more, answered-all}
 use Rattle.des_fast.proofs.lists.process.Goals as goal
 

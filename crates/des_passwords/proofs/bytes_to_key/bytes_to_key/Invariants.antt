@@ -2,7 +2,7 @@ use Rattle.std.proofs.Common.{◌≡◌, ◌≤◌, ◌*◌, length, take}
 use Rattle.des_passwords.specs.BytesToKey.{d, ds}
 use Rattle.des_passwords.proofs.bytes_to_key.bytes_to_key.Given as goal
 
--- as many digests are written as turns were taken, and the last is held, none before the first turn
+-- as many digests are written as turns were taken, and the last is kept, none before the first turn
 abbrev pub invariant-digests : goal.invariant-digests
 invariant-digests g l =
     let digest = g.H.HashFunction.digest in let size = g.H.HashFunction.SIZE in

@@ -5,9 +5,9 @@ use Rattle.des.proofs.des.DesKeyInit.new.Goals as goal
 
 pub invariant_of-result : goal.invariant_of-result
 invariant_of-result c =
-    let held = HoldRoundKeys-bytes c.gen_keys.result c.args.key.now c.from_be_bytes.result (omega arith) c.fits-key
+    let kept = HoldRoundKeys-bytes c.gen_keys.result c.args.key.now c.from_be_bytes.result (omega arith) c.fits-key
     c.from_be_bytes.ensures c.gen_keys.ensures.words in
-    record { scheduled = ∣ (c.args.key.now, held.0, held.1) ∣₁ }
+    record { scheduled = ∣ (c.args.key.now, kept.0, kept.1) ∣₁ }
 
 pub returns-clause-made : goal.returns-clause-made
 returns-clause-made c =

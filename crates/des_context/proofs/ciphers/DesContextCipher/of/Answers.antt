@@ -4,4 +4,4 @@ use Rattle.des_context.proofs.ciphers.DesContextCipher.of.Goals as goal
 
 pub returns : goal.returns
 returns g c key made =
-    rw (take_all 8 key (omega (arith, made.0.0, made.1, c.requires.cipher_type))) at (c.single.ensures key made)
+    rw (take_all 8 key (omega (arith, made.0.0, made.1, c.requires.cipher_type))) at (c.from_words.ensures key made)

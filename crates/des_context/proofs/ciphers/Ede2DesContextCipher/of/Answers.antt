@@ -4,4 +4,4 @@ use Rattle.des_context.proofs.ciphers.Ede2DesContextCipher.of.Goals as goal
 pub returns : goal.returns
 returns g c key made =
     c.of_two.ensures key (omega (arith, made.0.0, made.1, c.requires.cipher_type), made.0.1)
-    (c.single.ensures key made) (c.single-2.ensures key made)
+    (c.from_words.ensures key made) (c.from_words-2.ensures key made)

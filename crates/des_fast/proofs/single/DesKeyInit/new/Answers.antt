@@ -24,10 +24,10 @@ returns-clause-decryption g c = IsGraphOf-decryption c.args.key.now (returns-cla
 
 pub returns-clause-encrypts_alike : goal.returns-clause-encrypts_alike
 returns-clause-encrypts_alike g c other made =
-    AnswerAlike-Agree (Agree-encrypted {W = g.row.W.Denot} (record { schedule = c.new.result; way = _ }) c.args.key.now (returns-clause-made g c))
+    AnswerAlike-Agree (Agree-encrypted {W = g.row.W.Denot} (record { schedule = c.new.result; lookup = _ }) c.args.key.now (returns-clause-made g c))
     (port.Agree-encrypted other c.args.key.now made)
 
 pub returns-clause-decrypts_alike : goal.returns-clause-decrypts_alike
 returns-clause-decrypts_alike g c other made =
-    AnswerAlike-Agree (Agree-decrypted {W = g.row.W.Denot} (record { schedule = c.new.result; way = _ }) c.args.key.now (returns-clause-made g c))
+    AnswerAlike-Agree (Agree-decrypted {W = g.row.W.Denot} (record { schedule = c.new.result; lookup = _ }) c.args.key.now (returns-clause-made g c))
     (port.Agree-decrypted other c.args.key.now made)

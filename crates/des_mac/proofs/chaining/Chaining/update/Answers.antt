@@ -19,7 +19,7 @@ returns-then-bytes-space-clause-holds g c = λ key m holds.
           c.hold.ensures.pending);
     }
 
--- their head fills the held block, their last block is held, and those between them are chained
+-- their head fills the pending block, their last block is pending, and those between them are chained
 pub returns-clause-holds : goal.returns-clause-holds
 returns-clause-holds g c = λ key m holds.
     let e = g.C.KeyedCipher.encryption key in

@@ -1,19 +1,16 @@
-use Rattle.std.proofs.Common.{ℕ, List, ◌<◌}
+use Rattle.std.proofs.Common.{◌<◌}
 use Rattle.std.proofs.lemmas.List.Elements.{All-from_get_or}
-use Rattle.des.specs.Blocks.{IsBlock}
-use Rattle.des.specs.Enciphering.{Enciphers}
-use Rattle.des.specs.Laws.Passes.{IsGraphOf-alike}
-use Rattle.des_fast.specs.Des.{encrypted}
-use Rattle.des_fast.specs.Laws.DesLaws.{IsPass-Des, Agree-encrypted}
-use Rattle.des_fast.proofs.RelatedChains.{Chains-related}
+use Rattle.des_fast.proofs.RelatedChains.{Chains-des}
 use Rattle.des_fast.proofs.many.ciphers.DesManyBlocks.encrypt_cbc_list.Goals as goal
 
-pub returns-clause-related : goal.returns-clause-related
-returns-clause-related c key made =
-    let cipher = c.args.self.now in
-    let iv : List ℕ = c.args.iv.now in
-    let is_iv : IsBlock iv = (c.told-iv, All-from_get_or (λ byte. byte < 256) iv 0 (λ i within. c.fits-iv i)) in
-    Chains-related (λ x y. Enciphers key x y) (encrypted cipher)
-    (IsGraphOf-alike (λ x y. Enciphers key x y) (Agree-encrypted cipher key made.0) made.1.0) iv c.args.blocks.now
-    c.cbc_encrypt_list.new.blocks is_iv c.cbc_encrypt_list.ensures.blocks (IsPass-Des cipher).forth_is_block
-    (rw c.pass.ensures at c.cbc_encrypt_list.ensures.chained)
+pub returns-then-no_tables-clause-related : goal.returns-then-no_tables-clause-related
+returns-then-no_tables-clause-related c key made =
+    Chains-des c.args.self.now key made.0 made.1.0 c.args.iv.now c.args.blocks.now c.cbc_encrypt.new.blocks
+    (c.told-iv, All-from_get_or (λ byte. byte < 256) c.args.iv.now 0 (λ i within. c.fits-iv i))
+    c.cbc_encrypt.ensures.blocks (rw c.pass-passes.ensures at c.cbc_encrypt.ensures.chained)
+
+pub returns-else-no_tables-clause-related : goal.returns-else-no_tables-clause-related
+returns-else-no_tables-clause-related c key made =
+    Chains-des c.args.self.now key made.0 made.1.0 c.args.iv.now c.args.blocks.now c.cbc_encrypt-else-no_tables.new.blocks
+    (c.told-iv, All-from_get_or (λ byte. byte < 256) c.args.iv.now 0 (λ i within. c.fits-iv i))
+    c.cbc_encrypt-else-no_tables.ensures.blocks (rw c.pass-passes.ensures at c.cbc_encrypt-else-no_tables.ensures.chained)

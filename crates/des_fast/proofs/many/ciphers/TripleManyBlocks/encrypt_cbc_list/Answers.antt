@@ -1,23 +1,22 @@
 use Rattle.std.proofs.Common.{ℕ, List, ◌<◌, subst}
 use Rattle.std.proofs.lemmas.List.Elements.{All-from_get_or}
-use Rattle.des.specs.Blocks.{IsBlock}
 use Rattle.des.specs.Cbc.{Cbc}
-use Rattle.des.specs.Triple.{EnciphersTriple}
-use Rattle.des.specs.TripleCiphers.{triple_encrypted}
-use Rattle.des_fast.specs.Des.{encrypted, decrypted}
-use Rattle.des_fast.proofs.RelatedChains.{Chains-related}
-use Rattle.des_fast.proofs.RelatedTriples.{IsPass-triple, encrypts-triple}
+use Rattle.des_fast.proofs.RelatedTriples.{Chains-triple}
 use Rattle.des_fast.proofs.many.ciphers.TripleManyBlocks.encrypt_cbc_list.Goals as goal
 
-pub returns-clause-related : goal.returns-clause-related
-returns-clause-related g c key made =
-    let ciphers = g.P.Parts.ciphers c.args.self.now.parts in
-    let deciphers = g.F.Form.DECIPHERS_SECOND in
-    let iv : List ℕ = c.args.iv.now in
-    let is_iv : IsBlock iv = (c.told-iv, All-from_get_or (λ byte. byte < 256) iv 0 (λ i within. c.fits-iv i)) in
-    Chains-related (λ x y. EnciphersTriple g.P.Parts.has_three deciphers key x y)
-    (triple_encrypted encrypted decrypted deciphers ciphers)
-    (encrypts-triple deciphers ciphers g.P.Parts.has_three key made) iv c.args.blocks.now c.cbc_encrypt_list.new.blocks is_iv
-    c.cbc_encrypt_list.ensures.blocks (IsPass-triple deciphers ciphers).forth_is_block
-    (subst (λ (f : List ℕ → List ℕ). Cbc f iv c.args.blocks.now c.cbc_encrypt_list.new.blocks) c.encryption_passes.ensures
-    c.cbc_encrypt_list.ensures.chained)
+pub returns-then-no_tables-clause-related : goal.returns-then-no_tables-clause-related
+returns-then-no_tables-clause-related g c key made =
+    Chains-triple g.F.Form.DECIPHERS_SECOND (g.P.Parts.ciphers c.args.self.now.parts) g.P.Parts.has_three key made
+    c.args.iv.now c.args.blocks.now c.cbc_encrypt.new.blocks
+    (c.told-iv, All-from_get_or (λ byte. byte < 256) c.args.iv.now 0 (λ i within. c.fits-iv i)) c.cbc_encrypt.ensures.blocks
+    (subst (λ (f : List ℕ → List ℕ). Cbc f c.args.iv.now c.args.blocks.now c.cbc_encrypt.new.blocks)
+    c.encryption_passes-passes.ensures c.cbc_encrypt.ensures.chained)
+
+pub returns-else-no_tables-clause-related : goal.returns-else-no_tables-clause-related
+returns-else-no_tables-clause-related g c key made =
+    Chains-triple g.F.Form.DECIPHERS_SECOND (g.P.Parts.ciphers c.args.self.now.parts) g.P.Parts.has_three key made
+    c.args.iv.now c.args.blocks.now c.cbc_encrypt-else-no_tables.new.blocks
+    (c.told-iv, All-from_get_or (λ byte. byte < 256) c.args.iv.now 0 (λ i within. c.fits-iv i))
+    c.cbc_encrypt-else-no_tables.ensures.blocks
+    (subst (λ (f : List ℕ → List ℕ). Cbc f c.args.iv.now c.args.blocks.now c.cbc_encrypt-else-no_tables.new.blocks)
+    c.encryption_passes-passes.ensures c.cbc_encrypt-else-no_tables.ensures.chained)

@@ -20,18 +20,18 @@ length-round_key key i = length-select permuted_choice_2 _
 pub round_keys_of-HoldRoundKeys : (words : List ℕ) (key : List Bool) → HoldRoundKeys words key
     → round_keys_of words ≡ key_schedule key
 unfolding round_keys_of key_schedule
-round_keys_of-HoldRoundKeys words key held =
+round_keys_of-HoldRoundKeys words key kept =
     sym (map-map (take 48) (λ word. bits_of_word word) words)
-    ∙ ap (map (take 48)) held
+    ∙ ap (map (take 48)) kept
     ∙ ap (λ (keys : ℕ → List Bool). map keys (range_with_len 1 16))
     (fun_ext (λ i. take_at (round_key key i) (zeros 16) 48 (length-round_key key i)))
 
 -- they answer a block as the key does, in each order of the round keys
-pub Agree-held : (order : List (List Bool) → List (List Bool)) (words key : List ℕ)
+pub Agree-kept : (order : List (List Bool) → List (List Bool)) (words key : List ℕ)
     → HoldRoundKeys words (bits_of_bytes key) → Agree (answer_by (order (round_keys_of words)))
     (answer_by (order (key_schedule (bits_of_bytes key))))
-Agree-held order words key held = record {
+Agree-kept order words key kept = record {
   at = λ block is_block.
       ap (λ keys. answer_by (order keys) block)
-      (round_keys_of-HoldRoundKeys words (bits_of_bytes key) held);
+      (round_keys_of-HoldRoundKeys words (bits_of_bytes key) kept);
 }

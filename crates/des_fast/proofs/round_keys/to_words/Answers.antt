@@ -1,7 +1,7 @@
 use Rattle.std.proofs.Common.{ap, ◌∙◌, arith}
 use Rattle.des_fast.specs.Groups.{bits_of_groups}
 use Rattle.des_fast.proofs.KeptRoundKeys.{round_keys_in-by_place}
-use Rattle.des_fast.proofs.words.round_key_words.Goals as goal
+use Rattle.des_fast.proofs.round_keys.to_words.Goals as goal
 
 -- each word is the one of the round key at its place
 pub returns : goal.returns
