@@ -55,7 +55,7 @@ fn decrypt_records<C: ContextCipher + SpreadOnce, S: Slice>(
 
 /// Encrypts records in place by CBC, in step: `sizes[k]` blocks are record k, one record after
 /// another in `blocks`, and `vectors[k]`, from which it is chained, becomes its last ciphertext
-/// block. The status is `ERR_CONTEXT` or `ERR_BLOCKS` as of the calls of `calls`, and `ERR_COUNTS`
+/// block. The status is `ERR_CONTEXT` or `ERR_BLOCKS` as of `encrypt_ecb`, and `ERR_COUNTS`
 /// if the numbers of vectors and sizes differ, or the sizes do not add up to the number of
 /// blocks; vectors and blocks are then unchanged.
 pub fn encrypt_cbc_records<S: Slice>(
