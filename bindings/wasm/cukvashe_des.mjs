@@ -1031,7 +1031,7 @@ function bitsOf(bits) {
   return (mode, bytes) => {
     if (mode !== CFB1) throw new SegmentSize("bits are taken with segments of 1 bit alone");
     if (Number.isInteger(bits) && bits >= 0 && bits <= 8 * bytes.length) return [BigInt(bits)];
-    throw new DataLength(`${bytes.length} bytes have fewer bits than that`);
+    throw new DataLength(`the number of bits is a whole number from 0 to ${8 * bytes.length}`);
   };
 }
 

@@ -157,5 +157,5 @@ class Cfb(Stream):
         if self._mode != CFB1:
             raise SegmentSizeError("bits are taken with segments of 1 bit alone")
         if not 0 <= _number_of(bits, "the number of bits") <= 8 * len(given):
-            raise DataLengthError(f"{len(given)} bytes have fewer bits than that")
+            raise DataLengthError(f"the number of bits is from 0 to {8 * len(given)}")
         return self._answer(call, given, int(bits))

@@ -162,7 +162,7 @@ for (const [Cipher, size] of CIPHERS) {
   const cipher = new Cipher(KEY.subarray(0, size));
   for (const [mode, named, form, what] of IN_MODES) {
     const vector = mode === "Ctr" ? "counter" : "iv";
-    const calls = ["encrypt", "decrypt"].map((way) => [`${way}${mode}`, (...words) => cipher[`${way}${mode}`](...words)]);
+    const calls = [`encrypt${mode}`, `decrypt${mode}`].map((name) => [name, (...words) => cipher[name](...words)]);
     for (const [name, call] of calls) {
       is(call(new Uint8Array(), named), "");
       const wrong = [[IV, of(8)], [of(8), IV], [IV], [named], [], [of(8), {}], [of(8), { ...named, [vector]: undefined }]];
@@ -211,7 +211,7 @@ for (const [Cipher, size] of CIPHERS) {
   }
   for (const bits of [-1, 0.5, NaN, 65, 2 ** 32, 2 ** 64]) {
     const stream = new library.Cfb(cipher, { iv: IV, segmentSize: 1 });
-    throwsFault(() => stream.decryptBits(IV, bits), "DataLength", "8 bytes have fewer bits than that");
+    throwsFault(() => stream.decryptBits(IV, bits), "DataLength", "the number of bits is a whole number from 0 to 64");
   }
   for (const segmentSize of [8, 64]) {
     const stream = new library.Cfb(cipher, { iv: IV, segmentSize });
