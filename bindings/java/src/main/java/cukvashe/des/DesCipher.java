@@ -172,7 +172,7 @@ class DesCipher extends CipherSpi {
 
   // -- Blocks --
 
-  private int way() {
+  private int flags() {
     return (decrypts ? Native.DECRYPT : 0) | (mode == Mode.CBC ? Native.CBC : 0);
   }
 
@@ -184,7 +184,7 @@ class DesCipher extends CipherSpi {
     if (mode.isStream()) {
       keys.next(stream, decrypts, data, offset, length);
     } else {
-      chain = keys.run(way(), chain, data, offset, length);
+      chain = keys.run(flags(), chain, data, offset, length);
     }
   }
 
