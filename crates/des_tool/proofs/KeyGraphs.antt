@@ -1,4 +1,4 @@
--- What a key of each cipher answers: its graph is the cipher's relation.
+-- What a key of each cipher encrypts to: its graph is the cipher's relation.
 use Rattle.std.proofs.Common.{ℕ, List, true, false}
 use Rattle.des.specs.Blocks.{IsKey}
 use Rattle.des.specs.Des.{encryption, decryption}
@@ -10,7 +10,7 @@ use Rattle.des_tool.specs.declared.command.request.Cipher.TheVariants.{Des, Ede3
 use Rattle.des_tool.specs.Answer.{relation_of}
 use Rattle.des_tool.specs.Request.{key_size_of}
 
--- what a key of a cipher answers by encryption
+-- what a key of a cipher encrypts to
 abbrev pub encryption_by : Cipher → List ℕ → List ℕ → List ℕ
 encryption_by Des key = encryption key
 encryption_by Ede3 key = ede3_encryption key
@@ -18,7 +18,7 @@ encryption_by Eee3 key = eee3_encryption key
 encryption_by Ede2 key = ede2_encryption key
 encryption_by Eee2 key = eee2_encryption key
 
--- by decryption
+-- and decrypts to
 abbrev pub decryption_by : Cipher → List ℕ → List ℕ → List ℕ
 decryption_by Des key = decryption key
 decryption_by Ede3 key = ede3_decryption key

@@ -1,4 +1,4 @@
-use Rattle.des_tool.proofs.command.answers.answer_chain.Goals as goal
+use Rattle.des_tool.proofs.command.answers.apply_cbc.Goals as goal
 
 -- the contract of the call, in its direction
 pub returns-in-Decrypt : goal.returns-in-Decrypt
