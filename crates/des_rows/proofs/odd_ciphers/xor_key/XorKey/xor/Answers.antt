@@ -1,6 +1,6 @@
 use Rattle.std.proofs.Common.{◌∙◌}
 use Rattle.des_rows.specs.OddCiphers.{xored-words}
-use Rattle.des_rows.proofs.odd_ciphers.xor_key.XorKey.answer.Goals as goal
+use Rattle.des_rows.proofs.odd_ciphers.xor_key.XorKey.xor.Goals as goal
 
 -- the bytes of the word of the block xor that of the key
 pub returns : goal.returns

@@ -1,13 +1,13 @@
--- Lists of blocks that a function answers block by block, and that another one brings back.
+-- Lists of what a function makes of each block, and another one that brings the blocks back.
 use Rattle.std.proofs.Common.{◌≡◌, ℕ, List, [], ◌∷◌, map, refl, ◌∙◌, Result, Ok, Err, OnOk}
 use Rattle.std.specs.List.{All}
 use Rattle.std.proofs.lemmas.Simd.{map-map}
 use Rattle.std.proofs.lemmas.List.Folds.{map_fixed}
 use Rattle.des.specs.Blocks.{IsBlock, AnswersEach}
 
--- what a function makes of each block answers it
+-- the list of what a function makes of each block
 pub AnswersEach-map : (f : List ℕ → List ℕ) (blocks : List (List ℕ))
-    → AnswersEach (λ block answer. answer ≡ f block) blocks (map f blocks)
+    → AnswersEach (λ block result. result ≡ f block) blocks (map f blocks)
 AnswersEach-map f [] = tt
 AnswersEach-map f (block ∷ blocks) = (refl, AnswersEach-map f blocks)
 
