@@ -1,4 +1,4 @@
--- What a key makes of a list of blocks that a cipher of it has chained, and a message of whole blocks.
+-- What a key makes by CBC of a list of blocks that a cipher of it has encrypted, and a message of whole blocks.
 use Rattle.std.proofs.Common.{◌≡◌, ℕ, ◌-◌, ◌*◌, ◌%◌, ◌≤◌, List, ◌++◌, length, replicate, sym, ap, ◌∙◌, arith}
 use Rattle.std.proofs.lemmas.List.{append-nil}
 use Rattle.des.specs.Blocks.{IsBlock}
@@ -12,7 +12,7 @@ pub Cbc-by_key : (encrypts by_key : List ℕ → List ℕ) (iv : List ℕ) (p q 
     → ((block : List ℕ) → IsBlock block → encrypts block ≡ by_key block) → Chains (TakesBlock encrypts) iv p q
     → Cbc by_key iv p q
 Cbc-by_key encrypts by_key iv p q alike chained =
-    Chains-weaker (TakesBlock encrypts) (λ block answer. answer ≡ by_key block) iv p q
+    Chains-weaker (TakesBlock encrypts) (λ block encrypted. encrypted ≡ by_key block) iv p q
     (λ x y taken. sym taken.1 ∙ alike x taken.0) chained
 
 -- whole blocks are not padded by method 1

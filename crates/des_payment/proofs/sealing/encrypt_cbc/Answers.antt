@@ -2,10 +2,10 @@ use Rattle.std.proofs.Common.{◌≡◌, ℕ, ◌<◌, List, length, sym, subst,
 use Rattle.std.proofs.lemmas.List.Elements.{All-from_get_or}
 use Rattle.des.specs.Blocks.{AreBytes, IsBlock}
 use Rattle.des.proofs.ChainedBlocks.{Chains-from_Cbc}
-use Rattle.des_payment.proofs.KeyedChains.{Cbc-by_key}
-use Rattle.des_payment.proofs.sealing.encrypt_chain.Goals as goal
+use Rattle.des_payment.proofs.KeyedCbc.{Cbc-by_key}
+use Rattle.des_payment.proofs.sealing.encrypt_cbc.Goals as goal
 
--- the cipher is made from the key, so it answers as the key does
+-- the cipher is made from the key, so it encrypts as the key does
 pub returns : goal.returns
 returns g c =
     let key : List ℕ = g.C.Key.KeyBytes.bytes_of c.args.key.now in
