@@ -1,4 +1,4 @@
--- What a key makes of a list that a cipher of it has unchained.
+-- What a key makes of a list that a cipher of it has decrypted by CBC.
 use Rattle.std.proofs.Common.{◌≡◌, ℕ, List, sym, ◌∙◌}
 use Rattle.std.specs.List.{All}
 use Rattle.des.specs.Blocks.{IsBlock}
@@ -6,8 +6,8 @@ use Rattle.des.specs.Cbc.{Chains, Unchains}
 use Rattle.des.specs.Relations.{TakesBlock}
 use Rattle.des.proofs.ChainedBlocks.{Chains-weaker, Chains-from_Unchains}
 
--- encryption undoes decryption on each block, and the cipher encrypts as the key does, so the key's encryption chains
--- what decryption has unchained
+-- encryption undoes decryption on each block, and the cipher encrypts as the key does, so the key's CBC encrypts
+-- what was decrypted
 pub Chains-by_key : (encrypts decrypts by_key : List ℕ → List ℕ) (iv : List ℕ) (p q : List (List ℕ))
     → IsBlock iv → All IsBlock q
     → ((block : List ℕ) → IsBlock block → IsBlock (decrypts block))

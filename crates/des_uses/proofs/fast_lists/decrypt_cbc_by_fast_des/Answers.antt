@@ -7,8 +7,8 @@ use Rattle.des.specs.Relations.{TakesBlock}
 use Rattle.des.proofs.ChainedBlocks.{Chains-weaker}
 use Rattle.des_fast.specs.Des.{encrypted, decrypted}
 use Rattle.des_fast.specs.Laws.DesLaws.{IsPass-Des, Agree-encrypted}
-use Rattle.des_uses.proofs.KeyedChains.{Chains-by_key}
-use Rattle.des_uses.proofs.fast_lists.unchain_by_fast_des.Goals as goal
+use Rattle.des_uses.proofs.KeyedCbc.{Chains-by_key}
+use Rattle.des_uses.proofs.fast_lists.decrypt_cbc_by_fast_des.Goals as goal
 
 -- what the key's encryption takes a block to is what its relation does
 pub returns : goal.returns

@@ -1,10 +1,10 @@
 use Rattle.std.proofs.Common.{ℕ, List, ◌<◌, refl, rules}
 use Rattle.std.proofs.lemmas.List.Elements.{All-from_get_or}
 use Rattle.des.specs.Blocks.{AreBytes, IsBlock}
-use Rattle.des_uses.proofs.KeyedChains.{Chains-by_key}
-use Rattle.des_uses.proofs.long_records.read_long_chain.Goals as goal
+use Rattle.des_uses.proofs.KeyedCbc.{Chains-by_key}
+use Rattle.des_uses.proofs.long_records.read_long_record.Goals as goal
 
--- the cipher is made from the key, so it answers as the key does
+-- the cipher is made from the key, so it decrypts as the key does
 pub returns-clause-read : goal.returns-clause-read
 returns-clause-read g c =
     let key : List ℕ = c.args.key.now in
