@@ -5,10 +5,10 @@ use Rattle.std.proofs.lemmas.List.Folds.{concat-append}
 use Rattle.std.proofs.KnownBytes.{Consumes-trans}
 use Rattle.std.specs.List.{concat}
 use Rattle.std.specs.Io.KnownBytes.{Consumes, IsAtEnd}
-use Rattle.des_commands.specs.declared.lines.readings.LineCoding.{LineCoding}
-use Rattle.des_commands.specs.declared.lines.readings.Reading.{Reading}
-use Rattle.des_commands.specs.LineReadings.{IsReading, ReadsLine, ReadsLines}
-use Rattle.des_commands.specs.LineColumns.{AreReadings, IsColumnOf}
+use Rattle.des_commands.specs.declared.lines.line_kind.LineCoding.{LineCoding}
+use Rattle.des_commands.specs.declared.lines.line_kind.LineKind.{LineKind}
+use Rattle.des_commands.specs.LineKinds.{IsOfKind, ReadsLine, ReadsLines}
+use Rattle.des_commands.specs.LineColumns.{AreOfKinds, IsColumnOf}
 
 -- no more is read
 pub ReadsLines-nothing : (lines : List (List ℕ)) (a b c : Option (List ℕ)) → ReadsLines lines a b → Consumes b c []
@@ -47,27 +47,27 @@ all_read lines (Some a) (Some b) reads end =
     ∙ append-nil (concat lines)
 
 -- a line more
-pub AreReadings-more : (coding : LineCoding) (lines : List (List ℕ)) (readings : List Reading) (values : List (List ℕ))
-    (line : List ℕ) (reading : Reading) (value : List ℕ) → AreReadings coding lines readings values
-    → IsReading coding line reading value
-    → AreReadings coding (lines ++ line ∷ []) (readings ++ reading ∷ []) (values ++ value ∷ [])
-AreReadings-more coding [] [] [] line reading value are is = (is, tt)
-AreReadings-more coding (x ∷ xs) (y ∷ ys) (z ∷ zs) line reading value are is =
-    (are.0, AreReadings-more coding xs ys zs line reading value are.1 is)
-AreReadings-more coding [] [] (z ∷ zs) line reading value are is = elim are [ ]
-AreReadings-more coding [] (y ∷ ys) zs line reading value are is = elim are [ ]
-AreReadings-more coding (x ∷ xs) [] zs line reading value are is = elim are [ ]
-AreReadings-more coding (x ∷ xs) (y ∷ ys) [] line reading value are is = elim are [ ]
+pub AreOfKinds-more : (coding : LineCoding) (lines : List (List ℕ)) (kinds : List LineKind) (values : List (List ℕ))
+    (line : List ℕ) (kind : LineKind) (value : List ℕ) → AreOfKinds coding lines kinds values
+    → IsOfKind coding line kind value
+    → AreOfKinds coding (lines ++ line ∷ []) (kinds ++ kind ∷ []) (values ++ value ∷ [])
+AreOfKinds-more coding [] [] [] line kind value are is = (is, tt)
+AreOfKinds-more coding (x ∷ xs) (y ∷ ys) (z ∷ zs) line kind value are is =
+    (are.0, AreOfKinds-more coding xs ys zs line kind value are.1 is)
+AreOfKinds-more coding [] [] (z ∷ zs) line kind value are is = elim are [ ]
+AreOfKinds-more coding [] (y ∷ ys) zs line kind value are is = elim are [ ]
+AreOfKinds-more coding (x ∷ xs) [] zs line kind value are is = elim are [ ]
+AreOfKinds-more coding (x ∷ xs) (y ∷ ys) [] line kind value are is = elim are [ ]
 
-pub column_more : (coding : LineCoding) (lines : List (List ℕ)) (readings more_readings : List Reading)
-    (bytes more_bytes lengths more_lengths : List ℕ) (line : List ℕ) (reading : Reading) (value : List ℕ)
-    → IsColumnOf coding lines readings bytes lengths → IsReading coding line reading value
-    → more_readings ≡ readings ++ reading ∷ [] → more_bytes ≡ bytes ++ value → more_lengths ≡ lengths ++ length value ∷ []
-    → IsColumnOf coding (lines ++ line ∷ []) more_readings more_bytes more_lengths
-column_more coding lines readings more_readings bytes more_bytes lengths more_lengths line reading value column is r b l =
+pub column_more : (coding : LineCoding) (lines : List (List ℕ)) (kinds more_kinds : List LineKind)
+    (bytes more_bytes lengths more_lengths : List ℕ) (line : List ℕ) (kind : LineKind) (value : List ℕ)
+    → IsColumnOf coding lines kinds bytes lengths → IsOfKind coding line kind value
+    → more_kinds ≡ kinds ++ kind ∷ [] → more_bytes ≡ bytes ++ value → more_lengths ≡ lengths ++ length value ∷ []
+    → IsColumnOf coding (lines ++ line ∷ []) more_kinds more_bytes more_lengths
+column_more coding lines kinds more_kinds bytes more_bytes lengths more_lengths line kind value column is r b l =
     record {
       values = column.values ++ value ∷ [];
-      read = rw r (AreReadings-more coding lines readings column.values line reading value column.read is);
+      read = rw r (AreOfKinds-more coding lines kinds column.values line kind value column.read is);
       joined = b ∙ ap (λ (front : List ℕ). front ++ value) column.joined
           ∙ sym (concat-append column.values (value ∷ []) ∙ ap (λ (end : List ℕ). concat column.values ++ end) (append-nil value));
       sizes = l ∙ ap (λ (front : List ℕ). front ++ length value ∷ []) column.sizes

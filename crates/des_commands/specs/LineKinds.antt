@@ -10,12 +10,12 @@ use Rattle.base64.specs.GeneralPurpose.{decode_of as base64_of}
 use Rattle.hex.specs.Hex.{decode_of as digits_decoded}
 use Rattle.des_commands.specs.declared.lines.line_fault.LineFault.{LineFault}
 use Rattle.des_commands.specs.declared.lines.line_fault.LineFault.TheVariants.{Digit, DigitCount, Base64 as NoBase64}
-use Rattle.des_commands.specs.declared.lines.readings.LineCoding.{LineCoding}
-use Rattle.des_commands.specs.declared.lines.readings.LineCoding.TheVariants.{Hexadecimal, Base64, Bytes}
-use Rattle.des_commands.specs.declared.lines.readings.NullWord.{NullWord}
-use Rattle.des_commands.specs.declared.lines.readings.NullWord.TheVariants.{Upper, Lower, Escape}
-use Rattle.des_commands.specs.declared.lines.readings.Reading.{Reading}
-use Rattle.des_commands.specs.declared.lines.readings.Reading.TheVariants.{Value, Empty, Null, Faulty}
+use Rattle.des_commands.specs.declared.lines.line_kind.LineCoding.{LineCoding}
+use Rattle.des_commands.specs.declared.lines.line_kind.LineCoding.TheVariants.{Hexadecimal, Base64, Bytes}
+use Rattle.des_commands.specs.declared.lines.line_kind.NullWord.{NullWord}
+use Rattle.des_commands.specs.declared.lines.line_kind.NullWord.TheVariants.{Upper, Lower, Escape}
+use Rattle.des_commands.specs.declared.lines.line_kind.LineKind.{LineKind}
+use Rattle.des_commands.specs.declared.lines.line_kind.LineKind.TheVariants.{Value, Empty, Null, Faulty}
 
 -- how what is no value is written: `NULL` as by `mysql`, `null` as in JSON, `\N` as by `mysqldump --tab` and by `COPY` of PostgreSQL
 abbrev pub null_text : NullWord → List ℕ
@@ -49,27 +49,27 @@ bytes_in Base64 text = bytes_or NoBase64 (base64_of standard text)
 bytes_in Bytes text = Ok text
 
 -- the bytes are added, or there are none
-abbrev pub Adds : Result (List ℕ) LineFault → Reading → List ℕ → List ℕ → Type 0
-Adds (Ok bytes) reading old new = (reading ≡ Value) × (new ≡ old ++ bytes)
-Adds (Err fault) reading old new = (reading ≡ Faulty fault) × (new ≡ old)
+abbrev pub Adds : Result (List ℕ) LineFault → LineKind → List ℕ → List ℕ → Type 0
+Adds (Ok bytes) kind old new = (kind ≡ Value) × (new ≡ old ++ bytes)
+Adds (Err fault) kind old new = (kind ≡ Faulty fault) × (new ≡ old)
 
 -- it is neither empty nor a word for what is no value
 abbrev pub StandsForValue : List ℕ → Type 0
 StandsForValue text = (text ≢ []) × ((word : NullWord) → text ≢ null_text word)
 
 -- what a text without blanks at its ends is read as, and the value that stands in the column: an empty one if there is none
-abbrev pub IsReadAs : LineCoding → List ℕ → Reading → List ℕ → Type 0
+abbrev pub IsReadAs : LineCoding → List ℕ → LineKind → List ℕ → Type 0
 IsReadAs coding text Empty value = (text ≡ []) × (value ≡ [])
 IsReadAs coding text (Null word) value = (text ≡ null_text word) × (value ≡ [])
 IsReadAs coding text Value value = StandsForValue text × (bytes_in coding text ≡ Ok value)
 IsReadAs coding text (Faulty fault) value = StandsForValue text × (bytes_in coding text ≡ Err fault) × (value ≡ [])
 
-abbrev pub IsReading : LineCoding → List ℕ → Reading → List ℕ → Type 0
-IsReading coding line reading value = (text : List ℕ) × IsTrimAscii line text × IsReadAs coding text reading value
+abbrev pub IsOfKind : LineCoding → List ℕ → LineKind → List ℕ → Type 0
+IsOfKind coding line kind value = (text : List ℕ) × IsTrimAscii line text × IsReadAs coding text kind value
 
 -- the value is added
-abbrev pub AddsValue : LineCoding → List ℕ → Reading → List ℕ → List ℕ → Type 0
-AddsValue coding line reading old new = (value : List ℕ) × IsReading coding line reading value × (new ≡ old ++ value)
+abbrev pub AddsValue : LineCoding → List ℕ → LineKind → List ℕ → List ℕ → Type 0
+AddsValue coding line kind old new = (value : List ℕ) × IsOfKind coding line kind value × (new ≡ old ++ value)
 
 -- ---- lines
 

@@ -7,8 +7,8 @@ ghost use Rattle.hex.specs.Hex.{decode_of};
 ghost use Rattle.base64.specs.Engines.{standard};
 ghost use Rattle.base64.specs.GeneralPurpose.{decode_of as base64_of};
 ghost use Rattle.des_commands.specs.declared.lines.line_fault.LineFault.TheVariants.{Base64};
-ghost use Rattle.des_commands.specs.declared.lines.readings.NullWord.{NullWord as NullWordOf};
-ghost use Rattle.des_commands.specs.LineReadings.{null_text, digits_of as digits_behind, digits_fault, bytes_or, bytes_in, Adds, AddsValue};
+ghost use Rattle.des_commands.specs.declared.lines.line_kind.NullWord.{NullWord as NullWordOf};
+ghost use Rattle.des_commands.specs.LineKinds.{null_text, digits_of as digits_behind, digits_fault, bytes_or, bytes_in, Adds, AddsValue};
 
 use super::line_fault::LineFault;
 use base64::DecodeAllocError;
@@ -50,7 +50,7 @@ impl NullWord {
 
 /// What a line is read as.
 #[derive(Clone, Copy)]
-pub enum Reading {
+pub enum LineKind {
     Value,
     /// Nothing but blanks.
     Empty,
@@ -103,44 +103,44 @@ fn fault_of(text: &[u8]) -> LineFault
 }
 
 // Adds the bytes of hexadecimal digits.
-fn add_digits(digits: &[u8], values: &mut Vec<u8>) -> Result<Reading, AllocError>
-    ensures { IfOk result (λ reading. Adds (bytes_or (digits_fault digits.now) (decode_of digits.now))
-        reading values.old.items values.new.items) }
+fn add_digits(digits: &[u8], values: &mut Vec<u8>) -> Result<LineKind, AllocError>
+    ensures { IfOk result (λ kind. Adds (bytes_or (digits_fault digits.now) (decode_of digits.now))
+        kind values.old.items values.new.items) }
 {
     let start = values.len();
     values.resize(start + digits.len() / 2, 0)?;
     match hex::decode_to_slice(digits, &mut values[start..]) {
-        Ok(()) => Ok(Reading::Value),
+        Ok(()) => Ok(LineKind::Value),
         Err(_) => {
             values.truncate(start);
-            Ok(Reading::Faulty(fault_of(digits)))
+            Ok(LineKind::Faulty(fault_of(digits)))
         }
     }
 }
 
 // Adds the bytes of Base64.
-fn add_base64(text: &[u8], values: &mut Vec<u8>) -> Result<Reading, AllocError>
-    ensures { IfOk result (λ reading. Adds (bytes_or Base64 (base64_of standard text.now))
-        reading values.old.items values.new.items) }
+fn add_base64(text: &[u8], values: &mut Vec<u8>) -> Result<LineKind, AllocError>
+    ensures { IfOk result (λ kind. Adds (bytes_or Base64 (base64_of standard text.now))
+        kind values.old.items values.new.items) }
 {
     match STANDARD.decode_vec(text, values) {
-        Ok(()) => Ok(Reading::Value),
+        Ok(()) => Ok(LineKind::Value),
         Err(DecodeAllocError::OutOfMemory) => Err(AllocError),
-        Err(_) => Ok(Reading::Faulty(LineFault::Base64)),
+        Err(_) => Ok(LineKind::Faulty(LineFault::Base64)),
     }
 }
 
 // Adds the bytes of a value that stands in a text, if it does.
-fn add_bytes(coding: LineCoding, text: &[u8], values: &mut Vec<u8>) -> Result<Reading, AllocError>
-    ensures { IfOk result (λ reading.
-        Adds (bytes_in coding text.now) reading values.old.items values.new.items) }
+fn add_bytes(coding: LineCoding, text: &[u8], values: &mut Vec<u8>) -> Result<LineKind, AllocError>
+    ensures { IfOk result (λ kind.
+        Adds (bytes_in coding text.now) kind values.old.items values.new.items) }
 {
     match coding {
         LineCoding::Hexadecimal => add_digits(digits_of(text), values),
         LineCoding::Base64 => add_base64(text, values),
         LineCoding::Bytes => {
             values.extend_from_slice(text)?;
-            Ok(Reading::Value)
+            Ok(LineKind::Value)
         }
     }
 }
@@ -151,16 +151,16 @@ pub fn add_value(
     coding: LineCoding,
     line: &[u8],
     values: &mut Vec<u8>,
-) -> Result<Reading, AllocError>
-    ensures { IfOk result (λ reading.
-        AddsValue coding line.now reading values.old.items values.new.items) }
+) -> Result<LineKind, AllocError>
+    ensures { IfOk result (λ kind.
+        AddsValue coding line.now kind values.old.items values.new.items) }
 {
     let text = line.trim_ascii();
     if text.is_empty() {
-        return Ok(Reading::Empty);
+        return Ok(LineKind::Empty);
     }
     match null_word_of(text) {
-        Some(word) => Ok(Reading::Null(word)),
+        Some(word) => Ok(LineKind::Null(word)),
         None => add_bytes(coding, text, values),
     }
 }
