@@ -615,7 +615,7 @@ function takesNoMore(name, run, words) {
   calls += 1;
 }
 
-const chainOf = (object, end) => (object === end ? [] : [object, ...chainOf(Object.getPrototypeOf(object), end)]);
+const cbcOf = (object, end) => (object === end ? [] : [object, ...cbcOf(Object.getPrototypeOf(object), end)]);
 const methodsOf = (object) => Reflect.ownKeys(object).filter((it) => it !== "constructor" && typeof object[it] === "function");
 const METHODS = {
   ...Object.fromEntries(["encryptEcb", "decryptEcb", "update", "encrypt", "decrypt"].map((name) => [name, () => [IV]])),
@@ -644,12 +644,12 @@ for (const [name, it] of Object.entries(library)) {
     takesNoMore(name, it, words);
     continue;
   }
-  const declaring = chainOf(it, Function.prototype).find((Class) => most.has(Class.name));
+  const declaring = cbcOf(it, Function.prototype).find((Class) => most.has(Class.name));
   takesNoMore(declaring.name, (...given) => new it(...given), words);
-  for (const Class of chainOf(it, Function.prototype)) {
+  for (const Class of cbcOf(it, Function.prototype)) {
     for (const method of methodsOf(Class)) takesNoMore(method, (...given) => it[method](...given), METHODS[method]());
   }
-  for (const prototype of chainOf(it.prototype, Object.prototype)) {
+  for (const prototype of cbcOf(it.prototype, Object.prototype)) {
     for (const method of methodsOf(prototype)) {
       const object = new it(...words);
       const called = method === Symbol.dispose ? "close" : method;
