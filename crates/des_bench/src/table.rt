@@ -36,7 +36,7 @@ pub fn write_table<R: AllocGlobal + Clock + CpuClock, W: Write>(
 }
 
 // Keys that pass the weak key test: what DES makes of blocks, each of the one before it, which is
-// the chain of blocks of zeros.
+// CBC of blocks of zeros.
 fn mixed_keys() -> Keys {
     let mut keys = [[0u8; 24]; KEYS];
     let (blocks, _) = keys.as_flattened_mut().as_chunks_mut::<8>();
