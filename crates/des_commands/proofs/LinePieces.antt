@@ -5,7 +5,7 @@ use Rattle.std.proofs.lemmas.List.{length-map}
 use Rattle.std.proofs.KnownBytes.{Consumes-nil}
 use Rattle.std.specs.List.{concat}
 use Rattle.des_columns.specs.Columns.{pieces}
-use Rattle.des_columns.specs.Kinds.{IsColumnRead}
+use Rattle.des_columns.specs.Readings.{IsColumnRead}
 use Rattle.des_columns.specs.declared.status.TheConstants.{OK}
 use Rattle.des_commands.specs.declared.lines.LinesJob.{LinesJob}
 use Rattle.des_commands.specs.declared.lines.Tally.{Tally}

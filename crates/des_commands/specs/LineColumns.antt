@@ -8,7 +8,7 @@ use Rattle.des_commands.specs.declared.lines.line_kind.LineKind.TheVariants.{Val
 use Rattle.des_commands.specs.LineAnswers.{IsOutcome, Outcome}
 use Rattle.des_commands.specs.LineKinds.{IsOfKind, ReadsLine}
 use Rattle.des_columns.specs.Columns.{pieces}
-use Rattle.des_columns.specs.Kinds.{IsColumnRead}
+use Rattle.des_columns.specs.Readings.{IsColumnRead}
 use Rattle.des_columns.specs.declared.status.TheConstants.{OK}
 use Rattle.std.specs.Io.KnownBytes.{Consumes, IsAtEnd}
 

@@ -2,7 +2,7 @@
 
 ghost use Rattle.std.specs.Prelude.{◌≡◌, ℕ, ℤ, List, sum, length, OnOk};
 ghost use Rattle.des_columns.specs.Columns.{pieces};
-ghost use Rattle.des_columns.specs.Kinds.{IsColumnRead};
+ghost use Rattle.des_columns.specs.Readings.{IsColumnRead};
 ghost use Rattle.des_commands.specs.LineColumns.{OpensColumn};
 
 use super::line_kind::LineKind;
