@@ -21,7 +21,7 @@ static bool is_v3;
 
 /* Which call is timed, and by which code path. */
 struct mode {
-  int is_triple, is_chained, encrypts;
+  int is_triple, is_cbc, encrypts;
   int stream; /* the number of a mode without padding, or 0 */
 };
 
@@ -66,7 +66,7 @@ enum { FEW = 8 * 18 };
   static void name##_call(void *state, size_t bytes) {                                                         \
     const struct ours *by = (const struct ours *)state;                                                        \
     int (*const call)(const struct ours *, uint8_t *, size_t) =                                                \
-        by->mode.stream ? name##_stream : by->mode.is_chained ? name##_cbc : name##_ecb;                       \
+        by->mode.stream ? name##_stream : by->mode.is_cbc ? name##_cbc : name##_ecb;                           \
     const size_t most = by->path == ONE_BY_ONE ? FEW : bytes;                                                  \
     for (size_t from = 0; from < bytes; from += most) {                                                        \
       size_t length = bytes - from < most ? bytes - from : most;                                               \
@@ -86,7 +86,7 @@ static void openssl_call(void *state, size_t bytes) {
 static const char *openssl_name(const struct mode *mode) {
   static const char *names[2][2] = {{"DES-ECB", "DES-CBC"}, {"DES-EDE3", "DES-EDE3-CBC"}};
   switch (mode->stream) {
-  case 0: return names[mode->is_triple][mode->is_chained];
+  case 0: return names[mode->is_triple][mode->is_cbc];
   case CUKVASHE_OFB: return "DES-EDE3-OFB";
   case CUKVASHE_CFB64: return "DES-EDE3-CFB";
   case CUKVASHE_CFB8: return "DES-EDE3-CFB8";
@@ -122,7 +122,7 @@ static int gcrypt_mode(const struct mode *mode) {
   case CUKVASHE_OFB: return GCRY_CIPHER_MODE_OFB;
   case CUKVASHE_CFB64: return GCRY_CIPHER_MODE_CFB;
   case CUKVASHE_CFB8: return GCRY_CIPHER_MODE_CFB8;
-  default: return mode->is_chained ? GCRY_CIPHER_MODE_CBC : GCRY_CIPHER_MODE_ECB;
+  default: return mode->is_cbc ? GCRY_CIPHER_MODE_CBC : GCRY_CIPHER_MODE_ECB;
   }
 }
 
@@ -131,7 +131,7 @@ static struct gcrypt gcrypt_of(const struct mode *mode) {
   if (gcry_cipher_open(&made.handle, mode->is_triple ? GCRY_CIPHER_3DES : GCRY_CIPHER_DES, gcrypt_mode(mode), 0) ||
       gcry_cipher_setkey(made.handle, key, mode->is_triple ? 24 : 8) ||
       (mode->stream == CUKVASHE_CTR && gcry_cipher_setctr(made.handle, iv, 8)) ||
-      ((mode->is_chained || mode->stream) && mode->stream != CUKVASHE_CTR && gcry_cipher_setiv(made.handle, iv, 8)))
+      ((mode->is_cbc || mode->stream) && mode->stream != CUKVASHE_CTR && gcry_cipher_setiv(made.handle, iv, 8)))
     fail("gcry_cipher_open");
   return made;
 }

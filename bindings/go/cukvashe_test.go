@@ -287,13 +287,17 @@ func TestPanicsAreThoseOfCryptoDes(t *testing.T) {
 		"SetIV":         func() { ours.NewCBCDecrypter(memory[:8]).(*cbc).SetIV(memory[:7]) },
 		"no segment":    func() { ours.NewCFBSegmentEncrypter(memory[:8], 0) },
 		"a segment":     func() { ours.NewCFBSegmentDecrypter(memory[:8], 9) },
-		"many bits":     func() { ours.NewCFB1Encrypter(memory[:8]).XORKeyBits(memory, memory[:1], 9) },
-		"fewer bits":    func() { ours.NewCFB1Encrypter(memory[:8]).XORKeyBits(memory, memory, -1) },
 		"output":        func() { ours.NewCFB1Encrypter(memory[:8]).XORKeyBits(memory[:1], memory[:2], 9) },
 		"overlap":       func() { ours.NewCFB1Encrypter(memory[:8]).XORKeyBits(memory[1:], memory, 16) },
 	} {
 		if panics(call) == nil {
 			t.Errorf("%s: nothing refuses it", name)
+		}
+	}
+	for _, bits := range []int{-1, 9} {
+		got := panics(func() { ours.NewCFB1Encrypter(memory[:8]).XORKeyBits(memory, memory[:1], bits) })
+		if got != "cukvashe: the number of bits is from 0 to 8 times the bytes of the input" {
+			t.Errorf("%d of 8 bits: %v", bits, got)
 		}
 	}
 }

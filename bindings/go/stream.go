@@ -90,7 +90,7 @@ func (b *Block) newCFB1(decrypts C.bool, iv []byte) *CFB1 {
 // byte become those of src.
 func (s *CFB1) XORKeyBits(dst, src []byte, bits int) {
 	if bits < 0 || bits > 8*len(src) {
-		panic("cukvashe: the input has fewer bits than that")
+		panic("cukvashe: the number of bits is from 0 to 8 times the bytes of the input")
 	}
 	src = src[:(bits+7)/8]
 	check(dst, src)

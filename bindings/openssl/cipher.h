@@ -19,7 +19,7 @@ union keys {
 struct context;
 
 /*
- * A cipher in its mode. `run` takes data in place, whole blocks if `block_size` is not 1, and chains from the context's
+ * A cipher in its mode. `run` takes data in place, whole blocks if `block_size` is not 1, and CBC from the context's
  * vector. OFB and CFB have a mode of the library, and a call for whole segments, which leaves the vector.
  */
 struct cipher {

@@ -820,12 +820,12 @@ class Cipher extends Keyed {
 
   encryptCbc(data, ...named) {
     const [iv] = afterData("encryptCbc(data, { iv })", named, ["iv"]);
-    return answered(this, "internal_encrypt_cbc", data, [vectorOf(iv)]);
+    return applied(this, "internal_encrypt_cbc", data, [vectorOf(iv)]);
   }
 
   decryptCbc(data, ...named) {
     const [iv] = afterData("decryptCbc(data, { iv })", named, ["iv"]);
-    return answered(this, "internal_decrypt_cbc", data, [vectorOf(iv)]);
+    return applied(this, "internal_decrypt_cbc", data, [vectorOf(iv)]);
   }
 
   encryptCtr(data, ...named) {
@@ -861,11 +861,11 @@ class Cipher extends Keyed {
 
 function ecb(cipher, call, data, more) {
   refuseMore(more, "ECB takes data alone, and no initialization vector");
-  return answered(cipher, call, data, []);
+  return applied(cipher, call, data, []);
 }
 
 /** What a call makes of data, in place, with or without a vector. */
-function answered(cipher, call, data, vectors) {
+function applied(cipher, call, data, vectors) {
   const bytes = bytesOf(data, "data");
   return inside((memory) => {
     const { kind, context } = memory.state(cipher, Cipher);
@@ -1031,7 +1031,7 @@ function bitsOf(bits) {
   return (mode, bytes) => {
     if (mode !== CFB1) throw new SegmentSize("bits are taken with segments of 1 bit alone");
     if (Number.isInteger(bits) && bits >= 0 && bits <= 8 * bytes.length) return [BigInt(bits)];
-    throw new DataLength(`${bytes.length} bytes have fewer bits than that`);
+    throw new DataLength(`the number of bits is a whole number from 0 to ${8 * bytes.length}`);
   };
 }
 
@@ -1837,15 +1837,15 @@ export function openSalted(cipher, password, data, options = {}, ...more) {
 
 export function encryptEach(cipher, keys, blocks, ...more) {
   refuseMore(more);
-  return answeredEach("internal_encrypt_each", cipher, keys, blocks);
+  return appliedEach("internal_encrypt_each", cipher, keys, blocks);
 }
 
 export function decryptEach(cipher, keys, blocks, ...more) {
   refuseMore(more);
-  return answeredEach("internal_decrypt_each", cipher, keys, blocks);
+  return appliedEach("internal_decrypt_each", cipher, keys, blocks);
 }
 
-function answeredEach(call, cipher, keys, blocks) {
+function appliedEach(call, cipher, keys, blocks) {
   const { keySize } = cipherOf(cipher);
   const given = listOf(blocks, BLOCK_SIZE, BlockLength, "blocks");
   const keyBytes = listOf(keys, keySize, KeyLength, "keys");
@@ -1897,13 +1897,13 @@ function recorded(name, call, cipher, blocks, named) {
   const form = `${name}(cipher, blocks, { vectors, counts })`;
   const [vectors, counts] = afterData(form, named, ["vectors", "counts"]);
   const sizes = numbersOf(counts, "counts");
-  const chains = listOf(vectors, BLOCK_SIZE, VectorLength, "vectors");
+  const starts = listOf(vectors, BLOCK_SIZE, VectorLength, "vectors");
   const given = listOf(blocks, BLOCK_SIZE, BlockLength, "blocks");
-  if (chains.length / BLOCK_SIZE !== sizes.length) throw new CountMismatch("the numbers of vectors and counts differ");
+  if (starts.length / BLOCK_SIZE !== sizes.length) throw new CountMismatch("the numbers of vectors and counts differ");
   return inside((memory) => {
     const { kind, context } = memory.state(cipher, Cipher);
     const [at, count] = memory.list(given, BLOCK_SIZE);
-    const laid = [...contextAt(kind, memory.put(context)), ...memory.list(chains, BLOCK_SIZE)];
+    const laid = [...contextAt(kind, memory.put(context)), ...memory.list(starts, BLOCK_SIZE)];
     const length = BigInt(given.length);
     if (memory.ask(call, ...laid, memory.words(sizes), BigInt(sizes.length), at, count, length) !== OK) {
       throw new CountMismatch("the counts do not add up to the number of blocks");

@@ -7,7 +7,7 @@
    CUKVASHE_MD5. docs/CUKVASHE.md has a table of OpenSSL's options. */
 enum { HASH = CUKVASHE_SHA256, ITERATIONS = 10000 };
 
-static uint8_t bytes[1 << 20], plain[sizeof bytes]; /* room for files below 1 MiB */
+static uint8_t bytes[1 << 20], plain[sizeof bytes]; /* for files below 1 MiB */
 
 int main(int argc, char **argv) {
   char password[1024];

@@ -30,7 +30,7 @@ static void answer_list(int cipher, struct schedules *by, uint8_t *blocks, size_
   for (size_t n = 0; n < count; n++) answer(cipher, by, blocks + 8 * n, direction);
 }
 
-static void chain(int cipher, struct schedules *by, const uint8_t *iv, uint8_t *blocks, size_t count) {
+static void cbc(int cipher, struct schedules *by, const uint8_t *iv, uint8_t *blocks, size_t count) {
   DES_cblock vector;
   memcpy(vector, iv, 8);
   if (cipher == DES)
@@ -127,7 +127,7 @@ static void is_list(const struct path *path, const union context *context, const
 }
 
 /* CBC in two pieces, in place and from one list to another: the second piece begins with the vector that the first left. */
-static void is_chain(const struct path *path, const union context *context, const uint8_t *iv, const uint8_t *plain,
+static void is_cbc_there_and_back(const struct path *path, const union context *context, const uint8_t *iv, const uint8_t *plain,
                      const uint8_t *wanted, size_t count) {
   const size_t length = 8 * count, cut = count ? 8 * (random_word() % (count + 1)) : 0, rest = length - cut;
   uint8_t vector[8];
@@ -153,20 +153,20 @@ static void is_chain(const struct path *path, const union context *context, cons
   CHECK(is(&list, plain) && is(&other, wanted) && memcmp(vector, last, 8) == 0);
 }
 
-/* A list under a key by all calls and code paths: each block by itself, and as a chain. */
+/* A list under a key by all calls and code paths: each block by itself, and by CBC. */
 static void list_under(int n, const uint8_t *key, const uint8_t *iv, const uint8_t *plain, size_t count) {
-  static uint8_t wanted[8 * LONG], chained[8 * LONG];
+  static uint8_t wanted[8 * LONG], by_cbc[8 * LONG];
   const struct cipher *cipher = &ciphers[n];
   union context context;
   CHECK(cipher->init(&context, key, cipher->key_size) == CUKVASHE_OK);
   struct schedules by = schedules_of(n, key);
   memcpy(wanted, plain, 8 * count);
   answer_list(n, &by, wanted, count, DES_ENCRYPT);
-  memcpy(chained, plain, 8 * count);
-  chain(n, &by, iv, chained, count);
+  memcpy(by_cbc, plain, 8 * count);
+  cbc(n, &by, iv, by_cbc, count);
   for (int path = 0; path < count_of_paths(); path++) {
     is_list(&cipher->paths[path], &context, plain, wanted, count);
-    is_chain(&cipher->paths[path], &context, iv, plain, chained, count);
+    is_cbc_there_and_back(&cipher->paths[path], &context, iv, plain, by_cbc, count);
   }
 }
 

@@ -189,7 +189,7 @@ static void writes_known_values(void) {
   }
 }
 
-/* A column of what MariaDB wrote under one key: each value chained from zeros, whatever stands before it. */
+/* A column of what MariaDB wrote under one key: each value by CBC from zeros, whatever stands before it. */
 static void writes_a_known_column(void) {
   static const size_t sizes[] = {7, 0, 8, 20};
   uint8_t bytes[64];

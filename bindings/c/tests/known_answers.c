@@ -1,4 +1,4 @@
-/* Known answers of a file, which is its argument, in lists and chains of many lengths; chains of a text; and a long list of different
+/* Known answers of a file, which is its argument, in lists, also by CBC, of many lengths; CBC of a text; and a long list of different
    blocks. It compiles as C and as C++. */
 #include "cases.h"
 
@@ -58,27 +58,27 @@ static void is_list(const struct path *path, const union context *context, const
   is_ecb(path->decrypt_ecb, path->decrypt_ecb_to, context, answer, plain, length);
 }
 
-static void is_chain(const struct path *path, const union context *context, const uint8_t iv[8], const uint8_t *plain,
+static void is_cbc_there_and_back(const struct path *path, const union context *context, const uint8_t iv[8], const uint8_t *plain,
                      const uint8_t *answer, size_t length) {
   const uint8_t *next = length > 0 ? answer + length - 8 : iv;
   is_cbc(path->encrypt_cbc, path->encrypt_cbc_to, context, iv, next, plain, answer, length);
   is_cbc(path->decrypt_cbc, path->decrypt_cbc_to, context, iv, next, answer, plain, length);
 }
 
-/* The blocks of a case over and over, `count` in all. Chained they are what those plaintexts have for answers that are the case's
+/* The blocks of a case over and over, `count` in all. By CBC they are what those plaintexts have for answers that are the case's
    plaintexts, each xor the answer before it. */
 static void lists_of(const struct known_case *known, const struct path *path, const union context *context, size_t count) {
-  static uint8_t plain[8 * LONGEST], answer[8 * LONGEST], chained[8 * LONGEST];
+  static uint8_t plain[8 * LONGEST], answer[8 * LONGEST], by_cbc[8 * LONGEST];
   uint8_t iv[8];
   random_bytes(iv, sizeof iv);
   for (size_t i = 0; i < 8 * count; i++) {
     size_t at = i % (8 * known->count);
     plain[i] = known->plain[at];
     answer[i] = known->answer[at];
-    chained[i] = (uint8_t)(plain[i] ^ (i < 8 ? iv[i] : answer[i - 8]));
+    by_cbc[i] = (uint8_t)(plain[i] ^ (i < 8 ? iv[i] : answer[i - 8]));
   }
   is_list(path, context, plain, answer, 8 * count);
-  is_chain(path, context, iv, chained, answer, 8 * count);
+  is_cbc_there_and_back(path, context, iv, by_cbc, answer, 8 * count);
 }
 
 /* The first block of a case among others, at four places. */
@@ -100,7 +100,7 @@ static void is_in_one_buffer(const struct known_case *known, const struct path *
   uint8_t iv[8];
   put(&here, known->plain, length);
   memcpy(iv, known->vector, 8);
-  if (known->is_chain) {
+  if (known->is_cbc_there_and_back) {
     CHECK(path->encrypt_cbc_to(context, iv, here.bytes, here.bytes, length) == CUKVASHE_OK && is(&here, known->answer, length));
     memcpy(iv, known->vector, 8);
     CHECK(path->decrypt_cbc_to(context, iv, here.bytes, here.bytes, length) == CUKVASHE_OK && is(&here, known->plain, length));
@@ -110,7 +110,7 @@ static void is_in_one_buffer(const struct known_case *known, const struct path *
   }
 }
 
-/* A case by each code path, in lists of each length; the chains of the file as they are. A context is its bytes. */
+/* A case by each code path, in lists of each length; those by CBC as they are. A context is its bytes. */
 static void is_answered(const struct known_case *known) {
   const struct cipher *cipher = &ciphers[known->cipher];
   union context made, context;
@@ -120,8 +120,8 @@ static void is_answered(const struct known_case *known) {
   is_in_one_buffer(known, &cipher->paths[PUBLIC_PATH], &context);
   for (int n = 0; n < count_of_paths(); n++) {
     const struct path *path = &cipher->paths[n];
-    if (known->is_chain) {
-      is_chain(path, &context, known->vector, known->plain, known->answer, 8 * known->count);
+    if (known->is_cbc_there_and_back) {
+      is_cbc_there_and_back(path, &context, known->vector, known->plain, known->answer, 8 * known->count);
       continue;
     }
     for (int i = 0; i < COUNTS; i++) lists_of(known, path, &context, counts[i]);
@@ -137,7 +137,7 @@ static void complement(uint8_t *bytes, size_t count) {
 static void answers_case(const struct known_case *known) {
   struct known_case other = *known;
   is_answered(known);
-  if (known->is_chain) return;
+  if (known->is_cbc_there_and_back) return;
   complement(other.key, sizeof other.key);
   complement(other.plain, sizeof other.plain);
   complement(other.answer, sizeof other.answer);
@@ -148,8 +148,8 @@ static void answers_case(const struct known_case *known) {
 static const uint64_t parts[3] = {0x0123456789abcdef, 0x23456789abcdef01, 0x456789abcdef0123};
 static const uint64_t text[3] = {0x5468652071756663, 0x6b2062726f776e20, 0x666f78206a756d70};
 
-/* The text chained from the vector of FIPS 81: OpenSSL's answers, of `des-cbc`, `des-ede-cbc` and `des-ede3-cbc`. */
-static const uint64_t chained[CIPHERS][3] = {
+/* The text by CBC from the vector of FIPS 81: OpenSSL's answers, of `des-cbc`, `des-ede-cbc` and `des-ede3-cbc`. */
+static const uint64_t by_cbc[CIPHERS][3] = {
     {0x6126136e77f27f53, 0xb132c523d7e8ea5f, 0x14b9dbb57f7788b3},
     {0xb0ed7d5e6849dc73, 0xcfb0c1915e64897f, 0x8182f143185f6cf1},
     {0x38413d4ba2325cf1, 0x141f707471ac2ced, 0x57db530f0123b5ac},
@@ -162,14 +162,14 @@ static void chains_text(int n) {
   uint8_t key[24], iv[8], left[8], plain[24], answer[24];
   put_words(key, parts, 3);
   put_words(plain, text, 3);
-  put_words(answer, chained[n], 3);
+  put_words(answer, by_cbc[n], 3);
   put_word(iv, 0x1234567890abcdef);
   CHECK(cipher->init(&context, key, cipher->key_size) == CUKVASHE_OK);
   for (int path = 0; path < count_of_paths(); path++)
     for (size_t count = 0; count <= 3; count++) {
-      is_chain(&cipher->paths[path], &context, iv, plain, answer, 8 * count);
+      is_cbc_there_and_back(&cipher->paths[path], &context, iv, plain, answer, 8 * count);
       memcpy(left, count > 0 ? answer + 8 * count - 8 : iv, 8);
-      is_chain(&cipher->paths[path], &context, left, plain + 8 * count, answer + 8 * count, 24 - 8 * count);
+      is_cbc_there_and_back(&cipher->paths[path], &context, left, plain + 8 * count, answer + 8 * count, 24 - 8 * count);
     }
 }
 
@@ -207,7 +207,7 @@ int main(int count, char **words) {
   int cases = each_case(words[1], answers_case);
   answers_different_blocks();
   for (int cipher = 0; cipher < CIPHERS; cipher++) chains_text(cipher);
-  printf("known answers: %d of the file, each in lists and chains of %d lengths, by %d of %d code paths\n", cases, (int)COUNTS,
+  printf("known answers: %d of the file, each in lists and by CBC of %d lengths, by %d of %d code paths\n", cases, (int)COUNTS,
          count_of_paths(), (int)MOST_PATHS);
   return 0;
 }

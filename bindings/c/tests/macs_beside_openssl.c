@@ -16,7 +16,7 @@ static void cmac_by_openssl(const EVP_CIPHER *cipher, const uint8_t *key, size_t
 }
 
 /* The last block of CBC over DES, or over triple DES of two or three parts, from a block of zeros. */
-static void last_of_chain(const uint8_t *key, size_t key_size, const uint8_t *bytes, size_t length, uint8_t last[8]) {
+static void last_of_cbc(const uint8_t *key, size_t key_size, const uint8_t *bytes, size_t length, uint8_t last[8]) {
   static uint8_t out[8 * LONGEST + 16];
   DES_key_schedule part[3];
   DES_cblock zeros = {0};
@@ -36,7 +36,7 @@ static void tag_by_openssl(int n, const uint8_t *key, const uint8_t *message, si
   memset(padded, 0, sizeof padded);
   memcpy(padded, message, length);
   if (method == CUKVASHE_MAC_PADDING_2) padded[length] = 0x80;
-  last_of_chain(key, n == RETAIL_MAC ? 8 : macs[n].key_size, padded, end, tag);
+  last_of_cbc(key, n == RETAIL_MAC ? 8 : macs[n].key_size, padded, end, tag);
   if (n != RETAIL_MAC) return;
   DES_key_schedule first, second;
   DES_set_key_unchecked((const_DES_cblock *)key, &first);

@@ -1,7 +1,7 @@
 /*
  * Under valgrind, with keys, vectors and data marked undefined: memcheck reports where an index or a branch depends on them.
  * `secret_indexes calls` runs the calls that must give no report; each other word runs one that must give one: `short`, a list that
- * goes by tables, and `rest`, a list whose rest does, `chain` and `message`, of contexts with tables, which all read them so; `pin`, which
+ * goes by tables, and `rest`, a list whose rest does, `cbc` and `message`, of contexts with tables, which all read them so; `pin`, which
  * branches on whether all characters of a PIN are digits; `translation`, on whether a PIN block is right; `block`, on whether a MAC is;
  * `key`, where it is right, on the length of the key too; `unwrapped`, on whether a key was wrapped; `file`, on the padding of what is
  * opened under a password; `verification`, on whether a PIN is right; and `planted`, a lookup here.
@@ -638,7 +638,7 @@ static void list_of(size_t count) {
   CHECK(cukvashe_des_encrypt_ecb(&context.des, data, 8 * count) == CUKVASHE_OK);
 }
 
-static void chain_of_one(void) {
+static void cbc_of_one(void) {
   union context context;
   hide(key, sizeof key);
   CHECK(ciphers[EDE3].init(&context, key, 24) == CUKVASHE_OK);
@@ -681,8 +681,8 @@ int main(int count, char **words) {
     list_of(18);
   } else if (strcmp(words[1], "rest") == 0) {
     list_of(256 + 1);
-  } else if (strcmp(words[1], "chain") == 0) {
-    chain_of_one();
+  } else if (strcmp(words[1], "cbc") == 0) {
+    cbc_of_one();
   } else if (strcmp(words[1], "message") == 0) {
     message_of_two();
   } else if (strcmp(words[1], "pin") == 0) {

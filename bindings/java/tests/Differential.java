@@ -35,7 +35,7 @@ public final class Differential {
   static final Provider NO_TABLES = TABLES.configure("no_tables");
 
   /** How bytes go in and come out. */
-  enum Way {
+  enum Transfer {
     RETURNED,
     ARRAY,
     SAME_ARRAY,
@@ -49,7 +49,7 @@ public final class Differential {
     READ_ONLY_TO_DIRECT
   }
 
-  record Step(boolean isLast, Way way, int length, int shift, int lacks) {}
+  record Step(boolean isLast, Transfer transfer, int length, int shift, int lacks) {}
 
   static final class Trace {
     final List<String> calls = new ArrayList<>();
@@ -80,7 +80,7 @@ public final class Differential {
     int size = cipher.getOutputSize(step.length());
     trace.calls.add("size " + size);
     byte[] input = Arrays.copyOfRange(message, from, from + step.length());
-    if (step.way() == Way.RETURNED) {
+    if (step.transfer() == Transfer.RETURNED) {
       byte[] output =
           !step.isLast() ? cipher.update(input) : input.length == 0 && step.shift() < 0 ? cipher.doFinal() : cipher.doFinal(input);
       trace.add("returned", output);
@@ -92,7 +92,7 @@ public final class Differential {
     for (int lacks : step.lacks() > 0 ? new int[] {step.lacks(), 0} : new int[] {0}) {
       int given = lacks == 0 ? capacity : Math.max(0, size - lacks);
       try {
-        boolean isShared = step.way().name().startsWith("SAME");
+        boolean isShared = step.transfer().name().startsWith("SAME");
         int at = gap + step.shift();
         byte[] memory = new byte[2 * gap + capacity + step.length() + 32];
         Arrays.fill(memory, (byte) 0x55);
@@ -103,7 +103,7 @@ public final class Differential {
         byte[] target = isShared ? memory : new byte[at + given];
         int written;
         byte[] output;
-        if (step.way() == Way.ARRAY || step.way() == Way.SAME_ARRAY) {
+        if (step.transfer() == Transfer.ARRAY || step.transfer() == Transfer.SAME_ARRAY) {
           if (isShared && lacks != 0) {
             continue;
           }
@@ -115,7 +115,7 @@ public final class Differential {
                   : cipher.update(memory, gap, input.length, target, at);
           output = Arrays.copyOfRange(target, at, at + written);
         } else {
-          String name = step.way().name();
+          String name = step.transfer().name();
           boolean inDirect = name.equals("DIRECT") || name.equals("SAME_DIRECT") || name.equals("DIRECT_TO_HEAP");
           boolean outDirect = name.endsWith("DIRECT");
           ByteBuffer in = inDirect ? ByteBuffer.allocateDirect(memory.length) : ByteBuffer.allocate(memory.length + 7);
@@ -156,7 +156,7 @@ public final class Differential {
           count("short buffer");
         }
         // SunJCE asks of a ByteBuffer as much space as getOutputSize says, also where less is written.
-        if (step.way() == Way.ARRAY) {
+        if (step.transfer() == Transfer.ARRAY) {
           trace.calls.add("short");
         }
         if (lacks == 0) {
@@ -211,9 +211,9 @@ public final class Differential {
     for (List<Step> plan : plans) {
       List<Step> steps = new ArrayList<>();
       for (Step step : plan) {
-        String way = step.way().name();
-        steps.add(
-            new Step(step.isLast(), way.startsWith("SAME") ? Way.valueOf(way.substring(5)) : step.way(), step.length(), step.shift(), 0));
+        String name = step.transfer().name();
+        Transfer transfer = name.startsWith("SAME") ? Transfer.valueOf(name.substring(5)) : step.transfer();
+        steps.add(new Step(step.isLast(), transfer, step.length(), step.shift(), 0));
       }
       others.add(steps);
     }
@@ -226,10 +226,10 @@ public final class Differential {
     while (true) {
       boolean isLast = random.nextInt(3) == 0 || steps.size() > 6;
       int size = isLast ? left : left == 0 ? 0 : random.nextInt(2) == 0 ? Math.min(left, random.nextInt(20)) : random.nextInt(left + 1);
-      Way way = random.nextInt(4) == 0 ? Way.ARRAY : Way.values()[random.nextInt(Way.values().length)];
+      Transfer transfer = random.nextInt(4) == 0 ? Transfer.ARRAY : Transfer.values()[random.nextInt(Transfer.values().length)];
       int shift = random.nextInt(3) == 0 ? 0 : random.nextInt(33) - 16;
       int lacks = random.nextInt(4) == 0 ? 1 + random.nextInt(24) : 0;
-      steps.add(new Step(isLast, way, size, shift, lacks));
+      steps.add(new Step(isLast, transfer, size, shift, lacks));
       left -= size;
       if (isLast) {
         return steps;
@@ -294,12 +294,12 @@ public final class Differential {
       Trace ours = of(random.nextBoolean() ? TABLES : NO_TABLES, transformation, opmode, new SecretKeySpec(key, name), iv, messages, plans);
       // SunJCE in one call on buffers of their own.
       List<List<Step>> whole = new ArrayList<>();
-      messages.forEach(message -> whole.add(List.of(new Step(true, Way.RETURNED, message.length, 0, 0))));
+      messages.forEach(message -> whole.add(List.of(new Step(true, Transfer.RETURNED, message.length, 0, 0))));
       Trace truth = of(SUN, transformation, opmode, new SecretKeySpec(theirs, name), iv, messages, whole);
       if (!truth.messages.equals(ours.messages)) {
         count("DIFFERS from SunJCE in a message");
       }
-      boolean overlaps = plans.stream().anyMatch(plan -> plan.stream().anyMatch(step -> step.way().name().startsWith("SAME")));
+      boolean overlaps = plans.stream().anyMatch(plan -> plan.stream().anyMatch(step -> step.transfer().name().startsWith("SAME")));
       if (overlaps
           && !sun.calls.equals(ours.calls)
           && outputs(ours).equals(outputs(of(SUN, transformation, opmode, new SecretKeySpec(theirs, name), iv, messages, apart(plans))))) {
@@ -347,7 +347,7 @@ public final class Differential {
         random.nextBytes(bytes);
         messages.add(bytes);
         plans.add(plan(random, bytes.length));
-        whole.add(List.of(new Step(true, Way.RETURNED, bytes.length, 0, 0)));
+        whole.add(List.of(new Step(true, Transfer.RETURNED, bytes.length, 0, 0)));
       }
       SecretKeySpec spec = new SecretKeySpec(key, name);
       Trace ours = of(random.nextBoolean() ? TABLES : NO_TABLES, transformation, opmode, spec, iv, messages, plans);

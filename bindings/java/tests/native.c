@@ -192,8 +192,8 @@ int main(int argc, char **argv) {
 
   /* More than is copied at once, in CBC, there and back. */
   data = array(1, 16008, NULL);
-  jlong chain = CALL(blocks, OBJECT(words), 2, 5, OBJECT(data), 0, data.length);
-  CHECK(chain != 5 && CALL(blocks, OBJECT(words), 3, 5, OBJECT(data), 0, data.length) == chain);
+  jlong next = CALL(blocks, OBJECT(words), 2, 5, OBJECT(data), 0, data.length);
+  CHECK(next != 5 && CALL(blocks, OBJECT(words), 3, 5, OBJECT(data), 0, data.length) == next);
   for (jsize at = 0; at < data.length; at++) CHECK(data.bytes[at] == 0);
 
   /* bindings/known_macs.txt: the retail MAC of no bytes. */

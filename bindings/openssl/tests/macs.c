@@ -27,14 +27,14 @@ static void by_des(const char *name, bool encrypts, const uint8_t key[8], const 
 
 /* ISO/IEC 9797-1:2011, 6.3 and 7.4: zeros, or a one bit and zeros; an empty message has one block of zeros by method 1. */
 static void expected(const uint8_t key[KEY], unsigned method, const uint8_t *message, size_t length, uint8_t tag[TAG]) {
-  static uint8_t padded[LONGEST + 8], chained[LONGEST + 8];
+  static uint8_t padded[LONGEST + 8], by_cbc[LONGEST + 8];
   size_t size = method == 2 || length == 0 ? length / 8 * 8 + 8 : (length + 7) / 8 * 8;
   uint8_t middle[TAG];
   memset(padded, 0, size);
   memcpy(padded, message, length);
   if (method == 2) padded[length] = 0x80;
-  by_des("DES-CBC", true, key, padded, size, chained);
-  by_des("DES-ECB", false, key + 8, chained + size - 8, 8, middle);
+  by_des("DES-CBC", true, key, padded, size, by_cbc);
+  by_des("DES-ECB", false, key + 8, by_cbc + size - 8, 8, middle);
   by_des("DES-ECB", true, key, middle, 8, tag);
 }
 

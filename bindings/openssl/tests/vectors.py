@@ -27,18 +27,18 @@ def of_three_parts(key):
 
 
 def known_answers(path):
-    """Each chain of the file: its name, key, vector (or nothing), text and answer."""
-    chains = []
+    """Each list of the file by CBC or block by block: its name, key, vector (or nothing), text and answer."""
+    lists = []
     with open(path, encoding="ascii") as lines:
         for line in lines:
             words = line.split("#")[0].split()
             if line[:1].isspace() and words:
-                chains[-1][3] += bytes.fromhex(words[0])
-                chains[-1][4] += bytes.fromhex(words[1])
+                lists[-1][3] += bytes.fromhex(words[0])
+                lists[-1][4] += bytes.fromhex(words[1])
             elif words:
                 key, text, answer, *vector = (bytes.fromhex(word) for word in words[1:])
-                chains.append([words[0], of_three_parts(key), vector, text, answer])
-    return [chain for chain in chains if not chain[0].startswith("eee")]
+                lists.append([words[0], of_three_parts(key), vector, text, answer])
+    return [one for one in lists if not one[0].startswith("eee")]
 
 
 def answers(key, vector, data, decrypts):
@@ -109,8 +109,8 @@ def check_cmac():
 
 def main():
     """All of it."""
-    chains = known_answers(sys.argv[1])
-    for name, key, vector, text, answer in chains:
+    lists = known_answers(sys.argv[1])
+    for name, key, vector, text, answer in lists:
         for got in answers(key, vector, text, False):
             check(got == answer, f"{name} {key.hex()}, encryption")
         for got in answers(key, vector, answer, True):
@@ -119,7 +119,7 @@ def main():
     check_feedback()
     check_faults()
     check_cmac()
-    print(f"Python's cryptography over {backend.openssl_version_text()}: {len(chains)} published answers, both ways")
+    print(f"Python's cryptography over {backend.openssl_version_text()}: {len(lists)} published answers, both ways")
 
 
 main()

@@ -64,23 +64,23 @@ class Cipher(Keyed):
 
     def encrypt_ecb(self, data: ReadableBuffer) -> bytes:
         """The data, each block of 8 bytes encrypted by itself. BlockLengthError where they are not whole blocks."""
-        return self._answer("encrypt_ecb_to", data)
+        return self._apply("encrypt_ecb_to", data)
 
     def decrypt_ecb(self, data: ReadableBuffer) -> bytes:
         """The data, each block of 8 bytes decrypted by itself. BlockLengthError."""
-        return self._answer("decrypt_ecb_to", data)
+        return self._apply("decrypt_ecb_to", data)
 
     @vectors_by_name
     def encrypt_cbc(self, data: ReadableBuffer, *, iv: ReadableBuffer) -> bytes:
         """The data, encrypted by cipher block chaining from an initialization vector of 8 bytes. VectorLengthError,
         BlockLengthError."""
-        return self._answer("encrypt_cbc_to", data, vector_of(iv))
+        return self._apply("encrypt_cbc_to", data, vector_of(iv))
 
     @vectors_by_name
     def decrypt_cbc(self, data: ReadableBuffer, *, iv: ReadableBuffer) -> bytes:
         """The data, decrypted by cipher block chaining from an initialization vector. Padding stays. VectorLengthError,
         BlockLengthError."""
-        return self._answer("decrypt_cbc_to", data, vector_of(iv))
+        return self._apply("decrypt_cbc_to", data, vector_of(iv))
 
     @vectors_by_name
     def encrypt_ctr(self, data: ReadableBuffer, *, counter: ReadableBuffer) -> bytes:
@@ -140,12 +140,12 @@ class Cipher(Keyed):
         self._change("decrypt_cbc", data, vector)
         return bytes(vector)
 
-    def _answer(self, call: str, data: ReadableBuffer, *vector: Any) -> bytes:
+    def _apply(self, call: str, data: ReadableBuffer, *vector: Any) -> bytes:
         context, given = self._open(), bytes_of(data)
-        answer = bytearray(len(given))
-        output = pointer_to(answer) if given else None
+        result = bytearray(len(given))
+        output = pointer_to(result) if given else None
         _whole(context.kind.calls[call](context, *vector, given, output, len(given)), len(given))
-        return bytes(answer)
+        return bytes(result)
 
     def _change(self, call: str, data: WriteableBuffer, *vector: Any) -> None:
         context = self._open()
@@ -153,9 +153,9 @@ class Cipher(Keyed):
             _whole(context.kind.calls[call](context, *vector, place, length), length)
 
     def _streamed(self, call: str, mode: int, data: ReadableBuffer, vector: Any) -> bytes:
-        context, answer = self._open(), copy_of(data)
-        check(context.kind.calls[call](context, mode, vector, pointer_to(answer) if answer else None, len(answer)))
-        return bytes(answer)
+        context, result = self._open(), copy_of(data)
+        check(context.kind.calls[call](context, mode, vector, pointer_to(result) if result else None, len(result)))
+        return bytes(result)
 
 
 def _whole(status: int, length: int) -> None:

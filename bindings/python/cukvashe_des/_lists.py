@@ -52,20 +52,20 @@ def _list_of(
             yield start, count
 
 
-def _answer_each(call: str, kind: Kind, keys: Any, count: int, blocks: Any, length: int) -> None:
+def _apply_each(call: str, kind: Kind, keys: Any, count: int, blocks: Any, length: int) -> None:
     """Takes each block of a length through a call in place, under the key at its place."""
     if kind.calls[call](keys, count, pointer_to(blocks) if length else None, length) != OK:
         raise CountMismatchError("the numbers of keys and blocks differ")
 
 
-def _answered_each(call: str, cipher: Type[Cipher], keys: ReadableBuffer, blocks: ReadableBuffer) -> bytes:
+def _applied_each(call: str, cipher: Type[Cipher], keys: ReadableBuffer, blocks: ReadableBuffer) -> bytes:
     with memoryview(blocks) as given:
         _elements_of(given, BLOCK_SIZE, BlockLengthError, "blocks")
-        answer = bytearray(given)
+        result = bytearray(given)
     kind = class_of(cipher)
     with _list_of(keys, kind.key_size, KeyLengthError, "keys") as (start, count):
-        _answer_each(call, kind, start, count, answer, len(answer))
-    return bytes(answer)
+        _apply_each(call, kind, start, count, result, len(result))
+    return bytes(result)
 
 
 def _change_each(call: str, cipher: Type[Cipher], keys: ReadableBuffer, blocks: WriteableBuffer) -> None:
@@ -75,7 +75,7 @@ def _change_each(call: str, cipher: Type[Cipher], keys: ReadableBuffer, blocks: 
         _elements_of(view, BLOCK_SIZE, BlockLengthError, "blocks")
         kind = class_of(cipher)
         with _list_of(keys, kind.key_size, KeyLengthError, "keys", view) as (start, count):
-            _answer_each(call, kind, start, count, view, view.nbytes)
+            _apply_each(call, kind, start, count, view, view.nbytes)
 
 
 def encrypt_each(cipher: Type[Cipher], keys: ReadableBuffer, blocks: ReadableBuffer) -> bytes:
@@ -85,12 +85,12 @@ def encrypt_each(cipher: Type[Cipher], keys: ReadableBuffer, blocks: ReadableBuf
     KeyLengthError and BlockLengthError where there are no whole keys or blocks, or rows of another size; CountMismatchError where
     the numbers of keys and blocks differ; TypeError for arrays of words whose most significant byte is not the first, as of uint64.
     A long list is much faster than its blocks one by one."""
-    return _answered_each("encrypt_each", cipher, keys, blocks)
+    return _applied_each("encrypt_each", cipher, keys, blocks)
 
 
 def decrypt_each(cipher: Type[Cipher], keys: ReadableBuffer, blocks: ReadableBuffer) -> bytes:
     """The blocks, each decrypted under the key at its place. Errors as of `encrypt_each`."""
-    return _answered_each("decrypt_each", cipher, keys, blocks)
+    return _applied_each("decrypt_each", cipher, keys, blocks)
 
 
 def encrypt_each_into(cipher: Type[Cipher], keys: ReadableBuffer, blocks: WriteableBuffer) -> None:
@@ -149,17 +149,17 @@ def _recorded(
     context, numbers = cipher._open(), _numbers_of(counts)
     with memoryview(vectors) as given:
         records = _elements_of(given, BLOCK_SIZE, VectorLengthError, "vectors")
-        chains = bytearray(given)
+        starts = bytearray(given)
     with memoryview(blocks) as given:
         _elements_of(given, BLOCK_SIZE, BlockLengthError, "blocks")
-        answer = bytearray(given)
+        result = bytearray(given)
     if records != len(numbers):
         raise CountMismatchError("the numbers of vectors and counts differ")
-    first, sizes = (pointer_to(chains), pointer_to(numbers)) if records else (None, None)
-    output = pointer_to(answer) if answer else None
-    if context.kind.calls[call](context, first, len(chains), sizes, records, output, len(answer)) != OK:
+    first, sizes = (pointer_to(starts), pointer_to(numbers)) if records else (None, None)
+    output = pointer_to(result) if result else None
+    if context.kind.calls[call](context, first, len(starts), sizes, records, output, len(result)) != OK:
         raise CountMismatchError("the counts do not add up to the number of blocks")
-    return bytes(answer)
+    return bytes(result)
 
 
 @vectors_by_name

@@ -49,11 +49,11 @@ class Stream(Keyed):
 
     def encrypt(self, data: ReadableBuffer) -> bytes:
         """The bytes that come next, encrypted."""
-        return self._answer("encrypt_stream", copy_of(data))
+        return self._apply("encrypt_stream", copy_of(data))
 
     def decrypt(self, data: ReadableBuffer) -> bytes:
         """The bytes that come next, decrypted."""
-        return self._answer("decrypt_stream", copy_of(data))
+        return self._apply("decrypt_stream", copy_of(data))
 
     def encrypt_into(self, data: WriteableBuffer) -> None:
         """Encrypts the bytes that come next in place, in a bytearray or the like. TypeError where they are not writable in one
@@ -66,9 +66,9 @@ class Stream(Keyed):
         with writable(data) as (place, length):
             self._change("decrypt_stream", place, length)
 
-    def _answer(self, call: str, answer: bytearray, *bits: int) -> bytes:
-        self._change(call, pointer_to(answer) if answer else None, *(bits or (len(answer),)))
-        return bytes(answer)
+    def _apply(self, call: str, data: bytearray, *bits: int) -> bytes:
+        self._change(call, pointer_to(data) if data else None, *(bits or (len(data),)))
+        return bytes(data)
 
     def _change(self, call: str, place: Any, size: int) -> None:
         with self._turns:
@@ -139,11 +139,11 @@ class Cfb(Stream):
     def encrypt_bits(self, data: ReadableBuffer, bits: int) -> bytes:
         """The data with the first `bits` bits encrypted, in segments of 1 bit. Bit 1 is the highest of the first byte; later bits are
         unchanged. SegmentSizeError, DataLengthError."""
-        return self._answer_bits("encrypt_stream_bits", copy_of(data), bits)
+        return self._apply_bits("encrypt_stream_bits", copy_of(data), bits)
 
     def decrypt_bits(self, data: ReadableBuffer, bits: int) -> bytes:
         """The data with the first `bits` bits decrypted, as `encrypt_bits` encrypts. SegmentSizeError, DataLengthError."""
-        return self._answer_bits("decrypt_stream_bits", copy_of(data), bits)
+        return self._apply_bits("decrypt_stream_bits", copy_of(data), bits)
 
     def _call(self, call: str, state: Any, place: Any, size: int) -> None:
         direction = call.partition("_")[0]
@@ -153,9 +153,9 @@ class Cfb(Stream):
         if size:
             self._direction = direction
 
-    def _answer_bits(self, call: str, given: bytearray, bits: int) -> bytes:
+    def _apply_bits(self, call: str, given: bytearray, bits: int) -> bytes:
         if self._mode != CFB1:
             raise SegmentSizeError("bits are taken with segments of 1 bit alone")
         if not 0 <= _number_of(bits, "the number of bits") <= 8 * len(given):
-            raise DataLengthError(f"{len(given)} bytes have fewer bits than that")
-        return self._answer(call, given, int(bits))
+            raise DataLengthError(f"the number of bits is from 0 to {8 * len(given)}")
+        return self._apply(call, given, int(bits))

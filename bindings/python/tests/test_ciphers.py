@@ -7,7 +7,7 @@ from cukvashe_des import BlockLengthError, Des, KeyLengthError, VectorLengthErro
 from .values import ANSWERS, CIPHERS, COUNTS, IV, KEY, LENGTHS, LONG, TEXT, known_ciphertexts
 
 # The first byte is 0, which the end of a text would be.
-CHAIN_IV = bytes.fromhex("0034567890abcdef")
+CBC_IV = bytes.fromhex("0034567890abcdef")
 
 
 class KnownAnswers(unittest.TestCase):
@@ -22,7 +22,7 @@ class KnownAnswers(unittest.TestCase):
         self.assertIsNone(cipher.decrypt_ecb_into(data))
         self.assertEqual(data, plain)
 
-    def chain(self, cipher, iv, plain, answer):
+    def cbc(self, cipher, iv, plain, answer):
         self.assertEqual(cipher.encrypt_cbc(plain, iv=iv), answer)
         self.assertEqual(cipher.decrypt_cbc(answer, iv=iv), plain)
         data, last = bytearray(plain), (iv + answer)[-8:]
@@ -40,34 +40,34 @@ class KnownAnswers(unittest.TestCase):
             met.add(name)
             for no_tables in (False, True):
                 if iv:
-                    self.chain(kind(key, no_tables=no_tables), iv, plain, answer)
+                    self.cbc(kind(key, no_tables=no_tables), iv, plain, answer)
                 else:
                     self.electronic_codebook(kind(key, no_tables=no_tables), plain, answer)
         self.assertLessEqual({"des", "ede2", "ede3", "des-cbc", "ede3-cbc"}, met)
 
     def test_lists(self):
-        """The published blocks, again and again. A chain of their answers is decrypted to each block xor the answer before it,
+        """The published blocks, again and again. CBC decrypts their ciphertexts to each block xor the answer before it,
         so its encryption gives the answers back."""
         for kind, answer in ANSWERS.items():
             ciphers = kind(KEY[: kind.key_size]), kind(KEY[: kind.key_size], no_tables=True)
             for count in (*COUNTS, LONG):
                 plain, encrypted = (TEXT * LONG)[: 8 * count], (answer * LONG)[: 8 * count]
-                before = (CHAIN_IV + encrypted)[: 8 * count]
-                chained = bytes(byte ^ other for byte, other in zip(plain, before))
+                before = (CBC_IV + encrypted)[: 8 * count]
+                by_cbc = bytes(byte ^ other for byte, other in zip(plain, before))
                 for cipher in ciphers:
                     self.electronic_codebook(cipher, plain, encrypted)
-                    self.chain(cipher, CHAIN_IV, chained, encrypted)
+                    self.cbc(cipher, CBC_IV, by_cbc, encrypted)
 
-    def test_chain_in_pieces(self):
+    def test_cbc_in_pieces(self):
         """What the calls in place make of pieces is what the call of the whole makes, in both directions."""
         for kind in ANSWERS:
             cipher, blocks = kind(KEY[: kind.key_size]), bytes(range(256)) * 24
-            chained = cipher.encrypt_cbc(blocks, iv=IV)
-            for call, whole, made in ((cipher.encrypt_cbc_into, blocks, chained), (cipher.decrypt_cbc_into, chained, blocks)):
+            by_cbc = cipher.encrypt_cbc(blocks, iv=IV)
+            for call, whole, made in ((cipher.encrypt_cbc_into, blocks, by_cbc), (cipher.decrypt_cbc_into, by_cbc, blocks)):
                 vector, pieces = IV, bytearray(whole)
                 for start, end in ((0, 8), (8, 8), (8, 2056), (2056, len(pieces))):
                     vector = call(memoryview(pieces)[start:end], iv=vector)
-                self.assertEqual((pieces, vector), (made, chained[-8:]))
+                self.assertEqual((pieces, vector), (made, by_cbc[-8:]))
 
 
 class Lengths(unittest.TestCase):

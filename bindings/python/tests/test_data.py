@@ -387,13 +387,13 @@ class Threads(unittest.TestCase):
     def test_cipher(self):
         """One cipher in four threads, both ways."""
         cipher, plain = TdesEde3(KEY), TEXT * 2000
-        encrypted, chained = cipher.encrypt_ecb(plain), cipher.encrypt_cbc(plain, iv=IV)
+        encrypted, by_cbc = cipher.encrypt_ecb(plain), cipher.encrypt_cbc(plain, iv=IV)
 
         def work(_):
             for _ in range(8):
                 self.assertEqual(cipher.encrypt_ecb(plain), encrypted)
                 self.assertEqual(cipher.decrypt_ecb(encrypted), plain)
-                self.assertEqual(cipher.decrypt_cbc(chained, iv=IV), plain)
+                self.assertEqual(cipher.decrypt_cbc(by_cbc, iv=IV), plain)
 
         self.together(4, work)
 

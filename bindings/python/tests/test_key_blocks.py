@@ -172,7 +172,7 @@ class BesideCryptography(unittest.TestCase):
     """Blocks by the package's ciphers and the standard's steps, of random keys, are read, and those that are made are the same."""
 
     @staticmethod
-    def chained(key, iv, data):
+    def by_cbc(key, iv, data):
         encryptor = Cipher(TripleDES((key * 2)[:24]), modes.CBC(iv)).encryptor()
         return encryptor.update(data) + encryptor.finalize()
 
@@ -194,11 +194,11 @@ class BesideCryptography(unittest.TestCase):
         front = (front % (len(front) + 2 * len(data) + (16 if version == "B" else 8))).encode()
         if version == "B":
             mac = self.cmac(self.derived(protection, 1), front + data)
-            encrypted = self.chained(self.derived(protection, 0), mac, data)
+            encrypted = self.by_cbc(self.derived(protection, 0), mac, data)
         else:
             encryption, mac_key = (bytes(byte ^ mask for byte in protection) for mask in b"EM")
-            encrypted = self.chained(encryption, front[:8], data)
-            mac = self.chained(mac_key, bytes(8), front + encrypted)[-8:-4]
+            encrypted = self.by_cbc(encryption, front[:8], data)
+            mac = self.by_cbc(mac_key, bytes(8), front + encrypted)[-8:-4]
         return front.decode() + encrypted.hex().upper() + mac.hex().upper()
 
     def test_random_blocks(self):

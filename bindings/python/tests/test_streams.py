@@ -46,7 +46,7 @@ def calls_of(cipher, mode, segment, vector):
     """The calls of a cipher for whole texts in a mode, of both directions, and what makes its stream."""
     name, named = {"ctr": ("Ctr", {"counter": vector}), "ofb": ("Ofb", {"iv": vector}),
                    "cfb": ("Cfb", {"iv": vector, "segment_size": segment})}[mode]
-    encrypt, decrypt = (getattr(cipher, f"{way}_{mode}") for way in ("encrypt", "decrypt"))
+    encrypt, decrypt = (getattr(cipher, f"{direction}_{mode}") for direction in ("encrypt", "decrypt"))
     return (lambda data: encrypt(data, **named), lambda data: decrypt(data, **named),
             lambda: getattr(cukvashe_des, name)(cipher, **named))
 
@@ -124,11 +124,11 @@ class KnownAnswers(unittest.TestCase):
         plain = TEXT[:5]
         answer = cipher.encrypt_cfb(plain, iv=IV, segment_size=1)
         digits = [format(int.from_bytes(data, "big"), "040b") for data in (plain, answer)]
-        for way in (0, 1):
-            given, made = digits[way], digits[1 - way]
+        for decrypts in (0, 1):
+            given, made = digits[decrypts], digits[1 - decrypts]
             for cut in range(41):
                 stream = Cfb(cipher, iv=IV, segment_size=1)
-                call = stream.decrypt_bits if way else stream.encrypt_bits
+                call = stream.decrypt_bits if decrypts else stream.encrypt_bits
                 for bits, right in ((given[:cut], made[:cut]), (given[cut:], made[cut:])):
                     data = int((bits + "10110101")[: -(-len(bits) // 8) * 8] or "0", 2).to_bytes(-(-len(bits) // 8), "big")
                     shown = "".join(format(byte, "08b") for byte in call(data, len(bits)))
@@ -226,7 +226,7 @@ class Refused(unittest.TestCase):
         stream = Cfb(TdesEde3(KEY), iv=IV, segment_size=1)
         for call in (stream.encrypt_bits, stream.decrypt_bits):
             for bits in (-1, 25, 2**64, 2**64 + 1):
-                self.assertRaisesRegex(DataLengthError, "^3 bytes have fewer bits than that$", call, bytes(3), bits)
+                self.assertRaisesRegex(DataLengthError, "^the number of bits is from 0 to 24$", call, bytes(3), bits)
             for bits in (None, 1.0, True, "1"):
                 self.assertRaisesRegex(TypeError, "^the number of bits is a number$", call, bytes(3), bits)
         for segment in SEGMENTS[1:]:
@@ -236,21 +236,22 @@ class Refused(unittest.TestCase):
         self.assertEqual(stream.encrypt(TEXT), TdesEde3(KEY).encrypt_cfb(TEXT, iv=IV, segment_size=1))
 
     def test_directions(self):
-        """CFB goes one way, once a byte or a bit has, and a copy the same way; CTR and OFB go either way."""
+        """CFB goes in one direction, once a byte or a bit has, and a copy in the same; CTR and OFB go in either."""
         for mode, segment in modes():
             encrypt, decrypt, begun = calls_of(TdesEde3(KEY), mode, segment, IV)
-            for way, other, whole in (("encrypt", "decrypt", encrypt), ("decrypt", "encrypt", decrypt)):
+            for direction, other, whole in (("encrypt", "decrypt", encrypt), ("decrypt", "encrypt", decrypt)):
                 stream = begun()
                 getattr(stream, other)(b"")
-                first = getattr(stream, way)(TEXT[:5])
+                first = getattr(stream, direction)(TEXT[:5])
                 if mode == "cfb":
                     for one in (stream, stream.copy()):
                         data = bytearray(TEXT)
                         calls = [(getattr(one, other), data), (getattr(one, other), b""), (getattr(one, f"{other}_into"), data)]
                         calls += [(getattr(one, f"{other}_bits"), data, 3)] if segment == 1 else []
                         for call, *arguments in calls:
-                            self.assertRaisesRegex(DirectionError, f"^this stream {way}s: begin another to {other}$", call, *arguments)
-                        self.assertEqual((data, first + getattr(one, way)(TEXT[5:])), (TEXT, whole(TEXT)))
+                            says = f"^this stream {direction}s: begin another to {other}$"
+                            self.assertRaisesRegex(DirectionError, says, call, *arguments)
+                        self.assertEqual((data, first + getattr(one, direction)(TEXT[5:])), (TEXT, whole(TEXT)))
                 else:
                     self.assertEqual(first + getattr(stream, other)(TEXT[5:]), whole(TEXT))
         stream = Cfb(TdesEde3(KEY), iv=IV, segment_size=1)
@@ -382,7 +383,7 @@ class Objects(WatchesWiping):
                 locked.append(lock.locked())
                 return 0
 
-            names = [f"{way}_stream{what}" for way in ("encrypt", "decrypt") for what in ("", "_bits")]
+            names = [f"{direction}_stream{what}" for direction in ("encrypt", "decrypt") for what in ("", "_bits")]
             with mock.patch.dict(KINDS[TdesEde3].calls, dict.fromkeys(names, of_call)):
                 call(*arguments)
         self.assertEqual(locked, [True] * len(calls))

@@ -93,7 +93,7 @@ def lines_of(*place):
 
 
 def known_ciphertexts():
-    """Of each list of known_answers.txt the name, the key, the plaintext, the ciphertext, and of chains the vector."""
+    """Of each list of known_answers.txt the name, the key, the plaintext, the ciphertext, and of CBC the vector."""
     lists = []
     for line in lines_of("crates", "des_tests", "known_answers.txt"):
         words = line.split()

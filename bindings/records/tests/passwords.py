@@ -86,8 +86,8 @@ def ciphers():
             last = some(1, 40) if who == "bouncy" and algorithm in PKCS12 else chance.randbytes(8)
             for salt in (b"halfhalf", chance.randbytes(8), last) if name else ():
                 key, iterations = password(who, algorithm), chance.randint(1, 50)
-                for way, call, column in (("encrypt", write_pbe, list(texts())), ("decrypt", read_pbe, others())):
-                    requests += [(who, way, name, iterations, key, salt, data) for data in column]
+                for direction, call, column in (("encrypt", write_pbe, list(texts())), ("decrypt", read_pbe, others())):
+                    requests += [(who, direction, name, iterations, key, salt, data) for data in column]
                     ours += as_javas(call(column, algorithm, key, salt, iterations))
     return same("ciphers of Java", ours, java(requests))
 

@@ -746,7 +746,7 @@ export const calculations = [
     title: "Encrypt or decrypt",
     note: "With no padding: ECB and CBC take whole blocks. The length of the key chooses the cipher.",
     fields: [
-      { name: "way", label: "Direction", options: [["encrypt", "Encrypt"], ["decrypt", "Decrypt"]] },
+      { name: "direction", label: "Direction", options: [["encrypt", "Encrypt"], ["decrypt", "Decrypt"]] },
       {
         name: "mode",
         label: "Mode",
@@ -783,7 +783,7 @@ export const calculations = [
       },
     ],
     example: {
-      way: "encrypt",
+      direction: "encrypt",
       mode: "ecb",
       key: "0123456789ABCDEF23456789ABCDEF01456789ABCDEF0123",
       iv: "",
@@ -791,7 +791,7 @@ export const calculations = [
     },
     // NIST SP 800-67, appendix B.
     known: { Ciphertext: "A826FD8CE53B855FCCE21C8112256FE668D5C05DD9B6B900" },
-    compute({ way, mode, key, iv, data }) {
+    compute({ direction, mode, key, iv, data }) {
       const [call, ...named] = {
         ecb: ["Ecb"],
         cbc: ["Cbc", { iv }],
@@ -801,8 +801,8 @@ export const calculations = [
         cfb8: ["Cfb", { iv, segmentSize: 8 }],
         cfb1: ["Cfb", { iv, segmentSize: 1 }],
       }[mode];
-      const label = way === "encrypt" ? "Ciphertext" : "Plaintext";
-      return [value(label, cipherOf(key)[`${way}${call}`](data, ...named)), remark("Cipher", CIPHER_NAMES[key.length])];
+      const label = direction === "encrypt" ? "Ciphertext" : "Plaintext";
+      return [value(label, cipherOf(key)[`${direction}${call}`](data, ...named)), remark("Cipher", CIPHER_NAMES[key.length])];
     },
   },
   {

@@ -162,7 +162,7 @@ for (const [Cipher, size] of CIPHERS) {
   const cipher = new Cipher(KEY.subarray(0, size));
   for (const [mode, named, form, what] of IN_MODES) {
     const vector = mode === "Ctr" ? "counter" : "iv";
-    const calls = ["encrypt", "decrypt"].map((way) => [`${way}${mode}`, (...words) => cipher[`${way}${mode}`](...words)]);
+    const calls = [`encrypt${mode}`, `decrypt${mode}`].map((name) => [name, (...words) => cipher[name](...words)]);
     for (const [name, call] of calls) {
       is(call(new Uint8Array(), named), "");
       const wrong = [[IV, of(8)], [of(8), IV], [IV], [named], [], [of(8), {}], [of(8), { ...named, [vector]: undefined }]];
@@ -211,7 +211,7 @@ for (const [Cipher, size] of CIPHERS) {
   }
   for (const bits of [-1, 0.5, NaN, 65, 2 ** 32, 2 ** 64]) {
     const stream = new library.Cfb(cipher, { iv: IV, segmentSize: 1 });
-    throwsFault(() => stream.decryptBits(IV, bits), "DataLength", "8 bytes have fewer bits than that");
+    throwsFault(() => stream.decryptBits(IV, bits), "DataLength", "the number of bits is a whole number from 0 to 64");
   }
   for (const segmentSize of [8, 64]) {
     const stream = new library.Cfb(cipher, { iv: IV, segmentSize });
@@ -615,7 +615,7 @@ function takesNoMore(name, run, words) {
   calls += 1;
 }
 
-const chainOf = (object, end) => (object === end ? [] : [object, ...chainOf(Object.getPrototypeOf(object), end)]);
+const cbcOf = (object, end) => (object === end ? [] : [object, ...cbcOf(Object.getPrototypeOf(object), end)]);
 const methodsOf = (object) => Reflect.ownKeys(object).filter((it) => it !== "constructor" && typeof object[it] === "function");
 const METHODS = {
   ...Object.fromEntries(["encryptEcb", "decryptEcb", "update", "encrypt", "decrypt"].map((name) => [name, () => [IV]])),
@@ -644,12 +644,12 @@ for (const [name, it] of Object.entries(library)) {
     takesNoMore(name, it, words);
     continue;
   }
-  const declaring = chainOf(it, Function.prototype).find((Class) => most.has(Class.name));
+  const declaring = cbcOf(it, Function.prototype).find((Class) => most.has(Class.name));
   takesNoMore(declaring.name, (...given) => new it(...given), words);
-  for (const Class of chainOf(it, Function.prototype)) {
+  for (const Class of cbcOf(it, Function.prototype)) {
     for (const method of methodsOf(Class)) takesNoMore(method, (...given) => it[method](...given), METHODS[method]());
   }
-  for (const prototype of chainOf(it.prototype, Object.prototype)) {
+  for (const prototype of cbcOf(it.prototype, Object.prototype)) {
     for (const method of methodsOf(prototype)) {
       const object = new it(...words);
       const called = method === Symbol.dispose ? "close" : method;

@@ -12,7 +12,7 @@ const dataAtFirst = data();
 
 const CIPHERS = { des: library.Des, ede2: library.TdesEde2, ede3: library.TdesEde3 };
 
-/** Each list of the file that is of a cipher here: its class, key, plaintext, ciphertext, and of chains the vector. */
+/** Each list of the file that is of a cipher here: its class, key, plaintext, ciphertext, and of CBC the vector. */
 function ciphertexts() {
   const lists = [];
   for (const line of linesOf(answersFile)) {
@@ -44,7 +44,7 @@ function isList(Cipher, key, plain, cipher) {
   instance.close();
 }
 
-function isChain(Cipher, key, iv, plain, cipher) {
+function isByCbc(Cipher, key, iv, plain, cipher) {
   const instance = new Cipher(key);
   const [from, to] = [unhex(plain), unhex(cipher)];
   is(instance.encryptCbc(from, { iv }), cipher);
@@ -70,7 +70,7 @@ let lists = 0;
 for (const { name, key, plain, cipher, iv } of ciphertexts()) {
   const Cipher = CIPHERS[name.split("-")[0]];
   if (iv === undefined) isList(Cipher, unhex(key), plain, cipher);
-  else isChain(Cipher, unhex(key), unhex(iv), plain, cipher);
+  else isByCbc(Cipher, unhex(key), unhex(iv), plain, cipher);
   lists += 1;
 }
 assert(lists >= 40);

@@ -77,7 +77,7 @@ class Browser:
 
     def press(self, text, *modifiers):
         steps = [{"type": "keyDown", "value": key} for key in modifiers]
-        steps += [{"type": way, "value": key} for key in text for way in ("keyDown", "keyUp")]
+        steps += [{"type": event, "value": key} for key in text for event in ("keyDown", "keyUp")]
         steps += [{"type": "keyUp", "value": key} for key in modifiers]
         self.ask("POST", "/actions", {"actions": [{"type": "key", "id": "keys", "actions": steps}]})
 
@@ -368,8 +368,8 @@ def known_answers(browser):
         if name.partition("-")[0] not in ("des", "ede2", "ede3"):
             continue
         mode = "cbc" if name.endswith("-cbc") else "ecb"
-        is_answer(browser, "blocks", {"Ciphertext": cipher.upper()}, way="encrypt", mode=mode, key=key, iv=iv, data=plain)
-        is_answer(browser, "blocks", {"Plaintext": plain.upper()}, way="decrypt", data=cipher)
+        is_answer(browser, "blocks", {"Ciphertext": cipher.upper()}, direction="encrypt", mode=mode, key=key, iv=iv, data=plain)
+        is_answer(browser, "blocks", {"Plaintext": plain.upper()}, direction="decrypt", data=cipher)
         compared += 1
     same(compared >= 40, True, f"{compared} known answers")
     # As in bindings/known_calls.txt.
@@ -377,8 +377,9 @@ def known_answers(browser):
     for mode, cipher in (("ctr", "EE7EC75C1A101301E26ACE7F785967472F3AFE4F43D328"), ("ofb", "EE7EC75C1A1013019A8A610002668E0787E28AF9EC26B8"),
                          ("cfb64", "EE7EC75C1A101301C4AB2F10462E5DD417400B445B5F2A"), ("cfb8", "EE9B04FFCACEC80670606800FA2EE5DF5045492D0C3C04"),
                          ("cfb1", "D9E64B67304F5FCDBB2F73BCC5C8BE7CEFEB7E240C25D5")):
-        is_answer(browser, "blocks", {"Ciphertext": cipher}, way="encrypt", mode=mode, key=triple, iv="1234567890abcdef", data=text[:46])
-        is_answer(browser, "blocks", {"Plaintext": text[:46]}, way="decrypt", data=cipher)
+        given = {"mode": mode, "key": triple, "iv": "1234567890abcdef"}
+        is_answer(browser, "blocks", {"Ciphertext": cipher}, direction="encrypt", data=text[:46], **given)
+        is_answer(browser, "blocks", {"Plaintext": text[:46]}, direction="decrypt", data=cipher)
 
 
 EMPTY = "Fill in this field."

@@ -65,13 +65,13 @@ for (const Cipher of [library.Des, library.TdesEde2, library.TdesEde3]) {
   };
   const streams = { encrypt: begun(), decrypt: begun() };
   for (const length of [0, 3, 8, 1024, 1031, 2400]) {
-    for (const way of ["encrypt", "decrypt"]) {
-      streams[way][0].seek(length);
-      for (const stream of streams[way]) stream[way](of(length));
-      streams[way][2][`${way}Bits`](of(length), 8 * length);
-      cipher[`${way}Ctr`](of(length), { counter: of(8) });
-      cipher[`${way}Ofb`](of(length), { iv: of(8) });
-      for (const segmentSize of [1, 8, 64]) cipher[`${way}Cfb`](of(length), { iv: of(8), segmentSize });
+    for (const direction of ["encrypt", "decrypt"]) {
+      streams[direction][0].seek(length);
+      for (const stream of streams[direction]) stream[direction](of(length));
+      streams[direction][2][`${direction}Bits`](of(length), 8 * length);
+      cipher[`${direction}Ctr`](of(length), { counter: of(8) });
+      cipher[`${direction}Ofb`](of(length), { iv: of(8) });
+      for (const segmentSize of [1, 8, 64]) cipher[`${direction}Cfb`](of(length), { iv: of(8), segmentSize });
     }
   }
 }

@@ -82,21 +82,21 @@ for (let number = 0; number < COUNT; number += 1) {
   const [key, cipher] = one(CIPHERS);
   const mode = one([MODES[0], MODES[1], one(MODES.slice(2))]);
   const [vector, data] = [bytes(8), bytes(random(number % 16 === 0 && mode[1] !== 1 ? 400 : 24))];
-  const way = one(["encrypt", "decrypt"]);
-  const wanted = hex(byNode(key, mode, vector, data, way === "encrypt"));
+  const direction = one(["encrypt", "decrypt"]);
+  const wanted = hex(byNode(key, mode, vector, data, direction === "encrypt"));
   const named = namedOf(mode, vector);
   if (number % 2 === 0) {
-    is(cipher[`${way}${NAMES[mode[0]]}`](data, named), wanted);
+    is(cipher[`${direction}${NAMES[mode[0]]}`](data, named), wanted);
     continue;
   }
   const stream = new library[NAMES[mode[0]]](cipher, named);
   let made = "";
   for (let at = 0; at < data.length;) {
     const end = at + random(data.length - at + 1);
-    made += hex(stream[way](data.subarray(at, end)));
+    made += hex(stream[direction](data.subarray(at, end)));
     at = end;
   }
-  assert.equal(made, wanted, `${number}: ${mode}, ${way}, ${data.length}`);
+  assert.equal(made, wanted, `${number}: ${mode}, ${direction}, ${data.length}`);
 }
 
 // ---- Places, bits, copies
@@ -144,14 +144,14 @@ for (const mode of MODES) {
   assert.deepEqual([JSON.stringify(copy), Object.keys(copy)], ["{}", []]);
 }
 
-// CFB goes one way, once a byte or a bit has, and a copy the same way; CTR and OFB go either way.
+// CFB goes in one direction, once a byte or a bit has, and a copy in the same; CTR and OFB go in either.
 for (const mode of MODES) {
   const [name, named] = [NAMES[mode[0]], namedOf(mode, IV)];
-  for (const [way, other] of [["encrypt", "decrypt"], ["decrypt", "encrypt"]]) {
+  for (const [direction, other] of [["encrypt", "decrypt"], ["decrypt", "encrypt"]]) {
     const stream = new library[name](cipher, named);
     stream[other](new Uint8Array(0));
-    const first = hex(stream[way](TEXT.subarray(0, 5)));
-    const wanted = hex(cipher[`${way}${name}`](TEXT, named));
+    const first = hex(stream[direction](TEXT.subarray(0, 5)));
+    const wanted = hex(cipher[`${direction}${name}`](TEXT, named));
     if (mode[0] !== "cfb") {
       assert.equal(first + hex(stream[other](TEXT.subarray(5))), wanted);
       continue;
@@ -159,9 +159,9 @@ for (const mode of MODES) {
     for (const one of [stream, stream.copy()]) {
       const calls = [[other, TEXT], [other, new Uint8Array(0)], ...(mode[1] === 1 ? [[`${other}Bits`, TEXT, 3]] : [])];
       for (const [call, ...words] of calls) {
-        throwsFault(() => one[call](...words), "Direction", `this stream ${way}s: begin another to ${other}`);
+        throwsFault(() => one[call](...words), "Direction", `this stream ${direction}s: begin another to ${other}`);
       }
-      assert.equal(first + hex(one[way](TEXT.subarray(5))), wanted);
+      assert.equal(first + hex(one[direction](TEXT.subarray(5))), wanted);
     }
   }
 }

@@ -1,5 +1,5 @@
 //! The rows of the table. Each call times what a row tells, writes the row, and returns a number in
-//! which all that was answered is joined, so that no compiler can leave a timed call out.
+//! which all that the calls made is joined, so that no compiler can leave a timed call out.
 
 use crate::runs::{
     BLOCKS, Blocks, Decrypt, Encrypt, EncryptBlocks, EncryptBySpread, EncryptMany, KEYS, Key, Keys,
@@ -32,9 +32,9 @@ pub fn write_cipher<C: KeyInit + BlockCipherEncrypt + BlockCipherDecrypt + Algor
     let mut blocks = zero_blocks(rt, BLOCKS)?;
     let encrypt = tenths_of_call(rt, BLOCKS, &Encrypt(&cipher), &mut blocks)?;
     let decrypt = tenths_of_call(rt, BLOCKS, &Decrypt(&cipher), &mut blocks)?;
-    let (new, answer) = time_new::<C>(rt, keys)?;
+    let (new, made) = time_new::<C>(rt, keys)?;
     write_row(out, C::NAME, &[encrypt, decrypt, new])?;
-    Ok(answer ^ joined(&blocks))
+    Ok(made ^ joined(&blocks))
 }
 
 /// Writes the row of a list of few blocks: the time of a block one by one, by the cipher of

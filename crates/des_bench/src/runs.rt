@@ -27,7 +27,7 @@ pub type Keys = [Key; KEYS];
 /// How often a run spreads the round keys.
 pub const SPREADINGS: usize = 16;
 
-/// The blocks that a run answers in place.
+/// The blocks that a run encrypts or decrypts in place.
 pub type Blocks = Vec<[u8; 8]>;
 
 /// A message that a run authenticates.

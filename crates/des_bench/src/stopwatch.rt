@@ -17,7 +17,7 @@ const CALLS: usize = 1024;
 /// Calls of one kind that write to an `A`.
 pub trait Run<A> {
     /// Makes the calls of a run.
-    fn run(&self, answers: &mut A);
+    fn run(&self, output: &mut A);
 }
 
 /// The tenths of a nanosecond of processor time that each of the `calls` of a run takes, in the
@@ -26,7 +26,7 @@ pub fn tenths_of_call<A, K: Clock + CpuClock>(
     clock: &K,
     calls: usize,
     timed: &impl Run<A>,
-    answers: &mut A,
+    output: &mut A,
 ) -> io::Result<u128> {
     let share = Duration::from_millis(SHARE_MILLIS);
     let runs = CALLS.div_ceil(calls.max(1));
@@ -35,7 +35,7 @@ pub fn tenths_of_call<A, K: Clock + CpuClock>(
     for _ in 0..MOST_RUNS {
         let start = clock.thread_cpu_time()?;
         for _ in 0..runs {
-            timed.run(answers);
+            timed.run(output);
         }
         least = least.min(clock.thread_cpu_time()?.saturating_sub(start));
         if begun.elapsed(clock)? > share {

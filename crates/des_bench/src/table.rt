@@ -1,9 +1,9 @@
 //! The table of what `bindings/benchmark` does not time: single DES and triple DES of each library,
-//! block by block, and `new`; few blocks in each of the ways that there are; spreading round keys, and
-//! a batch under spread keys; the message authentication codes; and the weak key test.
+//! block by block, and `new`; few blocks one by one, side by side and in a batch; spreading round keys,
+//! and a batch under spread keys; the message authentication codes; and the weak key test.
 //!
-//! What the timed calls answer is joined in the number below the table, so that no compiler can
-//! leave a call out.
+//! What the timed calls make is joined in the number below the table, so that no compiler can leave a
+//! call out.
 
 use crate::rows::{write_cipher, write_few, write_macs, write_spreading, write_weak_key_test};
 use crate::runs::{KEYS, Keys};
@@ -36,7 +36,7 @@ pub fn write_table<R: AllocGlobal + Clock + CpuClock, W: Write>(
 }
 
 // Keys that pass the weak key test: what DES makes of blocks, each of the one before it, which is
-// the chain of blocks of zeros.
+// CBC of blocks of zeros.
 fn mixed_keys() -> Keys {
     let mut keys = [[0u8; 24]; KEYS];
     let (blocks, _) = keys.as_flattened_mut().as_chunks_mut::<8>();

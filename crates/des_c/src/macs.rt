@@ -5,7 +5,7 @@ ghost use Rattle.std.specs.Prelude.{◌≡◌, ◌≢◌, ◌↔◌, ◌<◌, �
 ghost use Rattle.des_mac.specs.Tags.{IsTruncated};
 ghost use Rattle.des_context.specs.Contexts.{IsMarked};
 ghost use Rattle.des_context.specs.MacAlgorithms.{IsAlgorithm, mac_by};
-ghost use Rattle.des_context.specs.MacContexts.{HasMacCipherType, HasMacMark, IsMacOf, IsSoundMacIfMarked, key_size_of, words_of_chain};
+ghost use Rattle.des_context.specs.MacContexts.{HasMacCipherType, HasMacMark, IsMacOf, IsSoundMacIfMarked, key_size_of, words_of_cbc};
 ghost use Rattle.des_context.specs.PaddingMethods.{status_of};
 
 use des_context::macs::{self, MessageState};
@@ -29,7 +29,7 @@ pub extern "C" fn cukvashe_internal_mac_init(
     requires cipher_type { HasMacCipherType algorithm context.old }
     ensures status { result ≡ status_of (key_size_of context.old) (length key.now) padding }
     ensures made { result ≡ OK → IsMacOf algorithm context.new message.new padding key.now [] }
-    ensures no_tables { result ≡ OK → IsMarked algorithm no_tables (words_of_chain algorithm context.new) }
+    ensures no_tables { result ≡ OK → IsMarked algorithm no_tables (words_of_cbc algorithm context.new) }
     ensures second_no_tables { result ≡ OK → algorithm ≡ 3
         → IsMarked algorithm no_tables (drop 17 context.new) }
     ensures kept { result ≢ OK → (context.new ≡ context.old) × (message.new ≡ message.old) }

@@ -2,7 +2,7 @@ pub mod DerivationTexts
 pub mod ObjectIdentifiers
 pub mod TagsOfDigits
 pub mod StreamStates
-pub mod LineReadings
+pub mod LineKinds
 pub mod LineRuns
 pub mod LineTexts
 pub mod LinePieces

@@ -11,7 +11,7 @@ use Rattle.des_commands.specs.declared.lines.LinesJob.{LinesJob}
 use Rattle.des_commands.specs.declared.lines.Tally.{Tally}
 use Rattle.des_commands.specs.LineAnswers.{Outcome}
 use Rattle.des_commands.specs.LineRuns.{AreAnswered, Opening, Runs, RunsOn, StopsAfter, Streams, line_of, streams_of, written_of}
-use Rattle.des_commands.proofs.LineReadings.{Consumes-lines, ReadsLines-append}
+use Rattle.des_commands.proofs.LineKinds.{Consumes-lines, ReadsLines-append}
 use Rattle.des_commands.proofs.LineRuns.{Answers-append, GoesOn-append, Tells-append}
 
 AreAnswered-append : (Opens : Opening) (job : LinesJob) (lines others : List (List ℕ)) (first then : List Outcome)

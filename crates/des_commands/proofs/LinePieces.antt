@@ -10,58 +10,58 @@ use Rattle.des_columns.specs.declared.status.TheConstants.{OK}
 use Rattle.des_commands.specs.declared.lines.LinesJob.{LinesJob}
 use Rattle.des_commands.specs.declared.lines.Tally.{Tally}
 use Rattle.des_commands.specs.declared.lines.columns.LineColumn.{LineColumn}
-use Rattle.des_commands.specs.declared.lines.readings.LineCoding.{LineCoding}
-use Rattle.des_commands.specs.declared.lines.readings.Reading.{Reading}
-use Rattle.des_commands.specs.declared.lines.readings.Reading.TheVariants.{Value}
+use Rattle.des_commands.specs.declared.lines.line_kind.LineCoding.{LineCoding}
+use Rattle.des_commands.specs.declared.lines.line_kind.LineKind.{LineKind}
+use Rattle.des_commands.specs.declared.lines.line_kind.LineKind.TheVariants.{Value}
 use Rattle.des_commands.specs.LineAnswers.{IsOutcome, Outcome}
-use Rattle.des_commands.specs.LineColumns.{AreOutcomes, AreReadings, IsColumnOf, IsWhole, OpensColumn, text_at}
-use Rattle.des_commands.specs.LineReadings.{ReadsLines}
+use Rattle.des_commands.specs.LineColumns.{AreOutcomes, AreOfKinds, IsColumnOf, IsWhole, OpensColumn, text_at}
+use Rattle.des_commands.specs.LineKinds.{ReadsLines}
 use Rattle.des_commands.specs.LineRuns.{AddsAnswers, AreAnswered, GoesOn, Opening, Runs, StopsAfter, Streams, Tells, written_of}
 use Rattle.des_lines.specs.Written.{AppendsPrefix}
 use Rattle.std.specs.Io.KnownBytes.{Appends}
 use Rattle.des_commands.proofs.LineTexts.{all_within, length-concat, pieces-concat, placed, text_placed}
 
--- as many readings and values as lines
-counts : (coding : LineCoding) (lines : List (List ℕ)) (readings : List Reading) (values : List (List ℕ))
-    → AreReadings coding lines readings values
-    → (length readings ≡ length lines) × (length values ≡ length lines)
+-- as many kinds and values as lines
+counts : (coding : LineCoding) (lines : List (List ℕ)) (kinds : List LineKind) (values : List (List ℕ))
+    → AreOfKinds coding lines kinds values
+    → (length kinds ≡ length lines) × (length values ≡ length lines)
 counts coding [] [] [] are = (refl, refl)
-counts coding (line ∷ lines) (reading ∷ readings) (value ∷ values) are =
-    let rest = counts coding lines readings values are.1 in
+counts coding (line ∷ lines) (kind ∷ kinds) (value ∷ values) are =
+    let rest = counts coding lines kinds values are.1 in
     (ap suc rest.0, ap suc rest.1)
 counts coding [] [] (z ∷ zs) are = elim are [ ]
 counts coding [] (y ∷ ys) zs are = elim are [ ]
 counts coding (x ∷ xs) [] zs are = elim are [ ]
 counts coding (x ∷ xs) (y ∷ ys) [] are = elim are [ ]
 
-pub count_of : (coding : LineCoding) (lines : List (List ℕ)) (readings : List Reading) (bytes lengths : List ℕ)
-    → IsColumnOf coding lines readings bytes lengths → length readings ≡ length lines
-count_of coding lines readings bytes lengths column = (counts coding lines readings column.values column.read).0
+pub count_of : (coding : LineCoding) (lines : List (List ℕ)) (kinds : List LineKind) (bytes lengths : List ℕ)
+    → IsColumnOf coding lines kinds bytes lengths → length kinds ≡ length lines
+count_of coding lines kinds bytes lengths column = (counts coding lines kinds column.values column.read).0
 
-pub sizes_sum : (coding : LineCoding) (lines : List (List ℕ)) (readings : List Reading) (bytes lengths : List ℕ)
-    → IsColumnOf coding lines readings bytes lengths → sum lengths ≡ length bytes
-sizes_sum coding lines readings bytes lengths column =
+pub sizes_sum : (coding : LineCoding) (lines : List (List ℕ)) (kinds : List LineKind) (bytes lengths : List ℕ)
+    → IsColumnOf coding lines kinds bytes lengths → sum lengths ≡ length bytes
+sizes_sum coding lines kinds bytes lengths column =
     ap sum column.sizes ∙ sym (length-concat column.values) ∙ sym (ap length column.joined)
 
 -- the values of the column
-values_of : (coding : LineCoding) (lines : List (List ℕ)) (readings : List Reading) (bytes lengths : List ℕ)
-    → (column : IsColumnOf coding lines readings bytes lengths) → pieces lengths bytes ≡ column.values
-values_of coding lines readings bytes lengths column =
+values_of : (coding : LineCoding) (lines : List (List ℕ)) (kinds : List LineKind) (bytes lengths : List ℕ)
+    → (column : IsColumnOf coding lines kinds bytes lengths) → pieces lengths bytes ≡ column.values
+values_of coding lines kinds bytes lengths column =
     ap₂ pieces column.sizes column.joined ∙ pieces-concat column.values
 
 -- an opened column: the values that were read, and their texts
 pub record IsOpened (coding : LineCoding) (Opens : Opening) (lines : List (List ℕ)) (column : LineColumn) (bytes : List ℕ)
     : Type 0 where
-  pub of_lines : IsColumnOf coding lines column.readings.items bytes column.lengths.items
+  pub of_lines : IsColumnOf coding lines column.kinds.items bytes column.lengths.items
   pub read : IsColumnRead Opens (pieces column.lengths.items bytes) column.texts.items column.text_lengths.items
       column.statuses.items
   pub size : length column.texts.items ≡ length bytes
 
 pub opened_of : (coding : LineCoding) (Opens : Opening) (lines : List (List ℕ)) (old new : LineColumn)
-    → IsColumnOf coding lines old.readings.items old.values.items old.lengths.items → OpensColumn Opens old new
+    → IsColumnOf coding lines old.kinds.items old.values.items old.lengths.items → OpensColumn Opens old new
     → IsOpened coding Opens lines new old.values.items
 opened_of coding Opens lines old new of_lines opened = record {
-  of_lines = rw (opened.readings, opened.lengths) of_lines;
+  of_lines = rw (opened.kinds, opened.lengths) of_lines;
   read = rw opened.lengths opened.read;
   size = opened.size;
 }
@@ -69,7 +69,7 @@ opened_of coding Opens lines old new of_lines opened = record {
 are_values : (coding : LineCoding) (Opens : Opening) (lines : List (List ℕ)) (column : LineColumn) (bytes : List ℕ)
     → (opened : IsOpened coding Opens lines column bytes) → pieces column.lengths.items bytes ≡ opened.of_lines.values
 are_values coding Opens lines column bytes opened =
-    values_of coding lines column.readings.items bytes column.lengths.items opened.of_lines
+    values_of coding lines column.kinds.items bytes column.lengths.items opened.of_lines
 
 as_many : (coding : LineCoding) (Opens : Opening) (lines : List (List ℕ)) (column : LineColumn) (bytes : List ℕ)
     → (opened : IsOpened coding Opens lines column bytes) → length opened.read.read ≡ length opened.of_lines.values
@@ -102,7 +102,7 @@ pub whole : (coding : LineCoding) (Opens : Opening) (lines : List (List ℕ)) (c
 whole coding Opens lines column bytes opened =
     let values : List (List ℕ) = opened.of_lines.values in
     let texts : List (List ℕ) = opened.read.read in
-    let count = counts coding lines column.readings.items values opened.of_lines.read in
+    let count = counts coding lines column.kinds.items values opened.of_lines.read in
     let read_count = as_many coding Opens lines column bytes opened in
     let sizes : length column.lengths.items ≡ length values = ap length opened.of_lines.sizes ∙ length-map values length in
     let text_sizes : length column.text_lengths.items ≡ length texts =
@@ -113,7 +113,7 @@ whole coding Opens lines column bytes opened =
       lengths = omega (arith, sizes, count.0, count.1);
       text_lengths = omega (arith, text_sizes, read_count, count.0, count.1);
       statuses = omega (arith, statuses, count.0, count.1);
-      texts = sizes_sum coding lines column.readings.items bytes column.lengths.items opened.of_lines ∙ sym opened.size;
+      texts = sizes_sum coding lines column.kinds.items bytes column.lengths.items opened.of_lines ∙ sym opened.size;
       within = λ k.
           let value_size : get_or column.lengths.items k 0 ≡ length (get_or values k []) =
           ap (λ (lengths : List ℕ). get_or lengths k 0) opened.of_lines.sizes ∙ get_or-map length values k [] in
@@ -126,17 +126,17 @@ whole coding Opens lines column bytes opened =
     }
 
 -- each of the first lines is answered
-answered_from : (Opens : Opening) (job : LinesJob) (lines : List (List ℕ)) (readings : List Reading)
-    (values : List (List ℕ)) (outcomes : List Outcome) → AreReadings job.coding lines readings values
-    → length outcomes ≤ length readings
+answered_from : (Opens : Opening) (job : LinesJob) (lines : List (List ℕ)) (kinds : List LineKind)
+    (values : List (List ℕ)) (outcomes : List Outcome) → AreOfKinds job.coding lines kinds values
+    → length outcomes ≤ length kinds
     → ((k : ℕ) → k < length outcomes → (status : ℤ) × (text : List ℕ) × Opens (get_or values k []) status text
-    × IsOutcome job.writes_digits (get_or readings k Value) text status (get_or outcomes k (Ok [])))
+    × IsOutcome job.writes_digits (get_or kinds k Value) text status (get_or outcomes k (Ok [])))
     → AreAnswered Opens job lines outcomes
-answered_from Opens job lines readings values [] are count each = tt
-answered_from Opens job (line ∷ lines) (reading ∷ readings) (value ∷ values) (outcome ∷ outcomes) are count each =
+answered_from Opens job lines kinds values [] are count each = tt
+answered_from Opens job (line ∷ lines) (kind ∷ kinds) (value ∷ values) (outcome ∷ outcomes) are count each =
     let here = each 0 (omega arith) in (
-      (reading, value, here.0, here.1, are.0, here.2, here.3),
-      answered_from Opens job lines readings values outcomes are.1 (omega (arith, count))
+      (kind, value, here.0, here.1, are.0, here.2, here.3),
+      answered_from Opens job lines kinds values outcomes are.1 (omega (arith, count))
           (λ k below. each (suc k) (omega (arith, below))),
     )
 answered_from Opens job [] [] [] (outcome ∷ outcomes) are count each = omega (arith, count)
@@ -151,9 +151,9 @@ pub answered : (job : LinesJob) (Opens : Opening) (lines : List (List ℕ)) (col
 answered job Opens lines column bytes outcomes opened are =
     let values : List (List ℕ) = opened.of_lines.values in
     let texts : List (List ℕ) = opened.read.read in
-    let count = counts job.coding lines column.readings.items values opened.of_lines.read in
+    let count = counts job.coding lines column.kinds.items values opened.of_lines.read in
     let same = are_values job.coding Opens lines column bytes opened in
-    answered_from Opens job lines column.readings.items values outcomes opened.of_lines.read are.count
+    answered_from Opens job lines column.kinds.items values outcomes opened.of_lines.read are.count
     (λ k below.
     let found : List ℕ = get_or texts k [] in
     let inside : k < length (pieces column.lengths.items bytes) =
@@ -170,7 +170,7 @@ answered job Opens lines column bytes outcomes opened are =
       found,
       subst (λ (all : List (List ℕ)). Opens (get_or all k []) (get_or column.statuses.items k OK) found) same
           (opened.read.reads k inside),
-      subst (λ (text : List ℕ). IsOutcome job.writes_digits (get_or column.readings.items k Value) text
+      subst (λ (text : List ℕ). IsOutcome job.writes_digits (get_or column.kinds.items k Value) text
           (get_or column.statuses.items k OK) (get_or outcomes k (Ok []))) text (are.each k below),
     ))
 
@@ -178,7 +178,7 @@ answered job Opens lines column bytes outcomes opened are =
 pub runs : (Opens : Opening) (job : LinesJob) (lines : List (List ℕ)) (outcomes : List Outcome) (column : LineColumn)
     (bytes sent : List ℕ) (goes_on more : Bool) (l m : Tally) (a b : Streams) → ReadsLines lines a.left b.left
     → IsOpened job.coding Opens lines column bytes → AreOutcomes job.writes_digits column outcomes
-    → AddsAnswers job goes_on (length column.readings.items) outcomes l m a.told b.told [] sent
+    → AddsAnswers job goes_on (length column.kinds.items) outcomes l m a.told b.told [] sent
     → Appends a.written b.written sent → (more ≡ false → IfSome a.left (λ bytes. bytes ≡ concat lines))
     → Runs Opens job goes_on more l m a b
 runs Opens job lines outcomes column bytes sent goes_on more l m a b reads opened are adds written all = record {
@@ -187,7 +187,7 @@ runs Opens job lines outcomes column bytes sent goes_on more l m a b reads opene
   reads = reads;
   answered = answered job Opens lines column bytes outcomes opened are;
   counted = subst (λ (count : ℕ). GoesOn job.keeps_going goes_on count outcomes)
-      (count_of job.coding lines column.readings.items bytes column.lengths.items opened.of_lines) adds.counted;
+      (count_of job.coding lines column.kinds.items bytes column.lengths.items opened.of_lines) adds.counted;
   written = subst (Appends a.written b.written) adds.added written;
   answers = adds.answers;
   all = all;

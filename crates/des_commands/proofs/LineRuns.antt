@@ -79,7 +79,7 @@ AddsAnswers-append job goes_on m n k first then l p q a b c x y z one other is =
 
 -- a line more of a column is answered
 pub AreOutcomes-more : (writes_digits : Bool) (column : LineColumn) (outcomes : List Outcome) (outcome : Outcome)
-    → AreOutcomes writes_digits column outcomes → length outcomes < length column.readings.items
+    → AreOutcomes writes_digits column outcomes → length outcomes < length column.kinds.items
     → IsOutcomeAt writes_digits column (length outcomes) outcome
     → AreOutcomes writes_digits column (outcomes ++ outcome ∷ [])
 AreOutcomes-more writes_digits column outcomes outcome are below is = record {

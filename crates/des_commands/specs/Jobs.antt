@@ -53,12 +53,12 @@ IsNamed cipher key_size encrypts decrypts =
     × ((key : List ℕ) → encrypts key ≡ encryption_of cipher key)
     × ((key : List ℕ) → decrypts key ≡ decryption_of cipher key)
 
--- a chain goes on from a block
+-- CBC goes on from a block
 abbrev pub GoesOnFromBlock : Mode → Type 0
 GoesOnFromBlock Ecb = ⊤
 GoesOnFromBlock (Cbc vector) = IsBlock vector
 
--- functions answer each block as a job's key does, and blocks are all that they are asked, since a chain goes on from
+-- functions make of each block what a job's key does, and blocks are all that they are asked for, since CBC goes on from
 -- one
 pub record AreOfKey (encrypted decrypted : List ℕ → List ℕ) (job : Job) : Type 0 where
   pub encrypts : AnswerAlike encrypted (encryption_of job.cipher job.key.now)

@@ -15,7 +15,7 @@ pub mod DecryptedKeys
 pub mod LineAnswers
 pub mod LineColumns
 pub mod LineFaults
-pub mod LineReadings
+pub mod LineKinds
 pub mod LineRuns
 pub mod LineFormats
 pub mod LineArguments

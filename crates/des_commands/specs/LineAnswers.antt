@@ -6,9 +6,9 @@ use Rattle.std.specs.Str.{chars, is_utf8}
 use Rattle.hex.specs.Hex.{encode_lower}
 use Rattle.des_commands.specs.declared.lines.line_fault.LineFault.{LineFault}
 use Rattle.des_commands.specs.declared.lines.line_fault.LineFault.TheVariants.{Length, Salt, NotEncrypted, KeyNumber, Base64, Padding, Unprintable}
-use Rattle.des_commands.specs.declared.lines.readings.Reading.{Reading}
-use Rattle.des_commands.specs.declared.lines.readings.Reading.TheVariants.{Value, Empty, Null, Faulty}
-use Rattle.des_commands.specs.LineReadings.{null_text}
+use Rattle.des_commands.specs.declared.lines.line_kind.LineKind.{LineKind}
+use Rattle.des_commands.specs.declared.lines.line_kind.LineKind.TheVariants.{Value, Empty, Null, Faulty}
+use Rattle.des_commands.specs.LineKinds.{null_text}
 use Rattle.des_columns.specs.declared.status.TheConstants.{OK, ERR_BLOCKS, ERR_SALT_LENGTH, ERR_NOT_ENCRYPTED, ERR_KEY_NUMBER, ERR_BASE64}
 
 -- a printable character of ASCII, or a tab
@@ -69,7 +69,7 @@ IsOpened writes_digits text status outcome =
     (fault : Option LineFault) × IsFaultOf status fault × (outcome ≡ answer_after fault (answer_of writes_digits text))
 
 -- the answer to a line: nothing to nothing, to a word for what is no value that word, and to a value what its text is
-abbrev pub IsOutcome : (writes_digits : Bool) → Reading → (text : List ℕ) → ℤ → Outcome → Type 0
+abbrev pub IsOutcome : (writes_digits : Bool) → LineKind → (text : List ℕ) → ℤ → Outcome → Type 0
 IsOutcome writes_digits Value text status outcome = IsOpened writes_digits text status outcome
 IsOutcome writes_digits Empty text status outcome = outcome ≡ Ok []
 IsOutcome writes_digits (Null word) text status outcome = outcome ≡ Ok (null_text word)

@@ -10,8 +10,8 @@ use Rattle.des_commands.specs.declared.command.lines.ValueFormat.{ValueFormat}
 use Rattle.des_commands.specs.declared.command.lines.ValueFormat.TheVariants.{Mysql, Pgcrypto, Jasypt}
 use Rattle.des_commands.specs.declared.command.lines.LineSecret.{LineSecret}
 use Rattle.des_commands.specs.declared.command.lines.LineSecret.TheVariants.{Password, Key}
-use Rattle.des_commands.specs.declared.lines.readings.LineCoding.{LineCoding}
-use Rattle.des_commands.specs.declared.lines.readings.LineCoding.TheVariants.{Hexadecimal, Base64, Bytes}
+use Rattle.des_commands.specs.declared.lines.line_kind.LineCoding.{LineCoding}
+use Rattle.des_commands.specs.declared.lines.line_kind.LineCoding.TheVariants.{Hexadecimal, Base64, Bytes}
 use Rattle.des_commands.specs.LineRuns.{Opening}
 
 -- what a value is opened to under a secret, and a vector if the format takes one

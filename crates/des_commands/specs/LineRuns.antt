@@ -5,10 +5,10 @@ use Rattle.std.specs.List.{concat, flat_map, list_any}
 use Rattle.des_commands.specs.declared.lines.LinesJob.{LinesJob}
 use Rattle.des_commands.specs.declared.lines.Tally.{Tally}
 use Rattle.des_commands.specs.declared.lines.line_fault.LineFault.{LineFault}
-use Rattle.des_commands.specs.declared.lines.readings.Reading.{Reading}
+use Rattle.des_commands.specs.declared.lines.line_kind.LineKind.{LineKind}
 use Rattle.des_commands.specs.LineAnswers.{IsOutcome, Outcome}
 use Rattle.des_commands.specs.LineFaults.{about_line, fault_line}
-use Rattle.des_commands.specs.LineReadings.{IsReading, ReadsLines}
+use Rattle.des_commands.specs.LineKinds.{IsOfKind, ReadsLines}
 use Rattle.des_commands.specs.Sources.{FailsToRead}
 use Rattle.des_lines.specs.Written.{AppendsPrefix}
 use Rattle.des_lines.specs.declared.fault.FaultKind.{FaultKind}
@@ -24,9 +24,9 @@ Opening = List ℕ → ℤ → List ℕ → Type 0
 -- a line is answered by what its value is opened to
 abbrev pub IsAnswered : Opening → LinesJob → List ℕ → Outcome → Type 0
 IsAnswered Opens job line outcome =
-    (reading : Reading) × (value : List ℕ) × (status : ℤ) × (text : List ℕ)
-    × IsReading job.coding line reading value × Opens value status text
-    × IsOutcome job.writes_digits reading text status outcome
+    (kind : LineKind) × (value : List ℕ) × (status : ℤ) × (text : List ℕ)
+    × IsOfKind job.coding line kind value × Opens value status text
+    × IsOutcome job.writes_digits kind text status outcome
 
 -- each of the first lines is
 abbrev pub AreAnswered : Opening → LinesJob → List (List ℕ) → List Outcome → Type 0

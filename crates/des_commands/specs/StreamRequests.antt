@@ -37,7 +37,7 @@ takes_part (Stream Ofb) = false
 takes_part _ = true
 
 -- how the first block that is read goes on, by a vector that is random or of a password, if one is asked for. A vector
--- that is the first block is passed over, chained from a block of zeros
+-- that is the first block is passed over, by CBC from a block of zeros
 abbrev pub begin_of : Option Vector → List ℕ → Mode
 begin_of None vector = Ecb
 begin_of (Some (Bytes iv)) vector = Cbc iv

@@ -11,7 +11,7 @@ use std::os::fd::{AsRawFd, IntoRawFd};
 use std::os::unix::fs::{MetadataExt, PermissionsExt};
 use std::path::Path;
 
-/// The device that holds a standard descriptor which is closed.
+/// The device that occupies a standard descriptor which is closed.
 pub const NULL_DEVICE: &str = "/dev/null";
 
 // The links in it lead to the files of the descriptors.
@@ -47,14 +47,14 @@ pub enum Followed {
     Descriptor(u64),
     /// A descriptor under another name, or one of another process.
     OtherDescriptor,
-    /// A path that is no link, and the modes of the folders that hold the links on the way.
+    /// A path that is no link, and the modes of the folders with the links to it.
     Path { name: String, folders: Vec<u32> },
 }
 
 /// Occupies each of the descriptors 0 to 2 that is closed, so that no file opened later becomes a
 /// standard stream. The null device is opened for the opposite direction, so that reading and writing
 /// still fail. The error is that the system has no null device.
-pub fn hold_closed(rt: &HostRuntime) -> io::Result<()> {
+pub fn occupy_closed(rt: &HostRuntime) -> io::Result<()> {
     for _ in 0..3 {
         // A pipe needs no file. Its reader has the lowest closed descriptor.
         let (reader, writer) = io::pipe(rt)?;
@@ -64,11 +64,11 @@ pub fn hold_closed(rt: &HostRuntime) -> io::Result<()> {
         if number > 2 {
             return Ok(());
         }
-        let held = OpenOptions::new()
+        let device = OpenOptions::new()
             .read(number != 0)
             .write(number == 0)
             .open(rt, NULL_DEVICE)?;
-        held.into_raw_fd();
+        device.into_raw_fd();
     }
     Ok(())
 }
@@ -195,8 +195,8 @@ pub fn descriptor_state_of(rt: &HostRuntime, number: u64) -> io::Result<Descript
     let (Some(place), Some(flags)) = (place, flags) else {
         return Err(io::Error::from(ErrorKind::InvalidData));
     };
-    // A standard descriptor was closed, and is held. It is known by its access, which is the wrong
-    // way round: so is one that the caller opened so.
+    // A standard descriptor was closed, and is occupied. It is known by its access, which is the
+    // opposite one: so is one that the caller opened so.
     let access = flags & ACCESS;
     if number == 0 && access == WRITE_ONLY || matches!(number, 1 | 2) && access == READ_ONLY {
         return Err(io::Error::from(ErrorKind::NotFound));

@@ -3,8 +3,8 @@
 pub mod answers;
 pub mod columns;
 pub mod line_fault;
+pub mod line_kind;
 pub mod openers;
-pub mod readings;
 
 ghost use Rattle.std.specs.Prelude.{◌≡◌, ◌<◌, ◌||◌, ◌++◌, ◌∷◌, [], ℕ, List, false, true, length, is_none, IfSome, IfOk, IfErr, OnOk, OnErr};
 ghost use Rattle.std.specs.Io.KnownBytes.{Consumes};
@@ -14,7 +14,7 @@ ghost use Rattle.des_commands.specs.Sources.{FailsToRead};
 ghost use Rattle.des_commands.specs.LineAnswers.{IsOutcome, Outcome};
 ghost use Rattle.des_commands.specs.LineColumns.{start_of, AddsLine, AreOutcomes, IsColumnOf, IsOutcomeAt, IsWhole};
 ghost use Rattle.des_commands.specs.LineRuns.{end_of, status_of as status_by, streams_of, AddsAnswers, Answers, FailsToRun, GoesOn, IsRun, RunsOn, StopsAfter, Tells};
-ghost use Rattle.des_commands.specs.LineReadings.{ReadsLines};
+ghost use Rattle.des_commands.specs.LineKinds.{ReadsLines};
 
 use crate::inputs::files::read_fault;
 use answers::add_outcome;
@@ -22,7 +22,7 @@ use columns::{LineColumn, Opener, open_column};
 use des_io::pieces::write_whole;
 use des_lines::fault::{FaultKind, Reason};
 use line_fault::{LineFault, tell_line};
-use readings::{LineCoding, Reading, add_value};
+use line_kind::{LineCoding, LineKind, add_value};
 use std::alloc::{AllocError, Global};
 use std::io::{BufRead, Write};
 
@@ -95,8 +95,8 @@ fn read_line<R: BufRead>(
         Err(error) => return Err(read_fault(error)),
     }
     let start = column.values.len();
-    let reading = add_value(coding, line, &mut column.values)?;
-    column.readings.push(reading)?;
+    let kind = add_value(coding, line, &mut column.values)?;
+    column.kinds.push(kind)?;
     column.lengths.push(column.values.len() - start)?;
     Ok(true)
 }
@@ -112,12 +112,12 @@ fn read_lines<R: BufRead>(
         × Consumes (R.remaining reader.old) (R.remaining reader.new) bytes) }
     ensures lines { IfOk result (λ more. (lines : List (List ℕ))
         × ReadsLines lines (R.remaining reader.old) (R.remaining reader.new)
-        × IsColumnOf coding lines column.new.readings.items column.new.values.items
+        × IsColumnOf coding lines column.new.kinds.items column.new.values.items
         column.new.lengths.items
         × (more ≡ false → IfSome (R.remaining reader.old) (λ bytes. bytes ≡ concat lines))) }
     ensures fault { IfErr result FailsToRead }
 {
-    column.readings.clear();
+    column.kinds.clear();
     column.values.clear();
     column.lengths.clear();
     'lines: for _ in 0..LINES_AT_A_TIME {
@@ -177,7 +177,7 @@ fn end_line(goes_on: bool, out: &mut Vec<u8>) -> Result<(), AllocError>
 fn answer_line<E: Write>(
     alloc: Global,
     job: &LinesJob,
-    reading: Reading,
+    kind: LineKind,
     text: &[u8],
     status: i32,
     tally: &mut Tally,
@@ -185,13 +185,13 @@ fn answer_line<E: Write>(
     err: &mut E,
 ) -> Result<bool, FaultKind>
     ensures answered { IfOk result (λ goes_on. (outcome : Outcome)
-        × IsOutcome job.now.writes_digits reading text.now status outcome
+        × IsOutcome job.now.writes_digits kind text.now status outcome
         × AddsAnswers job.now goes_on 1 (outcome ∷ []) tally.old tally.new
         (E.contents err.old) (E.contents err.new) out.old.items out.new.items) }
     ensures fault { IfErr result (λ kind. kind ≡ FaultKind.Memory) }
     ensures untold { OnErr result (err.new ≡ err.old) }
 {
-    let fault = add_outcome(alloc, job.writes_digits, reading, text, status, out)?;
+    let fault = add_outcome(alloc, job.writes_digits, kind, text, status, out)?;
     let goes_on = goes_on(job.keeps_going, fault);
     end_line(goes_on, out)?;
     count_line(alloc, job, fault, tally, err)?;
@@ -211,7 +211,7 @@ fn answer_at<E: Write>(
     err: &mut E,
 ) -> Result<bool, FaultKind>
     requires column { IsWhole column.now }
-    requires at { at < length column.now.readings.items }
+    requires at { at < length column.now.kinds.items }
     requires from { from ≡ start_of column.now.lengths.items at }
     ensures answered { IfOk result (λ goes_on. (outcome : Outcome)
         × IsOutcomeAt job.now.writes_digits column.now at outcome
@@ -220,9 +220,9 @@ fn answer_at<E: Write>(
     ensures fault { IfErr result (λ kind. kind ≡ FaultKind.Memory) }
     ensures untold { OnErr result (err.new ≡ err.old) }
 {
-    let (reading, status) = (column.readings[at], column.statuses[at]);
+    let (kind, status) = (column.kinds[at], column.statuses[at]);
     let text = column.text(at, from);
-    answer_line(alloc, job, reading, text, status, tally, out, err)
+    answer_line(alloc, job, kind, text, status, tally, out, err)
 }
 
 // Adds the answers of a column's lines, and tells of those that have none. Returns whether the run
@@ -238,7 +238,7 @@ fn add_answers<E: Write>(
     requires column { IsWhole column.now }
     ensures answered { IfOk result (λ goes_on. (outcomes : List Outcome)
         × AreOutcomes job.now.writes_digits column.now outcomes
-        × AddsAnswers job.now goes_on (length column.now.readings.items) outcomes tally.old tally.new
+        × AddsAnswers job.now goes_on (length column.now.kinds.items) outcomes tally.old tally.new
         (E.contents err.old) (E.contents err.new) out.old.items out.new.items) }
     ensures fault { IfErr result (λ kind. kind ≡ FaultKind.Memory) }
     ensures told { OnErr result ((outcomes : List Outcome)
@@ -247,7 +247,7 @@ fn add_answers<E: Write>(
         × Tells job.now.name.now tally.old.line outcomes (E.contents err.old) (E.contents err.new)) }
 {
     let mut from = 0;
-    'lines: for at in 0..column.readings.len() {
+    'lines: for at in 0..column.kinds.len() {
         if !answer_at(alloc, job, column, at, from, tally, out, err)? {
             return Ok(false);
         }

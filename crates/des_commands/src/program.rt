@@ -8,7 +8,7 @@ mod streams;
 
 use crate::arguments::{command_of, parse};
 use crate::command::Command;
-use crate::descriptors::{NULL_DEVICE, hold_closed};
+use crate::descriptors::{NULL_DEVICE, occupy_closed};
 use crate::outputs::targets::write_fault;
 use crate::usage::show_usage;
 use calculations::{calculation_status, parts_status};
@@ -58,8 +58,8 @@ fn run_arguments(rt: &HostRuntime) -> io::Result<u8> {
     Ok(run_words(rt, words.as_slice()))
 }
 
-// Runs the program once the standard descriptors are held.
-fn run_held(rt: &HostRuntime) -> u8 {
+// Runs the program once the standard descriptors are occupied.
+fn run_on_descriptors(rt: &HostRuntime) -> u8 {
     match run_arguments(rt) {
         Ok(status) => status,
         Err(error) if error.kind() == io::ErrorKind::OutOfMemory => {
@@ -71,8 +71,8 @@ fn run_held(rt: &HostRuntime) -> u8 {
 
 /// Runs the program on the arguments of the process, and returns the status that it ends with.
 pub fn run(rt: &HostRuntime) -> ExitCode {
-    ExitCode::from(match hold_closed(rt) {
-        Ok(()) => run_held(rt),
+    ExitCode::from(match occupy_closed(rt) {
+        Ok(()) => run_on_descriptors(rt),
         Err(error) => tell_on(rt, Fault::about(write_fault(error), NULL_DEVICE)),
     })
 }

@@ -191,7 +191,7 @@ fn run_in<C: ManyBlocks, R: Read, W: Write>(
     }
 }
 
-/// The cipher of a key, which answers as the key does.
+/// The cipher of a key, which makes of each block what the key does.
 pub fn cipher_of<C: KeyedCipher>(key: &C::Key) -> C
     ensures encrypts { AnswerAlike (C.encrypted result) (C.encryption (C.Key.bytes_of key.now)) }
     ensures decrypts { AnswerAlike (C.decrypted result) (C.decryption (C.Key.bytes_of key.now)) }
@@ -200,7 +200,7 @@ pub fn cipher_of<C: KeyedCipher>(key: &C::Key) -> C
     C::new(key)
 }
 
-// A function for the proof alone: the vector that a chain goes on from is a block.
+// A function for the proof alone: the vector that CBC goes on from is a block.
 fn goes_on_from_block(mode: Mode)
     ensures { GoesOnFromBlock mode }
 {

@@ -1,4 +1,4 @@
--- The one plaintext of blocks that CBC chained under the relation of a key; and what is opened of them: what the blocks
+-- The one plaintext of blocks that CBC encrypted under the relation of a key; and what is opened of them: what the blocks
 -- before the last one hold, and the last one without its padding.
 use Rattle.std.proofs.Common.{◌≡◌, ◌≢◌, ℕ, ◌+◌, ◌*◌, ◌-◌, ◌<◌, ◌≤◌, List, [], ◌∷◌, ◌++◌, length, take, drop, slice_range, refl, ap, ap₂, sym, ◌∙◌, subst, arith, true, false, take_at}
 use Rattle.std.specs.Prelude.{ℤ}
@@ -30,7 +30,7 @@ use Rattle.des_context.proofs.PaddedCounts.{last_padded}
 use borrow.Rule.Slice.PartMut.{put_mid}
 use lib.Seq.{take-add}
 
--- a key answers by its relation
+-- a key's graphs are its relation
 pub AnswerBy-cipher_type : (cipher_type : CipherType) (key : List ℕ) → IsKey (8 * parts_of cipher_type) key
     → AnswerBy (encryption_by cipher_type key) (decryption_by cipher_type key) (λ x y. relation_by cipher_type key x y)
 AnswerBy-cipher_type Des key is = record {
@@ -106,7 +106,7 @@ pub opened-some : {Relates : List ℕ → List ℕ → Type 0} {vector : List �
     → IsOpened Relates vector encrypted plain → 0 < length (blocks_of encrypted)
 opened-some encrypted plain opened = omega (arith, length-plain opened.1, length-padded Pkcs7 plain takes_off)
 
--- the last of the blocks comes out of the chain that goes on after the others
+-- the last of the blocks is decrypted by the CBC that goes on after the others
 module _ {forth back : List ℕ → List ℕ} {Relates : List ℕ → List ℕ → Type 0} (by : AnswerBy forth back Relates)
     (vector encrypted : List ℕ) (front : List (List ℕ)) (last end : List ℕ) (is_vector : IsBlock vector)
     (whole : AreWhole encrypted) (are : All IsBlock (blocks_of encrypted))

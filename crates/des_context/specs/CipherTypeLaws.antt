@@ -7,7 +7,7 @@ use Rattle.des_context.specs.declared.ciphers.CipherType.TheVariants.{Des, Ede2,
 use Rattle.des_context.specs.CipherTypes.{parts_of, cipher_type_of_length, relation_by, relation_of, encryption_by, encryption_of, decryption_by, decryption_of}
 
 -- a key has `size` bytes, and makes of blocks by its length what these functions make of it
-pub record AnswersByLength (size : ℕ) (encryption : List ℕ → List ℕ → List ℕ)
+pub record RelatesByLength (size : ℕ) (encryption : List ℕ → List ℕ → List ℕ)
     (relation : List ℕ → List ℕ → List ℕ → Type 0) (key : List ℕ) : Type 0 where
   pub is_key : IsKey size key
   pub encrypts : encryption key ≡ encryption_of key
@@ -21,9 +21,9 @@ cipher_type-of_length Ede3 = refl
 pub cipher_type-of_key : (cipher_type : CipherType) (key : List ℕ) → length key ≡ 8 * parts_of cipher_type → cipher_type_of_length (length key) ≡ cipher_type
 cipher_type-of_key cipher_type key size = ap cipher_type_of_length size ∙ cipher_type-of_length cipher_type
 
-pub AnswersByLength-cipher_type : (cipher_type : CipherType) (key : List ℕ) → IsKey (8 * parts_of cipher_type) key
-    → AnswersByLength (8 * parts_of cipher_type) (encryption_by cipher_type) (relation_by cipher_type) key
-AnswersByLength-cipher_type cipher_type key is =
+pub RelatesByLength-cipher_type : (cipher_type : CipherType) (key : List ℕ) → IsKey (8 * parts_of cipher_type) key
+    → RelatesByLength (8 * parts_of cipher_type) (encryption_by cipher_type) (relation_by cipher_type) key
+RelatesByLength-cipher_type cipher_type key is =
     let same : cipher_type ≡ cipher_type_of_length (length key) = sym (cipher_type-of_key cipher_type key is.0) in record {
       is_key = is;
       encrypts = ap (λ other. encryption_by other key) same;

@@ -1,4 +1,4 @@
--- Records of blocks, one after another in a list, chained by CBC.
+-- Records of blocks, one after another in a list, in CBC.
 use Rattle.std.specs.Prelude.{◌≡◌, ◌≢◌, ◌↔◌, ℕ, ℤ, ◌<◌, List, [], length, sum, slice_index_or}
 use Rattle.des.specs.Cbc.{Chains}
 use Rattle.des_fast.specs.Records.{record_of, GoOn}
@@ -10,13 +10,13 @@ use Rattle.des_context.specs.declared.status.TheConstants.{OK, ERR_COUNTS}
 abbrev pub AreSizesOf : List ℕ → List (List ℕ) → List (List ℕ) → Type 0
 AreSizesOf sizes vectors blocks = (length vectors ≡ length sizes) × (sum sizes ≡ length blocks)
 
--- each record of p is chained into that of q from the vector at its place, under a relation of blocks
+-- each record of p is encrypted by CBC to that of q from the vector at its place, under a relation of blocks
 unfoldable pub ChainsEach : (List ℕ → List ℕ → Type 0) → List ℕ → List (List ℕ) → List (List ℕ) → List (List ℕ) → Type 0
 ChainsEach Relates sizes vectors p q =
     (k : ℕ) → k < length vectors
     → Chains Relates (slice_index_or vectors k []) (record_of sizes p k) (record_of sizes q k)
 
--- the sizes are refused, and all stays; or the plain records are chained into the encrypted ones by the key of a
+-- the sizes are refused, and all stays; or the plain records become the encrypted ones by CBC and the key of a
 -- context, and each vector becomes the last block of its record
 pub record ChainRecords (context sizes : List ℕ) (vectors_old vectors_new old new plain encrypted : List (List ℕ)) (status : ℤ)
     : Type 0 where

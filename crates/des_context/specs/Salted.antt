@@ -14,7 +14,7 @@ use Rattle.des_passwords.specs.declared.derivation.Derivation.{Derivation}
 
 -- ---- what is opened
 
--- the bytes of the blocks that CBC chained to these from a vector
+-- the bytes of the blocks that CBC encrypted to these from a vector
 abbrev pub IsPlainOf : (List ℕ → List ℕ → Type 0) → List ℕ → List (List ℕ) → List ℕ → Type 0
 IsPlainOf relation vector blocks bytes = (p : List (List ℕ)) × Chains relation vector p blocks × (joined p ≡ bytes)
 

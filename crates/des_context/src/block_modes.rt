@@ -29,7 +29,7 @@ fn encrypt_by<C: ContextCipher + ManyBlocks, S: Slice>(
     requires cipher_type { HasCipherType C.CIPHER_TYPE context.now }
     requires made { (key : List ℕ) × IsContextOf context.now key }
     ensures { (key : List ℕ) → IsContextOf context.now key
-        → IsTheOne (λ answers. AnswersEach (relation_of key) blocks.old answers) blocks.new }
+        → IsTheOne (λ ciphertext. AnswersEach (relation_of key) blocks.old ciphertext) blocks.new }
 {
     C::of(context).encrypt_list_by::<S>(no_tables, blocks);
 }
@@ -44,7 +44,7 @@ fn decrypt_by<C: ContextCipher + ManyBlocks, S: Slice>(
     requires cipher_type { HasCipherType C.CIPHER_TYPE context.now }
     requires made { (key : List ℕ) × IsContextOf context.now key }
     ensures { (key : List ℕ) → IsContextOf context.now key
-        → IsTheOne (λ answers. AnswersEach (relation_of key) answers blocks.old) blocks.new }
+        → IsTheOne (λ plaintext. AnswersEach (relation_of key) plaintext blocks.old) blocks.new }
 {
     C::of(context).decrypt_list_by::<S>(no_tables, blocks);
 }
@@ -67,7 +67,7 @@ fn encrypt_cbc_by<C: ContextCipher + ManyBlocks>(
     *iv = next_vector(iv, blocks);
 }
 
-// Decrypts blocks that CBC chained from the vector, by a cipher.
+// Decrypts blocks that CBC encrypted from the vector, by a cipher.
 #[inline(never)]
 fn decrypt_cbc_by<C: ContextCipher + ManyBlocks, S: Slice>(
     context: &[u64],
@@ -83,7 +83,7 @@ fn decrypt_cbc_by<C: ContextCipher + ManyBlocks, S: Slice>(
     C::of(context).decrypt_cbc_list_by::<S>(no_tables, iv, blocks);
 }
 
-/// Decrypts blocks that CBC chained from the vector.
+/// Decrypts blocks that CBC encrypted from the vector.
 pub(crate) fn decrypt_cbc_blocks<S: Slice>(
     cipher: CipherType,
     no_tables: bool,
@@ -108,7 +108,7 @@ pub fn encrypt_ecb<S: Slice>(context: &[u64], blocks: &mut [[u8; 8]], size: usiz
     ensures refused { (result ≡ ERR_BLOCKS)
         ↔ (HasMark NO_MAC context.now × ¬ (AreBytesOf blocks.old size)) }
     ensures encrypted { result ≡ OK → (key : List ℕ) → IsContextOf context.now key
-        → IsTheOne (λ answers. AnswersEach (relation_of key) blocks.old answers) blocks.new }
+        → IsTheOne (λ ciphertext. AnswersEach (relation_of key) blocks.old ciphertext) blocks.new }
     ensures kept { result ≢ OK → blocks.new ≡ blocks.old }
 {
     let Some((cipher, no_tables)) = opened(NO_MAC, context) else {
@@ -129,7 +129,7 @@ pub fn decrypt_ecb<S: Slice>(context: &[u64], blocks: &mut [[u8; 8]], size: usiz
     ensures refused { (result ≡ ERR_BLOCKS)
         ↔ (HasMark NO_MAC context.now × ¬ (AreBytesOf blocks.old size)) }
     ensures decrypted { result ≡ OK → (key : List ℕ) → IsContextOf context.now key
-        → IsTheOne (λ answers. AnswersEach (relation_of key) answers blocks.old) blocks.new }
+        → IsTheOne (λ plaintext. AnswersEach (relation_of key) plaintext blocks.old) blocks.new }
     ensures kept { result ≢ OK → blocks.new ≡ blocks.old }
 {
     let Some((cipher, no_tables)) = opened(NO_MAC, context) else {
@@ -166,7 +166,7 @@ pub fn encrypt_cbc(context: &[u64], iv: &mut [u8; 8], blocks: &mut [[u8; 8]], si
     OK
 }
 
-/// Decrypts blocks in place that CBC chained from the vector, which becomes the last ciphertext
+/// Decrypts blocks in place that CBC encrypted from the vector, which becomes the last ciphertext
 /// block. The status is as of `encrypt_cbc`.
 pub fn decrypt_cbc<S: Slice>(
     context: &[u64],

@@ -8,7 +8,7 @@ ghost use Rattle.des_context.specs.declared.ciphers.CipherType.TheVariants as ci
 ghost use Rattle.des_context.specs.Contexts.{HasCipherType, IsContextOf};
 ghost use Rattle.des_context.specs.CipherTypes.{cipher_type_of_length, decryption_of, encryption_of, parts_of};
 ghost use Rattle.des_context.specs.Keys.{IsKeyLength, keys_of};
-ghost use Rattle.des_context.specs.CipherTypeLaws.{AnswersByLength, AnswersByLength-cipher_type, by_length-cipher_type};
+ghost use Rattle.des_context.specs.CipherTypeLaws.{RelatesByLength, RelatesByLength-cipher_type, by_length-cipher_type};
 
 use des::cipher::Relating;
 use des::tdes::{self, Ede2, Ede3};
@@ -57,8 +57,8 @@ pub trait ContextCipher: Relating + Drop {
         ensures { map Self.Key.bytes_of result.now ≡ keys_of Self.KEY_SIZE bytes.now };
 
     // What the cipher makes of blocks is what `encryption_of` and `relation_of` say of its key.
-    ghost answers_by_length: { (cipher : Self) (key : List ℕ) → Self.is_made_from cipher key
-        → AnswersByLength Self.KEY_SIZE Self.encryption Self.relation key };
+    ghost relates_by_length: { (cipher : Self) (key : List ℕ) → Self.is_made_from cipher key
+        → RelatesByLength Self.KEY_SIZE Self.encryption Self.relation key };
 
     // A key of this size says the same by its length, if no cipher was made of it.
     ghost by_length: { (key : List ℕ) → length key ≡ Self.KEY_SIZE
@@ -73,7 +73,7 @@ impl<W: BoxLookup> ContextCipher for Des<W> {
         round_keys::from_words(context, 1)
     }
 
-    ghost answers_by_length = { λ _ key made. AnswersByLength-cipher_type cipher_types.Des key made.0.0 };
+    ghost relates_by_length = { λ _ key made. RelatesByLength-cipher_type cipher_types.Des key made.0.0 };
 
     ghost by_length = { by_length-cipher_type cipher_types.Des };
 
@@ -93,7 +93,7 @@ impl<W: BoxLookup> ContextCipher for Ede2<Des<W>> {
         )
     }
 
-    ghost answers_by_length = { λ _ key made. AnswersByLength-cipher_type cipher_types.Ede2 key made.0.0 };
+    ghost relates_by_length = { λ _ key made. RelatesByLength-cipher_type cipher_types.Ede2 key made.0.0 };
 
     ghost by_length = { by_length-cipher_type cipher_types.Ede2 };
 
@@ -114,7 +114,7 @@ impl<W: BoxLookup> ContextCipher for Ede3<Des<W>> {
         )
     }
 
-    ghost answers_by_length = { λ _ key made. AnswersByLength-cipher_type cipher_types.Ede3 key made.0.0 };
+    ghost relates_by_length = { λ _ key made. RelatesByLength-cipher_type cipher_types.Ede3 key made.0.0 };
 
     ghost by_length = { by_length-cipher_type cipher_types.Ede3 };
 
@@ -123,24 +123,24 @@ impl<W: BoxLookup> ContextCipher for Ede3<Des<W>> {
     }
 }
 
-/// Calls a generic function with the cipher of a type, which reads tables, or goes the way that is
-/// named. What it calls is not inlined: else each call would take the stack of the largest cipher.
+/// Calls a generic function with the cipher of a type, by tables or by the lookup that is named. What
+/// it calls is not inlined: else each call would take the stack of the largest cipher.
 macro_rules! dispatch_cipher {
     ($cipher:expr, $call:ident $(::<$slice:ident>)?($($argument:expr),*)) => {
         $crate::ciphers::dispatch_cipher!(
             $cipher, des_fast::box_lookup::Tables, $call $(::<$slice>)?($($argument),*)
         )
     };
-    ($cipher:expr, $($way:ident)::+, $call:ident $(::<$slice:ident>)?($($argument:expr),*)) => {
+    ($cipher:expr, $($lookup:ident)::+, $call:ident $(::<$slice:ident>)?($($argument:expr),*)) => {
         match $cipher {
             $crate::ciphers::CipherType::Des => {
-                $call::<des_fast::single::Des<$($way)::+> $(, $slice)?>($($argument),*)
+                $call::<des_fast::single::Des<$($lookup)::+> $(, $slice)?>($($argument),*)
             }
             $crate::ciphers::CipherType::Ede2 => {
-                $call::<des::tdes::Ede2<des_fast::single::Des<$($way)::+>> $(, $slice)?>($($argument),*)
+                $call::<des::tdes::Ede2<des_fast::single::Des<$($lookup)::+>> $(, $slice)?>($($argument),*)
             }
             $crate::ciphers::CipherType::Ede3 => {
-                $call::<des::tdes::Ede3<des_fast::single::Des<$($way)::+>> $(, $slice)?>($($argument),*)
+                $call::<des::tdes::Ede3<des_fast::single::Des<$($lookup)::+>> $(, $slice)?>($($argument),*)
             }
         }
     };

@@ -30,7 +30,7 @@ fn one_cipher_macs_by<C: ContextCipher + KeyForEach, S: Slice>(
     messages: &[&[u8]],
     tags: &mut [[u8; 8]],
 ) -> Result<(), NotEqualError>
-    requires chains { algorithm ≢ 3 }
+    requires one_key { algorithm ≢ 3 }
     requires key { length key.now ≡ C.KEY_SIZE }
     ensures accepted { IsOk result ↔ (length tags.old ≡ length messages.now) }
     ensures tags { OnOk result

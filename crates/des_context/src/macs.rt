@@ -11,7 +11,7 @@ ghost use Rattle.des_mac.specs.Tags.{IsTruncated};
 ghost use Rattle.des_context.specs.Contexts.{HasCipherType, IsContextOf, IsMarked};
 ghost use Rattle.des_context.specs.CipherTypes.{encryption_of};
 ghost use Rattle.des_context.specs.MacAlgorithms.{IsAlgorithm, mac_by};
-ghost use Rattle.des_context.specs.MacContexts.{AreMacWordsOf, HasMacCipherType, HasMacMark, IsAMac, IsMacOf, IsSoundMacIfMarked, key_size_of, words_of_chain};
+ghost use Rattle.des_context.specs.MacContexts.{AreMacWordsOf, HasMacCipherType, HasMacMark, IsAMac, IsMacOf, IsSoundMacIfMarked, key_size_of, words_of_cbc};
 ghost use Rattle.des_context.specs.PaddingMethods.{padding_by, status_of};
 
 use crate::ciphers::{CipherType, ContextCipher, dispatch_cipher};
@@ -45,8 +45,8 @@ impl MessageState {
     }
 }
 
-// Adds bytes to a message, under the cipher of a context: all MACs take bytes in alike, by the
-// chain.
+// Adds bytes to a message, under the cipher of a context: all MACs take bytes in alike, by
+// CBC.
 #[inline(never)]
 fn extend<C: ContextCipher>(context: &[u64], message: &mut MessageState, bytes: &[u8])
     requires cipher_type { HasCipherType C.CIPHER_TYPE context.now }
@@ -62,7 +62,7 @@ fn extend<C: ContextCipher>(context: &[u64], message: &mut MessageState, bytes: 
     message.progress = mac.progress();
 }
 
-// Adds bytes by the cipher of a type, which reads tables or not, as the way has it.
+// Adds bytes by the cipher of a type, which reads tables or not, as its lookup does.
 fn extend_with<W: BoxLookup>(
     cipher: CipherType,
     context: &[u64],
@@ -109,7 +109,7 @@ fn write_words(algorithm: u32, context: &mut [u64], key: &[u8], no_tables: bool)
     requires cipher_type { HasMacCipherType algorithm context.old }
     requires key { length key.now ≡ key_size_of context.old }
     ensures made { AreMacWordsOf algorithm context.new key.now }
-    ensures no_tables { IsMarked algorithm no_tables (words_of_chain algorithm context.new) }
+    ensures no_tables { IsMarked algorithm no_tables (words_of_cbc algorithm context.new) }
     ensures second_no_tables { algorithm ≡ 3 → IsMarked algorithm no_tables (drop 17 context.new) }
 {
     if algorithm == 3 {
@@ -138,7 +138,7 @@ pub fn init(
     requires cipher_type { HasMacCipherType algorithm context.old }
     ensures status { result ≡ status_of (key_size_of context.old) (length key.now) padding }
     ensures made { result ≡ OK → IsMacOf algorithm context.new message.new padding key.now [] }
-    ensures no_tables { result ≡ OK → IsMarked algorithm no_tables (words_of_chain algorithm context.new) }
+    ensures no_tables { result ≡ OK → IsMarked algorithm no_tables (words_of_cbc algorithm context.new) }
     ensures second_no_tables { result ≡ OK → algorithm ≡ 3
         → IsMarked algorithm no_tables (drop 17 context.new) }
     ensures kept { result ≢ OK → (context.new ≡ context.old) × (message.new ≡ message.old) }
@@ -154,10 +154,10 @@ pub fn init(
     OK
 }
 
-// The words of the chain.
-fn chain_words(algorithm: u32, context: &[u64]) -> &[u64]
+// The words of the cipher that goes by CBC.
+fn cbc_words(algorithm: u32, context: &[u64]) -> &[u64]
     requires { HasMacCipherType algorithm context.now }
-    ensures { result.now ≡ words_of_chain algorithm context.now }
+    ensures { result.now ≡ words_of_cbc algorithm context.now }
 {
     if algorithm == 3 {
         &context[..17]
@@ -178,11 +178,11 @@ pub fn update(algorithm: u32, context: &[u64], message: &mut MessageState, bytes
         → IsMacOf algorithm context.now message.new padding key (m ++ bytes.now) }
     ensures kept { result ≢ OK → message.new ≡ message.old }
 {
-    let chain = chain_words(algorithm, context);
-    let Some((cipher, no_tables)) = opened(algorithm, chain) else {
+    let cbc = cbc_words(algorithm, context);
+    let Some((cipher, no_tables)) = opened(algorithm, cbc) else {
         return ERR_CONTEXT;
     };
-    extend_by(cipher, no_tables, chain, message, bytes);
+    extend_by(cipher, no_tables, cbc, message, bytes);
     OK
 }
 
@@ -196,7 +196,7 @@ fn one_cipher_tag<C: ContextCipher>(
     requires cipher_type { HasCipherType C.CIPHER_TYPE context.now }
     requires made { (key : List ℕ) × IsContextOf context.now key }
     requires progress { HoldsOneBlock message.now.progress }
-    requires chains { algorithm ≢ 3 }
+    requires one_key { algorithm ≢ 3 }
     ensures { (key m : List ℕ) → IsContextOf context.now key
         → IsProgressOf (encryption_of key) message.now.progress m
         → result ≡ mac_by algorithm message.now.padding key m }
@@ -211,7 +211,7 @@ fn one_cipher_tag<C: ContextCipher>(
     }
 }
 
-// The tag by a cipher that reads tables or not, as the way has it.
+// The tag by a cipher that reads tables or not, as its lookup does.
 fn one_cipher_tag_by<W: BoxLookup>(
     context: &[u64],
     algorithm: u32,
@@ -219,7 +219,7 @@ fn one_cipher_tag_by<W: BoxLookup>(
 ) -> [u8; 8]
     requires made { (key : List ℕ) × IsContextOf context.now key }
     requires progress { HoldsOneBlock message.now.progress }
-    requires chains { algorithm ≢ 3 }
+    requires one_key { algorithm ≢ 3 }
     ensures { (key m : List ℕ) → IsContextOf context.now key
         → IsProgressOf (encryption_of key) message.now.progress m
         → result ≡ mac_by algorithm message.now.padding key m }
@@ -245,7 +245,7 @@ fn retail_tag<C: KeyedCipher + Drop>(first: C, second: C, message: &MessageState
     }
 }
 
-// The tag of a message, by ciphers that read tables or not, as the way has it.
+// The tag of a message, by ciphers that read tables or not, as their lookup does.
 fn tag_by<W: BoxLookup>(algorithm: u32, context: &[u64], message: &MessageState) -> [u8; 8]
     requires { IsAMac algorithm context.now message.now }
     ensures { (padding : ℕ) (key m : List ℕ)
@@ -291,7 +291,7 @@ pub fn write_tag(
         → place.new ≡ mac_by algorithm padding key m }
     ensures kept { result ≢ OK → place.new ≡ place.old }
 {
-    let Some((_, no_tables)) = opened(algorithm, chain_words(algorithm, context)) else {
+    let Some((_, no_tables)) = opened(algorithm, cbc_words(algorithm, context)) else {
         return ERR_CONTEXT;
     };
     *place = tag(algorithm, no_tables, context, message);
@@ -313,7 +313,7 @@ pub fn verify(algorithm: u32, context: &[u64], message: &MessageState, tag_bytes
         → (result ≡ ERR_TAG) ↔ (HasMacMark algorithm context.now
         × ¬ (IsTruncated tag_bytes.now (mac_by algorithm padding key m))) }
 {
-    let Some((_, no_tables)) = opened(algorithm, chain_words(algorithm, context)) else {
+    let Some((_, no_tables)) = opened(algorithm, cbc_words(algorithm, context)) else {
         return ERR_CONTEXT;
     };
     match verify_truncated_left(tag_bytes, &tag(algorithm, no_tables, context, message)) {

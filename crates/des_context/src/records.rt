@@ -1,4 +1,4 @@
-//! Records of blocks, one after another in a list, each chained by CBC from a vector of its own:
+//! Records of blocks, one after another in a list, each in CBC from a vector of its own:
 //! once for every cipher and every width.
 
 ghost use Rattle.std.specs.Prelude.{◌≡◌, ◌≢◌, ◌↔◌, ℕ, List, length};
@@ -33,7 +33,7 @@ fn encrypt_records<C: ContextCipher + SpreadOnce, S: Slice>(
     }
 }
 
-// Decrypts records in place that CBC chained.
+// Decrypts records in place that CBC encrypted.
 #[inline(never)]
 fn decrypt_records<C: ContextCipher + SpreadOnce, S: Slice>(
     context: &[u64],
@@ -54,7 +54,7 @@ fn decrypt_records<C: ContextCipher + SpreadOnce, S: Slice>(
 }
 
 /// Encrypts records in place by CBC, in step: `sizes[k]` blocks are record k, one record after
-/// another in `blocks`, and `vectors[k]`, from which it is chained, becomes its last ciphertext
+/// another in `blocks`, and `vectors[k]`, from which CBC begins, becomes its last ciphertext
 /// block. The status is `ERR_CONTEXT` or `ERR_BLOCKS` as of `encrypt_ecb`, and `ERR_COUNTS`
 /// if the numbers of vectors and sizes differ, or the sizes do not add up to the number of
 /// blocks; vectors and blocks are then unchanged.
@@ -92,7 +92,7 @@ pub fn encrypt_cbc_records<S: Slice>(
     )
 }
 
-/// Decrypts records in place that CBC chained, as `encrypt_cbc_records` does. The status is as of
+/// Decrypts records in place that CBC encrypted, as `encrypt_cbc_records` does. The status is as of
 /// that call.
 pub fn decrypt_cbc_records<S: Slice>(
     context: &[u64],

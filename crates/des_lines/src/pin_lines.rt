@@ -74,8 +74,8 @@ fn translated_line(alloc: Global, from: Format, to: Format, fill: &str, inputs: 
     let (key, to_key, block) = block_of(inputs)?;
     let fill = fill_for(to, fill)?;
     let (key, to_key) = (key.bytes(), to_key.bytes());
-    let answer = translate(key, from, to_key, to, inputs.account, &fill, &block)?;
-    Ok(hex_line(alloc, &answer)?)
+    let translated = translate(key, from, to_key, to, inputs.account, &fill, &block)?;
+    Ok(hex_line(alloc, &translated)?)
 }
 
 fn rekeyed_line(alloc: Global, inputs: Inputs) -> Lines
@@ -83,8 +83,8 @@ fn rekeyed_line(alloc: Global, inputs: Inputs) -> Lines
     ensures line { IfOk result (λ line. line.items ≡ hex_line_of (rekeyed_by inputs.entry)) }
 {
     let (key, to_key, block) = block_of(inputs)?;
-    let answer = translate_format_1(key.bytes(), to_key.bytes(), &block)?;
-    Ok(hex_line(alloc, &answer)?)
+    let translated = translate_format_1(key.bytes(), to_key.bytes(), &block)?;
+    Ok(hex_line(alloc, &translated)?)
 }
 
 // ---- PIN verification values

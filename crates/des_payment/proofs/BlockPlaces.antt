@@ -44,16 +44,16 @@ place-first (block ∷ blocks) name content text size are found only =
     (content-once name content block.0 block.1 first same are.1.1.1)
 
 pub place-after : (blocks : List (List ℕ × List ℕ)) (name content text : List ℕ) (size place : ℕ)
-    (answer : Option (List ℕ × List ℕ)) → AreOptionalBlocks blocks text
+    (found_block : Option (List ℕ × List ℕ)) → AreOptionalBlocks blocks text
     → IsOptionalBlock name content (take size text) → BeginsWith text size → place ≢ 0
     → ((others : List (List ℕ × List ℕ)) → AreOptionalBlocks others (drop size text)
-    → answer ≡ slice_get others (place - 1))
-    → answer ≡ slice_get blocks place
+    → found_block ≡ slice_get others (place - 1))
+    → found_block ≡ slice_get blocks place
 unfolding AreOptionalBlocks
-place-after [] name content text size place answer are found only some after =
+place-after [] name content text size place found_block are found only some after =
     absurd (empty-none name content text size are found)
-place-after (block ∷ blocks) name content text size zero answer are found only some after = absurd (some refl)
-place-after (block ∷ blocks) name content text size (suc place) answer are found only some after =
+place-after (block ∷ blocks) name content text size zero found_block are found only some after = absurd (some refl)
+place-after (block ∷ blocks) name content text size (suc place) found_block are found only some after =
     let first : List ℕ = are.0 in
     let count : size ≡ length first = only block.0 block.1 first are.1.0 are.1.1.1 are.1.1.0 in
     let there : drop size text ≡ are.1.0 = ap (drop size) are.1.1.0 ∙ drop_at first are.1.0 size (sym count) in

@@ -8,7 +8,7 @@ use Rattle.std.proofs.lemmas.List.Elements.{filter_more, filter_passes, All-filt
 use Rattle.std.proofs.lemmas.List.Sums.{list_all-from_AllPass}
 use Rattle.des_payment.specs.CardVerification.{is_decimal, is_letter, decimals_first}
 
--- the first of a list are written, as far as there is room, and counted
+-- the first of a list are written, as many as fit, and counted
 pub record IsWritten (count : ℕ) (value xs : List ℕ) : Type 0 where
   pub count_is : count ≡ length xs
   pub written : (k : ℕ) → k < length value → k < count → get_or value k 0 ≡ get_or xs k 0

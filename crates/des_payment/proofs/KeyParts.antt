@@ -4,7 +4,7 @@ use Rattle.std.proofs.lemmas.List.{length-append, take_at, take_all, drop_at}
 use Rattle.des_payment.specs.ProtectionKeys.{three_parts}
 use Rattle.des_payment.proofs.OptionalBlockLists.{take-both}
 
--- the key, and as much of its front as there is room for
+-- the key, and as much of its front as fits
 pub three_parts-front : (key : List ℕ) → length key ≤ 24
     → three_parts key ≡ key ++ take (24 - length key) key
 three_parts-front key few =

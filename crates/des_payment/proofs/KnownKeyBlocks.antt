@@ -36,7 +36,7 @@ are_bytes : (bytes : List ℕ) → list_all (λ byte. nat_lt byte 256) bytes ≡
 are_bytes bytes all =
     λ i d within. ltb-true _ 256 (AllPass-from_list_all (λ byte. nat_lt byte 256) bytes all i d within)
 
--- three blocks in a chain
+-- three blocks by CBC
 module _ (encryption : List ℕ → List ℕ) (iv p1 p2 p3 q1 q2 q3 : List ℕ) where
   abbrev clear : List (List ℕ)
   clear = p1 ∷ p2 ∷ p3 ∷ []
@@ -62,8 +62,8 @@ module _ (encryption : List ℕ → List ℕ) (iv p1 p2 p3 q1 q2 q3 : List ℕ) 
       steps (suc (suc (suc zero))) from to = is_q3
       steps (suc (suc (suc (suc m)))) from to = absurd (omega arith)
 
-      three-chained : Cbc encryption iv clear encrypted
-      three-chained = record { count = refl; widths = widths; chained = steps }
+      three-by_cbc : Cbc encryption iv clear encrypted
+      three-by_cbc = record { count = refl; widths = widths; chained = steps }
 
 -- version A
 abbrev header_A : Header
@@ -108,7 +108,7 @@ known_block-A = record {
     is_clear = refl;
     are_bytes = are_bytes (joined data_A) refl;
     is_mac = refl;
-    chained = three-chained _ _ _ _ _ _ _ _ refl refl refl refl refl refl;
+    chained = three-by_cbc _ _ _ _ _ _ _ _ refl refl refl refl refl refl;
     is_text = refl;
   };
 }
@@ -156,7 +156,7 @@ known_block-B = record {
     is_clear = refl;
     are_bytes = are_bytes (joined data_B) refl;
     is_mac = refl;
-    chained = three-chained _ _ _ _ _ _ _ _ refl refl refl refl refl refl;
+    chained = three-by_cbc _ _ _ _ _ _ _ _ refl refl refl refl refl refl;
     is_text = refl;
   };
 }
@@ -208,7 +208,7 @@ known_block-C = record {
     is_clear = refl;
     are_bytes = are_bytes (joined data_C) refl;
     is_mac = refl;
-    chained = three-chained _ _ _ _ _ _ _ _ refl refl refl refl refl refl;
+    chained = three-by_cbc _ _ _ _ _ _ _ _ refl refl refl refl refl refl;
     is_text = refl;
   };
 }

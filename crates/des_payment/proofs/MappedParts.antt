@@ -1,9 +1,9 @@
--- A list of answers to another, written part after part.
+-- A list of what is made of another, written part after part.
 use Rattle.std.proofs.Common.{◌≡◌, ℕ, ◌+◌, ◌≤◌, List, [], ◌∷◌, ◌++◌, length, map, take, drop, replicate, refl, ap, ap₂, sym, ◌∙◌, arith, append_assoc, length-take-le, take-add, take_at, drop_at}
 use Rattle.std.specs.Simd.Lanes.{zip2}
 use Rattle.std.proofs.lemmas.List.{drop-drop, take_all, drop_all, append-nil, map-append, length-map}
 
--- a list of which the first m are answers, and then the next n
+-- a list of which the first m are written, and then the next n
 pub mapped-more : {A X : Type 0} (f : A → X) (m n : ℕ) (keys : List A) (old now part : List X) → length keys ≡ length old
     → m ≤ length old → now ≡ map f (take m keys) ++ drop m old → part ≡ map f (take n (drop m keys))
     → take m now ++ (part ++ drop n (drop m now)) ≡ map f (take (m + n) keys) ++ drop (m + n) old
@@ -19,7 +19,7 @@ mapped-more {A} {X} f m n keys old now part same within so_far made =
     ∙ ap (λ (xs : List X). xs ++ drop (m + n) old)
     (sym (ap (map f) (take-add m n keys) ∙ map-append f (take m keys) (take n (drop m keys))))
 
--- a list of which all are answers
+-- a list of which all are written
 pub mapped-all : {A X : Type 0} (f : A → X) (m : ℕ) (keys : List A) (old : List X) → length keys ≡ length old
     → length old ≤ m → map f (take m keys) ++ drop m old ≡ map f keys
 mapped-all {A} {X} f m keys old same all =

@@ -15,7 +15,7 @@ last_bytes-changed front last two low =
     ∙ ap (from_be_bytes w64) (drop-append_seam front (to_be_bytes w64 last))
     ∙ from_be_bytes-to_be_bytes_8 last low
 
--- there is room for each counter
+-- each counter fits
 pub counted-fits : (last counter : ℕ) → last < 2 ^ 64 → counter < 2 ^ 21 → last - last % 2 ^ 21 + counter < 2 ^ 64
 counted-fits last counter low small = omega (arith, low, small)
 

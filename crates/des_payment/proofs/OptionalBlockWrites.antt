@@ -62,7 +62,7 @@ pub eight-zeros : (at n : ℕ) → n ≡ (12 - at % 8) % 8
     → take n (48 ∷ 48 ∷ 48 ∷ 48 ∷ 48 ∷ 48 ∷ 48 ∷ 48 ∷ []) ≡ zeros_for at
 eight-zeros at n is = take-replicate n 8 48 (omega arith) ∙ ap (λ (k : ℕ). replicate k 48) is
 
--- there is room for it
+-- it fits
 pub last-fits : (blocks : List (List ℕ × List ℕ)) (at n : ℕ) (text : List ℕ) → at ≡ size_of_all blocks → at % 8 ≢ 0
     → n ≡ (12 - at % 8) % 8 → length text ≡ size_of_all (filled blocks)
     → length text ≡ at + 4 + n

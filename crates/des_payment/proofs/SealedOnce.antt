@@ -12,7 +12,7 @@ use Rattle.des_payment.specs.KeyBlockReading.{AreHexDigits}
 use Rattle.des_payment.specs.ProtectionKeys.{encryption_key, mac_key}
 use Rattle.des_payment.specs.declared.key_block_header.Version.{Version}
 use Rattle.des_payment.specs.declared.key_block_header.Version.TheVariants.{A, B, C}
-use Rattle.des_payment.proofs.ChainedOnce.{IsBlock-chained, chained-once}
+use Rattle.des_payment.proofs.CbcOnce.{IsBlock-cbc, plaintext-once}
 use Rattle.des_payment.proofs.HexBytes.{length-hex_of}
 use Rattle.des_payment.proofs.HexTexts.{hex_of-append, hex_of-injective}
 use Rattle.des_payment.proofs.JoinedBlocks.{IsEight, eight-blocks, joined-injective, IsBlock-joined, AreBytes-joined}
@@ -74,7 +74,7 @@ module _ (version : Version) (protection front clear text : List ℕ)
 
   pub sealed-encrypted : All IsBlock sealed.encrypted
   sealed-encrypted =
-      IsBlock-chained (encryption_key version protection) (vector_of version front sealed.mac) sealed.blocks
+      IsBlock-cbc (encryption_key version protection) (vector_of version front sealed.mac) sealed.blocks
       sealed.encrypted sealed.chained
 
   pub sealed-eight : All IsEight sealed.blocks
@@ -152,12 +152,12 @@ module _ (version : Version) (protection front text mac : List ℕ) (p q : List 
       let chains : q ≡ r = joined-injective q r (eight-blocks q opened.are_encrypted) (eight-blocks r r_blocks) texts in
       let is_vector = IsBlock-vector_of version front mac opened.front_bytes opened.front_length opened.mac_bytes
       opened.mac_length in
-      let IsChained : List ℕ → List (List ℕ) → Type 0 =
+      let IsCbc : List ℕ → List (List ℕ) → Type 0 =
       λ m s. Cbc (ede3_encryption (encryption_key version protection)) (vector_of version front m) sealed.blocks s in
-      let moved : IsChained mac q =
-      subst (λ (m : List ℕ). IsChained m q) (sym macs)
-      (subst (λ (s : List (List ℕ)). IsChained other s) (sym chains) sealed.chained) in
-      let clears : p ≡ sealed.blocks = chained-once (encryption_key version protection) (vector_of version front mac) p
+      let moved : IsCbc mac q =
+      subst (λ (m : List ℕ). IsCbc m q) (sym macs)
+      (subst (λ (s : List (List ℕ)). IsCbc other s) (sym chains) sealed.chained) in
+      let clears : p ≡ sealed.blocks = plaintext-once (encryption_key version protection) (vector_of version front mac) p
       sealed.blocks q is_vector opened.are_clear
       (sealed-clear version protection front clear text sealed) opened.chained moved in
       let same : clear ≡ joined p = sym sealed.is_clear ∙ ap joined (sym clears) in (

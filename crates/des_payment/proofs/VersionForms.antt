@@ -15,16 +15,16 @@ mac_size-within B = (lit≤ tt, lit≤ tt)
 mac_size-within C = (lit≤ tt, lit≤ tt)
 
 module _ (version : Version) (encryption : List ℕ → List ℕ) (header mac : List ℕ) (blocks sealed : List (List ℕ)) where
-  abbrev IsChained : Version → Type 0
-  IsChained v = Cbc encryption (vector_of v header mac) blocks sealed
+  abbrev IsCbc : Version → Type 0
+  IsCbc v = Cbc encryption (vector_of v header mac) blocks sealed
 
-  pub chained-in_B : version ≡ B → Cbc encryption mac blocks sealed → IsChained version
-  chained-in_B is chained = subst IsChained (sym is) chained
+  pub cbc-in_B : version ≡ B → Cbc encryption mac blocks sealed → IsCbc version
+  cbc-in_B is chained = subst IsCbc (sym is) chained
 
-  pub chained-in_A_or_C : (version ≡ A) ⊎ (version ≡ C) → Cbc encryption (take 8 header) blocks sealed
-      → IsChained version
-  chained-in_A_or_C (inl is) chained = subst IsChained (sym is) chained
-  chained-in_A_or_C (inr is) chained = subst IsChained (sym is) chained
+  pub cbc-in_A_or_C : (version ≡ A) ⊎ (version ≡ C) → Cbc encryption (take 8 header) blocks sealed
+      → IsCbc version
+  cbc-in_A_or_C (inl is) chained = subst IsCbc (sym is) chained
+  cbc-in_A_or_C (inr is) chained = subst IsCbc (sym is) chained
 
 module _ (version : Version) (key header clear encrypted : List ℕ) where
   pub tag_of-in_B : version ≡ B → cmac (ede3_encryption key) (header ++ clear)

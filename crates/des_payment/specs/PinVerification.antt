@@ -21,7 +21,7 @@ abbrev pub pvv_text : List ℕ → ℕ → List ℕ → List ℕ
 pvv_text account index pin =
     take 11 (drop (length account - 12) account) ++ (index + 48) ∷ take 4 pin
 
--- they are encrypted under the pair of keys; of the answer's digits those below ten come first, and
+-- they are encrypted under the pair of keys; of the ciphertext's digits those below ten come first, and
 -- then the others, less ten; the first four are the value
 abbrev pub pvv : List ℕ → List ℕ → ℕ → List ℕ → List ℕ
 pvv key account index pin =

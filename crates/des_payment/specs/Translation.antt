@@ -48,13 +48,13 @@ block_fault Format2 account block = field_fault 2 15 (digits_of block)
 block_fault Format3 account block =
     field_fault 3 10 (xor_blocks (digits_of block) (account_field account))
 
--- ---- the answer
+-- ---- the translated block
 
 -- the two blocks in clear are of one PIN
 abbrev pub IsTranslation : List ℕ → Format → List ℕ → Format → List ℕ → List ℕ → List ℕ → List ℕ → Type 0
-IsTranslation incoming from outgoing to account fill block answer =
+IsTranslation incoming from outgoing to account fill block translated =
     (pin other next : List ℕ) × IsIn from pin account other (decryption_by incoming block)
-    × IsIn to pin account fill next × (answer ≡ encryption_by outgoing next)
+    × IsIn to pin account fill next × (translated ≡ encryption_by outgoing next)
 
 -- the faults of what is asked for: of the keys, of the formats, of the account number, of the fill
 -- digits, which format 3 alone has

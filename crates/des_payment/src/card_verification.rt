@@ -82,7 +82,7 @@ fn second_block(text: &[u8; 32]) -> [u8; 8]
 fn card_block(key: &[u8; 16], text: &[u8; 32]) -> [u8; 8]
     requires { IsTrue (are_digits_of text.now) }
     ensures block { IsBlock result }
-    ensures answer { result ≡ card_block_of key.now text.now }
+    ensures made { result ≡ card_block_of key.now text.now }
 {
     let first = encrypted_by_des(&key_part(key, 1), &first_block(text));
     encrypted_by_ede2(key, &xored(&first, &second_block(text)))
@@ -103,7 +103,7 @@ fn value_of(block: &[u8; 8]) -> [u8; 3]
 ///
 /// The data are joined and filled with zeros to 32 digits, two blocks. The first is enciphered
 /// under the first part of the key and xored with the second, and triple DES in the EDE form
-/// follows, under both parts. Of the answer's sixteen digits those from 0 to 9 are taken in order,
+/// follows, under both parts. Of the ciphertext's sixteen digits those from 0 to 9 are taken in order,
 /// and then the others in order, less ten; the first three are the value.
 pub fn cvv(
     key: &[u8; 16],

@@ -34,7 +34,7 @@ fn check_group<C: KeyForEach, S: Slice>(keys: &[C::Key], values: &mut [[u8; 3]])
 /// Writes the check value of each key at its place, as `check_value` gives it: the first three
 /// bytes of the block of zeros, encrypted under the key. The keys of a group of at most 256 are
 /// treated together, `S::BATCH` at a time, with no table at an index that depends on a key. If
-/// the two lists differ in length, the answer is `NotEqualError`, and the values are unchanged.
+/// the two lists differ in length, the error is `NotEqualError`, and the values are unchanged.
 pub fn check_values_by<S: Slice, C: KeyForEach>(
     keys: &[C::Key],
     values: &mut [[u8; 3]],

@@ -239,9 +239,9 @@ fn sealed_key(
     let part = &mut blocks[..sealed.count];
     let keys = protection_keys(version, protection);
     let mac = &sealed.mac[..mac_size(version)];
-    let answer = unseal(version, &keys, front, mac, part);
+    let verdict = unseal(version, &keys, front, mac, part);
     are_blocks(part);
-    if answer.is_err() {
+    if verdict.is_err() {
         return Err(KeyBlockError::Mac);
     }
     key_of(part.as_flattened())

@@ -16,19 +16,19 @@ use des_fast::no_tables::{Des, TdesEde2, TdesEde3};
 pub(crate) fn encrypted_by_des(key: &[u8; 8], block: &[u8; 8]) -> [u8; 8]
     ensures { result ≡ encryption key.now block.now }
 {
-    let mut answer = *block;
-    Des::new(key).encrypt_block(&mut answer);
-    answer
+    let mut encrypted = *block;
+    Des::new(key).encrypt_block(&mut encrypted);
+    encrypted
 }
 
 // What triple DES in the EDE form makes of a block under a key of two parts.
 pub(crate) fn encrypted_by_ede2(key: &[u8; 16], block: &[u8; 8]) -> [u8; 8]
     ensures block { IsBlock result }
-    ensures answer { result ≡ ede2_encryption key.now block.now }
+    ensures encrypted { result ≡ ede2_encryption key.now block.now }
 {
-    let mut answer = *block;
-    TdesEde2::new(key).encrypt_block(&mut answer);
-    answer
+    let mut encrypted = *block;
+    TdesEde2::new(key).encrypt_block(&mut encrypted);
+    encrypted
 }
 
 // Whether a key has one part, two or three.
@@ -43,18 +43,22 @@ fn encrypted_as<C: KeyedCipher + Drop>(key: &[u8], block: &[u8; 8]) -> [u8; 8]
     requires { length key.now ≡ C.KEY_SIZE }
     ensures { result ≡ C.encryption key.now block.now }
 {
-    let mut answer = *block;
-    C::new_from_slice(key).unwrap().encrypt_block(&mut answer);
-    answer
+    let mut encrypted = *block;
+    C::new_from_slice(key)
+        .unwrap()
+        .encrypt_block(&mut encrypted);
+    encrypted
 }
 
 fn decrypted_as<C: KeyedCipher + Drop>(key: &[u8], block: &[u8; 8]) -> [u8; 8]
     requires { length key.now ≡ C.KEY_SIZE }
     ensures { result ≡ C.decryption key.now block.now }
 {
-    let mut answer = *block;
-    C::new_from_slice(key).unwrap().decrypt_block(&mut answer);
-    answer
+    let mut decrypted = *block;
+    C::new_from_slice(key)
+        .unwrap()
+        .decrypt_block(&mut decrypted);
+    decrypted
 }
 
 // What DES, or triple DES in the EDE form, makes of a block under a key of one part, two or three,

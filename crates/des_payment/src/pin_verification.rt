@@ -41,7 +41,7 @@ fn pvv_block(account: &[u8], index: u8, pin: &Pin) -> [u8; 8]
 ///
 /// The eleven rightmost digits of the account number without its check digit, the index and the
 /// first four digits of the PIN are a block, which is encrypted by triple DES in the EDE form. Of
-/// the answer's sixteen digits those from 0 to 9 are taken in order, and then the others in order,
+/// the ciphertext's sixteen digits those from 0 to 9 are taken in order, and then the others in order,
 /// less ten; the first four are the value.
 pub fn pvv(
     key: &[u8; 16],
@@ -119,7 +119,7 @@ fn natural_digits(key: &[u8], table: &DecimalTable, validation: &[u8; 8]) -> [u8
 
 /// The natural PIN of 4 to 12 digits of validation data, sixteen digits of four bits in eight bytes:
 /// they are encrypted under a key of 8, 16 or 24 bytes, by DES or triple DES in the EDE form, each
-/// digit of the answer becomes that of the table, and the first `count` are the natural PIN. Its
+/// digit of the ciphertext becomes that of the table, and the first `count` are the natural PIN. Its
 /// faults are `KeyLength` and `PinLength`.
 pub fn natural_pin(
     key: &[u8],

@@ -17,8 +17,8 @@ use des_mac::cmac::Cmac;
 use des_mac::mac::{Mac, MacError, verify_truncated_left};
 use des_mac::padding::Method1;
 
-// Encrypts blocks in place under a key, chained from a vector.
-fn encrypt_chain<C: KeyedCipher + Drop>(key: &C::Key, vector: &[u8; 8], blocks: &mut [[u8; 8]])
+// Encrypts blocks in place under a key, by CBC from a vector.
+fn encrypt_cbc<C: KeyedCipher + Drop>(key: &C::Key, vector: &[u8; 8], blocks: &mut [[u8; 8]])
     ensures { Cbc (C.encryption (C.Key.bytes_of key.now)) vector.now blocks.old blocks.new }
 {
     key.as_bytes();
@@ -26,7 +26,7 @@ fn encrypt_chain<C: KeyedCipher + Drop>(key: &C::Key, vector: &[u8; 8], blocks: 
 }
 
 // Decrypts blocks in place that were so encrypted.
-fn decrypt_chain<C: KeyedCipher + Drop>(key: &C::Key, vector: &[u8; 8], blocks: &mut [[u8; 8]])
+fn decrypt_cbc<C: KeyedCipher + Drop>(key: &C::Key, vector: &[u8; 8], blocks: &mut [[u8; 8]])
     ensures { Cbc (C.encryption (C.Key.bytes_of key.now)) vector.now blocks.new blocks.old }
 {
     key.as_bytes();
@@ -92,11 +92,11 @@ pub(crate) fn seal(
     match version {
         Version::B => {
             let tag = clear_tag(&keys.mac, header, blocks);
-            encrypt_chain::<TdesEde3>(&keys.encryption, &tag, blocks);
+            encrypt_cbc::<TdesEde3>(&keys.encryption, &tag, blocks);
             tag
         }
         Version::A | Version::C => {
-            encrypt_chain::<TdesEde3>(&keys.encryption, &first_eight(header), blocks);
+            encrypt_cbc::<TdesEde3>(&keys.encryption, &first_eight(header), blocks);
             encrypted_tag(&keys.mac, header, blocks)
         }
     }
@@ -120,12 +120,12 @@ pub(crate) fn unseal(
 {
     let tag = match version {
         Version::B => {
-            decrypt_chain::<TdesEde3>(&keys.encryption, &first_eight(mac), blocks);
+            decrypt_cbc::<TdesEde3>(&keys.encryption, &first_eight(mac), blocks);
             clear_tag(&keys.mac, header, blocks)
         }
         Version::A | Version::C => {
             let tag = encrypted_tag(&keys.mac, header, blocks);
-            decrypt_chain::<TdesEde3>(&keys.encryption, &first_eight(header), blocks);
+            decrypt_cbc::<TdesEde3>(&keys.encryption, &first_eight(header), blocks);
             tag
         }
     };

@@ -300,7 +300,7 @@ fn initial_keys_by<S: Slice>(
 /// Writes the key of the transaction of each serial number at its place, from the base derivation
 /// key: as `transaction_key` gives it from `initial_key`. The terminals may be different ones.
 /// Groups of at most 256 are treated together, `S::BATCH` at a time. If the two lists differ in
-/// length, the answer is `NotEqualError`, and the keys are unchanged.
+/// length, the error is `NotEqualError`, and the keys are unchanged.
 pub fn transaction_keys_by<S: Slice>(
     base: &[u8; 16],
     serials: &[[u8; 10]],

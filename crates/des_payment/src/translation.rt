@@ -173,14 +173,14 @@ pub fn translate(
 ) -> Result<[u8; 8], TranslationError>
     ensures fault { result_err result ≡ translation_fault incoming.now from outgoing.now to
         account.now fill.now block.now }
-    ensures answer { IfOk result (IsTranslation incoming.now from outgoing.now to account.now
+    ensures translated { IfOk result (IsTranslation incoming.now from outgoing.now to account.now
         fill.now block.now) }
 {
     check_request(incoming, from, outgoing, to, account, fill)?;
     let (is_right, pin) = decoded(from, &decrypted_by(incoming, block), account);
-    let answer = encrypted_by(outgoing, &encoded(to, &pin, account, fill));
+    let translated = encrypted_by(outgoing, &encoded(to, &pin, account, fill));
     if is_right {
-        Ok(answer)
+        Ok(translated)
     } else {
         Err(TranslationError::Block)
     }
@@ -196,14 +196,14 @@ pub fn translate_format_1(
     block: &[u8; 8],
 ) -> Result<[u8; 8], TranslationError>
     ensures fault { result_err result ≡ rekeying_fault incoming.now outgoing.now block.now }
-    ensures answer { IfOk result (λ answer. answer ≡ rekeyed incoming.now outgoing.now block.now) }
+    ensures translated { IfOk result (λ translated. translated ≡ rekeyed incoming.now outgoing.now block.now) }
 {
     check_keys(incoming, outgoing)?;
     let clear = decrypted_by(incoming, block);
     let is_right = is_pin_field(1, 0, &digits_of(&clear));
-    let answer = encrypted_by(outgoing, &clear);
+    let translated = encrypted_by(outgoing, &clear);
     if is_right {
-        Ok(answer)
+        Ok(translated)
     } else {
         Err(TranslationError::Block)
     }

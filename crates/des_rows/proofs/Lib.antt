@@ -1,1 +1,1 @@
-pub mod AnsweredLists
+pub mod MappedLists

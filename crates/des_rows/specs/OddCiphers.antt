@@ -1,4 +1,4 @@
--- Ciphers that keep the laws and hide nothing, for generic code: what they answer, and the lemmas
+-- Ciphers that keep the laws and hide nothing, for generic code: what they make of a block, and the lemmas
 -- that their laws stand on.
 use Rattle.std.proofs.Common.{◌≡◌, ℕ, ◌%◌, ◌^◌, ◌<◌, ◌-◌, List, length, reverse, refl, ◌∙◌, arith, bit_xor, mod-eq_of_lt}
 use Rattle.std.specs.Int.{w64, to_be_bytes, from_be_bytes}

@@ -22,7 +22,7 @@ pub fn name_of_des() -> &'static str
 pub fn encrypt_by_des(key: &[u8], blocks: &mut [[u8; 8]]) -> Result<(), InvalidLength>
     ensures accepted { IsOk result ↔ (length key.now ≡ 8) }
     ensures enciphered { OnOk result
-        (IsTheOne (λ answers. AnswersEach (Enciphers key.now) blocks.old answers) blocks.new) }
+        (IsTheOne (λ ciphertext. AnswersEach (Enciphers key.now) blocks.old ciphertext) blocks.new) }
     ensures kept { OnErr result (blocks.new ≡ blocks.old) }
 {
     encrypt_under::<Des>(key, blocks)
@@ -32,7 +32,7 @@ pub fn encrypt_by_des(key: &[u8], blocks: &mut [[u8; 8]]) -> Result<(), InvalidL
 pub fn encrypt_by_ede2(key: &[u8], blocks: &mut [[u8; 8]]) -> Result<(), InvalidLength>
     ensures accepted { IsOk result ↔ (length key.now ≡ 16) }
     ensures enciphered { OnOk result
-        (IsTheOne (λ answers. AnswersEach (EnciphersEde2 key.now) blocks.old answers) blocks.new) }
+        (IsTheOne (λ ciphertext. AnswersEach (EnciphersEde2 key.now) blocks.old ciphertext) blocks.new) }
     ensures kept { OnErr result (blocks.new ≡ blocks.old) }
 {
     encrypt_under::<TdesEde2>(key, blocks)
@@ -42,7 +42,7 @@ pub fn encrypt_by_ede2(key: &[u8], blocks: &mut [[u8; 8]]) -> Result<(), Invalid
 pub fn encrypt_by_ede3(key: &[u8], blocks: &mut [[u8; 8]]) -> Result<(), InvalidLength>
     ensures accepted { IsOk result ↔ (length key.now ≡ 24) }
     ensures enciphered { OnOk result
-        (IsTheOne (λ answers. AnswersEach (EnciphersEde3 key.now) blocks.old answers) blocks.new) }
+        (IsTheOne (λ ciphertext. AnswersEach (EnciphersEde3 key.now) blocks.old ciphertext) blocks.new) }
     ensures kept { OnErr result (blocks.new ≡ blocks.old) }
 {
     encrypt_under::<TdesEde3>(key, blocks)
@@ -52,7 +52,7 @@ pub fn encrypt_by_ede3(key: &[u8], blocks: &mut [[u8; 8]]) -> Result<(), Invalid
 pub fn encrypt_by_eee2(key: &[u8], blocks: &mut [[u8; 8]]) -> Result<(), InvalidLength>
     ensures accepted { IsOk result ↔ (length key.now ≡ 16) }
     ensures enciphered { OnOk result
-        (IsTheOne (λ answers. AnswersEach (EnciphersEee2 key.now) blocks.old answers) blocks.new) }
+        (IsTheOne (λ ciphertext. AnswersEach (EnciphersEee2 key.now) blocks.old ciphertext) blocks.new) }
     ensures kept { OnErr result (blocks.new ≡ blocks.old) }
 {
     encrypt_under::<TdesEee2>(key, blocks)
@@ -62,7 +62,7 @@ pub fn encrypt_by_eee2(key: &[u8], blocks: &mut [[u8; 8]]) -> Result<(), Invalid
 pub fn encrypt_by_eee3(key: &[u8], blocks: &mut [[u8; 8]]) -> Result<(), InvalidLength>
     ensures accepted { IsOk result ↔ (length key.now ≡ 24) }
     ensures enciphered { OnOk result
-        (IsTheOne (λ answers. AnswersEach (EnciphersEee3 key.now) blocks.old answers) blocks.new) }
+        (IsTheOne (λ ciphertext. AnswersEach (EnciphersEee3 key.now) blocks.old ciphertext) blocks.new) }
     ensures kept { OnErr result (blocks.new ≡ blocks.old) }
 {
     encrypt_under::<TdesEee3>(key, blocks)

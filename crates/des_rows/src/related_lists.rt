@@ -13,7 +13,7 @@ use des::cipher::{
 /// is related to the one at its place, and no other list is so related.
 pub fn encrypt_related<C: Relating>(cipher: &C, blocks: &mut [[u8; 8]])
     ensures enciphered { (key : List ℕ) → C.is_made_from cipher.now key
-        → IsTheOne (λ answers. AnswersEach (C.relation key) blocks.old answers) blocks.new }
+        → IsTheOne (λ ciphertext. AnswersEach (C.relation key) blocks.old ciphertext) blocks.new }
 {
     cipher.encrypt_blocks(blocks);
 }
@@ -22,7 +22,7 @@ pub fn encrypt_related<C: Relating>(cipher: &C, blocks: &mut [[u8; 8]])
 /// those that stood there.
 pub fn decrypt_related<C: Relating>(cipher: &C, blocks: &mut [[u8; 8]])
     ensures deciphered { (key : List ℕ) → C.is_made_from cipher.now key
-        → IsTheOne (λ answers. AnswersEach (C.relation key) answers blocks.old) blocks.new }
+        → IsTheOne (λ plaintext. AnswersEach (C.relation key) plaintext blocks.old) blocks.new }
 {
     cipher.decrypt_blocks(blocks);
 }
@@ -37,7 +37,7 @@ pub fn encrypt_related_b2b<C: Relating>(
 ) -> Result<(), NotEqualError>
     ensures accepted { IsOk result ↔ (length input.now ≡ length output.old) }
     ensures enciphered { (key : List ℕ) → C.is_made_from cipher.now key → OnOk result
-        (IsTheOne (λ answers. AnswersEach (C.relation key) input.now answers) output.new) }
+        (IsTheOne (λ ciphertext. AnswersEach (C.relation key) input.now ciphertext) output.new) }
     ensures kept { OnErr result (output.new ≡ output.old) }
 {
     cipher.encrypt_blocks_b2b(input, output)
@@ -53,7 +53,7 @@ pub fn decrypt_related_b2b<C: Relating>(
 ) -> Result<(), NotEqualError>
     ensures accepted { IsOk result ↔ (length input.now ≡ length output.old) }
     ensures deciphered { (key : List ℕ) → C.is_made_from cipher.now key → OnOk result
-        (IsTheOne (λ answers. AnswersEach (C.relation key) answers input.now) output.new) }
+        (IsTheOne (λ plaintext. AnswersEach (C.relation key) plaintext input.now) output.new) }
     ensures kept { OnErr result (output.new ≡ output.old) }
 {
     cipher.decrypt_blocks_b2b(input, output)
@@ -67,7 +67,7 @@ pub fn encrypt_under<C: Relating + Drop>(
 ) -> Result<(), InvalidLength>
     ensures accepted { IsOk result ↔ (length key.now ≡ C.KEY_SIZE) }
     ensures enciphered { OnOk result
-        (IsTheOne (λ answers. AnswersEach (C.relation key.now) blocks.old answers) blocks.new) }
+        (IsTheOne (λ ciphertext. AnswersEach (C.relation key.now) blocks.old ciphertext) blocks.new) }
     ensures kept { OnErr result (blocks.new ≡ blocks.old) }
 {
     encrypt_related(&C::new_from_slice(key)?, blocks);

@@ -11,7 +11,7 @@ use Rattle.des.specs.Cbc.{xor_blocks}
 abbrev pub HasEight : List ℕ → Type 0
 HasEight block = length block ≡ 8
 
--- lists of eight are cut in one way
+-- lists of eight are cut alike
 pub same_blocks : (xs ys : List (List ℕ)) → All HasEight xs → All HasEight ys → concat xs ≡ concat ys → xs ≡ ys
 same_blocks [] [] first second joined = refl
 same_blocks [] (y ∷ ys) first second joined =

@@ -1,7 +1,7 @@
 pub mod Decoding
 pub mod Chunks
-pub mod BlockAnswers
-pub mod KeyAnswers
+pub mod BlockTexts
+pub mod KeyGraphs
 pub mod EqualLists
 pub mod OneToOne
 pub mod OneText

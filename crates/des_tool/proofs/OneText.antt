@@ -1,15 +1,14 @@
--- Arguments are answered by one text: digits' bytes are cut into blocks in one way, and a cipher takes each block to
--- one.
+-- Arguments are answered by one text: digits' bytes are cut into one list of blocks, and a cipher takes each block to one.
 use Rattle.std.proofs.Common.{◌≡◌, ℕ, List, Option, Some, None, MatchOption, inl, inr, sym, ap, ◌∙◌}
 use Rattle.des.specs.Blocks.{IsKey}
 use Rattle.des.specs.Relations.{IsTheOne}
 use Rattle.des_tool.specs.declared.command.request.Cipher.{Cipher}
 use Rattle.des_tool.specs.declared.command.request.Cipher.TheVariants.{Des, Ede3, Eee3, Ede2, Eee2}
 use Rattle.des_tool.specs.Digits.{bytes_of_digits, text_of_blocks}
-use Rattle.des_tool.specs.Request.{Request, of_blocks, of_chain, of_weak, request_of, key_size_of, block_cipher_of}
+use Rattle.des_tool.specs.Request.{Request, of_blocks, of_cbc, of_weak, request_of, key_size_of, block_cipher_of}
 use Rattle.des_tool.specs.Answer.{ReadIn, relation_of, IsTextOf, IsVerdict, AnswersRequest, IsAnswer}
-use Rattle.des_tool.proofs.KeyAnswers.{AnswerBy-cipher}
-use Rattle.des_tool.proofs.OneToOne.{IsOneToOne, IsOneToOne-read, HasOneAnswer, HasOneAnswer-each, HasOneAnswer-chains}
+use Rattle.des_tool.proofs.KeyGraphs.{AnswerBy-cipher}
+use Rattle.des_tool.proofs.OneToOne.{IsOneToOne, IsOneToOne-read, HasOneList, HasOneList-each, HasOneList-cbc}
 
 -- what a cipher relates, it relates under a key
 IsKey-relation : (cipher : Cipher) (key x y : List ℕ) → relation_of cipher key x y → IsKey (key_size_of cipher) key
@@ -35,11 +34,11 @@ IsOneToOne-cipher cipher key =
           sym ((one.decryption z x).0 first).1 ∙ ((one.decryption z y).0 second).1;
     }
 
--- if lists have one answer, digits have one text
-one_text-of : (Answers : List (List ℕ) → List (List ℕ) → Type 0) (digits text other : List ℕ) → HasOneAnswer Answers
-    → IsTextOf Answers digits text → IsTextOf Answers digits other → other ≡ text
-one_text-of Answers digits text other one first second =
-    let same = one second.blocks second.answers first.blocks first.answers second.answered first.answered
+-- if lists are related to one, digits have one text
+one_text-of : (Relates : List (List ℕ) → List (List ℕ) → Type 0) (digits text other : List ℕ) → HasOneList Relates
+    → IsTextOf Relates digits text → IsTextOf Relates digits other → other ≡ text
+one_text-of Relates digits text other one first second =
+    let same = one second.blocks second.results first.blocks first.results second.related first.related
     (second.joined ∙ sym first.joined) in
     second.written ∙ ap text_of_blocks same ∙ sym first.written
 
@@ -56,11 +55,11 @@ one_text-request : (request : Request) (text other : List ℕ) → AnswersReques
 one_text-request (of_blocks cipher direction key digits) text other first second =
     let Relates : List ℕ → List ℕ → Type 0 = ReadIn direction (relation_of cipher (bytes_of_digits key)) in
     let one = IsOneToOne-read direction _ (IsOneToOne-cipher cipher (bytes_of_digits key)) in
-    one_text-of _ digits text other (HasOneAnswer-each Relates one) first second
-one_text-request (of_chain cipher direction key vector digits) text other first second =
+    one_text-of _ digits text other (HasOneList-each Relates one) first second
+one_text-request (of_cbc cipher direction key vector digits) text other first second =
     let Relates : List ℕ → List ℕ → Type 0 = relation_of (block_cipher_of cipher) (bytes_of_digits key) in
     let one = IsOneToOne-cipher (block_cipher_of cipher) (bytes_of_digits key) in
-    one_text-of _ digits text other (HasOneAnswer-chains Relates one (bytes_of_digits vector) direction) first second
+    one_text-of _ digits text other (HasOneList-cbc Relates one (bytes_of_digits vector) direction) first second
 one_text-request (of_weak key) text other first second = one_verdict (bytes_of_digits key) text other first second
 
 -- and so have arguments

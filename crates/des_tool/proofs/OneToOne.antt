@@ -28,36 +28,36 @@ IsOneToOne-read Decrypt Relates one = record {
   backwards = λ x y z first second. one.forwards z x y first second;
 }
 
--- two lists of blocks that two lists answer, and are cut from the same bytes, have the same answers
-abbrev pub HasOneAnswer : (List (List ℕ) → List (List ℕ) → Type 0) → Type 0
-HasOneAnswer Answers =
-    (xs ys zs ws : List (List ℕ)) → Answers xs ys → Answers zs ws → concat xs ≡ concat zs → ys ≡ ws
+-- two lists of blocks that are cut from the same bytes are related to the same list
+abbrev pub HasOneList : (List (List ℕ) → List (List ℕ) → Type 0) → Type 0
+HasOneList Relates =
+    (xs ys zs ws : List (List ℕ)) → Relates xs ys → Relates zs ws → concat xs ≡ concat zs → ys ≡ ws
 
 module _ (Relates : List ℕ → List ℕ → Type 0) (one : IsOneToOne Relates) where
-  -- what is answered block by block are blocks
+  -- what is related block by block are blocks
   eight-each : (xs ys : List (List ℕ)) → AnswersEach Relates xs ys → All HasEight xs
   eight-each [] ys each = All-nil HasEight
   eight-each (x ∷ xs) [] each = absurd each
   eight-each (x ∷ xs) (y ∷ ys) each =
       All-cons HasEight x xs (one.first_is_block x y each.0).0 (eight-each xs ys each.1)
 
-  one_answer-each : (xs ys zs : List (List ℕ)) → AnswersEach Relates xs ys → AnswersEach Relates xs zs → ys ≡ zs
-  one_answer-each [] [] [] first second = refl
-  one_answer-each [] [] (z ∷ zs) first second = absurd second
-  one_answer-each [] (y ∷ ys) zs first second = absurd first
-  one_answer-each (x ∷ xs) [] zs first second = absurd first
-  one_answer-each (x ∷ xs) (y ∷ ys) [] first second = absurd second
-  one_answer-each (x ∷ xs) (y ∷ ys) (z ∷ zs) first second =
-      ap₂ ◌∷◌ (one.forwards x y z first.0 second.0) (one_answer-each xs ys zs first.1 second.1)
+  one_list-each : (xs ys zs : List (List ℕ)) → AnswersEach Relates xs ys → AnswersEach Relates xs zs → ys ≡ zs
+  one_list-each [] [] [] first second = refl
+  one_list-each [] [] (z ∷ zs) first second = absurd second
+  one_list-each [] (y ∷ ys) zs first second = absurd first
+  one_list-each (x ∷ xs) [] zs first second = absurd first
+  one_list-each (x ∷ xs) (y ∷ ys) [] first second = absurd second
+  one_list-each (x ∷ xs) (y ∷ ys) (z ∷ zs) first second =
+      ap₂ ◌∷◌ (one.forwards x y z first.0 second.0) (one_list-each xs ys zs first.1 second.1)
 
   -- block by block
-  pub HasOneAnswer-each : HasOneAnswer (AnswersEach Relates)
-  HasOneAnswer-each xs ys zs ws first second joined =
+  pub HasOneList-each : HasOneList (AnswersEach Relates)
+  HasOneList-each xs ys zs ws first second joined =
       let same : xs ≡ zs = same_blocks xs zs (eight-each xs ys first) (eight-each zs ws second) joined in
-      one_answer-each xs ys ws first (rw same second)
+      one_list-each xs ys ws first (rw same second)
 
   module _ (iv : List ℕ) where
-    -- the blocks of a chain, and of what it answers
+    -- the plaintext and the ciphertext of CBC have blocks
     eight-first : (p q : List (List ℕ)) → Chains Relates iv p q → All HasEight p
     eight-first p q chains = All-from_get_or HasEight p [] (λ i within.
         let next : i + 1 - 1 ≡ i = omega arith in
@@ -88,17 +88,17 @@ module _ (Relates : List ℕ → List ℕ → Type 0) (one : IsOneToOne Relates)
           ∙ same-at (suc m) (omega arith) (omega arith) (same-before (suc m) (omega arith))
           ∙ sym (block_before-next iv r (suc m) (omega arith)))
 
-      -- so a list is chained to one
-      same-chained : q ≡ r
-      same-chained = same_lists q r (first.count ∙ sym second.count) (λ i within.
+      -- so a plaintext has one ciphertext
+      same-ciphertext : q ≡ r
+      same-ciphertext = same_lists q r (first.count ∙ sym second.count) (λ i within.
           let next : i + 1 - 1 ≡ i = omega arith in
           let inside : i + 1 ≤ length p = omega (arith, first.count) in
           let P : ℕ → Type 0 = λ n. get_or q n [] ≡ get_or r n [] in
           subst P next (same-at (i + 1) (omega arith) inside (same-before (i + 1) inside)))
 
-    -- and from one
-    same-unchained : (p r q : List (List ℕ)) → Chains Relates iv p q → Chains Relates iv r q → p ≡ r
-    same-unchained p r q first second = same_lists p r (sym first.count ∙ second.count) (λ i within.
+    -- and a ciphertext one plaintext
+    same-plaintext : (p r q : List (List ℕ)) → Chains Relates iv p q → Chains Relates iv r q → p ≡ r
+    same-plaintext p r q first second = same_lists p r (sym first.count ∙ second.count) (λ i within.
         let next : i + 1 - 1 ≡ i = omega arith in
         let from : 1 ≤ i + 1 = omega arith in
         let to : i + 1 ≤ length p = omega arith in
@@ -113,11 +113,11 @@ module _ (Relates : List ℕ → List ℕ → Type 0) (one : IsOneToOne Relates)
         (width ∙ sym other_width) (whole ∙ sym width)
         (one.backwards _ _ _ related (second.chained (i + 1) from inside))))
 
-    -- chained, in either direction
-    pub HasOneAnswer-chains : (direction : Direction) → HasOneAnswer (ReadIn direction (Chains Relates iv))
-    HasOneAnswer-chains Encrypt xs ys zs ws first second joined =
+    -- by CBC, in either direction
+    pub HasOneList-cbc : (direction : Direction) → HasOneList (ReadIn direction (Chains Relates iv))
+    HasOneList-cbc Encrypt xs ys zs ws first second joined =
         let same : xs ≡ zs = same_blocks xs zs (eight-first xs ys first) (eight-first zs ws second) joined in
-        same-chained xs ys ws first (rw same second)
-    HasOneAnswer-chains Decrypt xs ys zs ws first second joined =
+        same-ciphertext xs ys ws first (rw same second)
+    HasOneList-cbc Decrypt xs ys zs ws first second joined =
         let same : xs ≡ zs = same_blocks xs zs (eight-last ys xs first) (eight-last ws zs second) joined in
-        same-unchained ys ws xs first (rw same second)
+        same-plaintext ys ws xs first (rw same second)

@@ -11,7 +11,7 @@ use Rattle.des_tool.specs.declared.command.request.Cipher.TheVariants.{Des, Ede3
 use Rattle.des_tool.specs.declared.command.request.Direction.{Direction}
 use Rattle.des_tool.specs.declared.command.request.Direction.TheVariants.{Encrypt, Decrypt}
 use Rattle.des_tool.specs.Digits.{bytes_of_digits, text_of_blocks}
-use Rattle.des_tool.specs.Request.{Request, of_blocks, of_chain, of_weak, request_of, block_cipher_of}
+use Rattle.des_tool.specs.Request.{Request, of_blocks, of_cbc, of_weak, request_of, block_cipher_of}
 
 -- what a cipher is: the relation between the bytes of a key, a block and the block that it is
 -- enciphered to
@@ -25,19 +25,18 @@ relation_of Eee2 key first last = EnciphersEee2 key first last
 -- a relation of blocks, or of lists of blocks, read in a direction: from the first to the second,
 -- or from the second to the first
 abbrev pub ReadIn : {A : Type 0} → Direction → (A → A → Type 0) → A → A → Type 0
-ReadIn Encrypt Relates given answer = Relates given answer
-ReadIn Decrypt Relates given answer = Relates answer given
+ReadIn Encrypt Relates given result = Relates given result
+ReadIn Decrypt Relates given result = Relates result given
 
--- the text is that of the list which answers the list of blocks that the digits write. What a
--- cipher relates are blocks, each by itself or chained, so there is one way to cut the bytes of the
--- digits
-pub record IsTextOf (Answers : List (List ℕ) → List (List ℕ) → Type 0)
+-- the text is that of the list to which the list of blocks is related that the digits write. What a
+-- cipher relates are blocks, by ECB or CBC, so the bytes of the digits can be cut into one list alone
+pub record IsTextOf (Relates : List (List ℕ) → List (List ℕ) → Type 0)
     (digits text : List ℕ) : Type 0 where
   pub blocks : List (List ℕ)
-  pub answers : List (List ℕ)
+  pub results : List (List ℕ)
   pub joined : concat blocks ≡ bytes_of_digits digits
-  pub answered : Answers blocks answers
-  pub written : text ≡ text_of_blocks answers
+  pub related : Relates blocks results
+  pub written : text ≡ text_of_blocks results
 
 -- the text says whether the weak key test refuses the key
 abbrev pub IsVerdict : List ℕ → List ℕ → Type 0
@@ -45,12 +44,12 @@ IsVerdict key text =
     (IsRefused key × (text ≡ codes "WeakKey\n"))
     ⊎ ((¬ (IsRefused key)) × (text ≡ codes "Ok\n"))
 
--- the text answers the request, under the key that its digits write: block by block, or chained
--- from the vector
+-- the text answers the request, under the key that its digits write: block by block, or by CBC from
+-- the vector
 abbrev pub AnswersRequest : Request → List ℕ → Type 0
 AnswersRequest (of_blocks cipher direction key digits) text =
     IsTextOf (AnswersEach (ReadIn direction (relation_of cipher (bytes_of_digits key)))) digits text
-AnswersRequest (of_chain cipher direction key vector digits) text =
+AnswersRequest (of_cbc cipher direction key vector digits) text =
     IsTextOf (ReadIn direction (Chains
     (relation_of (block_cipher_of cipher) (bytes_of_digits key)) (bytes_of_digits vector)))
     digits text

@@ -3,7 +3,7 @@ use Rattle.std.specs.Prelude.{◌≡◌, ℕ, ◌*◌, ◌%◌, ◌==◌, ◌||�
 use Rattle.std.specs.List.{list_all}
 use Rattle.std.specs.Option.{option_map_or, option_or}
 use Rattle.hex.specs.Hex.{is_hex_digit}
-use Rattle.des_tool.specs.Request.{Request, of_blocks, of_chain, of_weak, request_of, key_size_of, block_cipher_of}
+use Rattle.des_tool.specs.Request.{Request, of_blocks, of_cbc, of_weak, request_of, key_size_of, block_cipher_of}
 use Rattle.des_tool.specs.declared.command.fault.Fault.{Fault}
 use Rattle.des_tool.specs.declared.command.fault.Fault.TheVariants.{Usage, KeyLength, KeyText, BlockLength, BlockText, Memory}
 
@@ -40,7 +40,7 @@ blocks_fault blocks =
 abbrev pub fault_of_request : Request → Option Fault
 fault_of_request (of_blocks cipher direction key digits) =
     option_or (key_fault (key_size_of cipher) key) (blocks_fault digits)
-fault_of_request (of_chain cipher direction key vector digits) =
+fault_of_request (of_cbc cipher direction key vector digits) =
     option_or (key_fault (key_size_of (block_cipher_of cipher)) key)
     (option_or (vector_fault vector) (blocks_fault digits))
 fault_of_request (of_weak key) = tested_key_fault key

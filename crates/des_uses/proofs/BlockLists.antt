@@ -1,4 +1,4 @@
--- Two functions that answer each block of a list alike.
+-- Two functions that make the same of each block of a list.
 use Rattle.std.proofs.Common.{◌≡◌, ℕ, List, [], ◌∷◌, map, refl, suc, arith}
 use Rattle.std.specs.List.{All}
 use Rattle.des.specs.Blocks.{IsBlock}

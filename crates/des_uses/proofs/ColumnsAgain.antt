@@ -1,4 +1,4 @@
--- What is written of the texts of a column is read in one way.
+-- What is written of the texts of a column is read as them.
 use Rattle.std.proofs.Common.{true, ◌≡◌, ℕ, ℤ, ◌+◌, ◌-◌, ◌<◌, ◌≤◌, List, [], ◌∷◌, length, take, drop, map, get_or, replicate, sum, refl, ap, ap₂, sym, ◌∙◌, subst, arith, length-append, lit<}
 use Rattle.std.specs.List.{All}
 use Rattle.std.specs.Simd.Lanes.{zip2}
@@ -65,30 +65,30 @@ module _ (Relates : List ℕ → List ℕ → Type 0) (back : List ℕ → List 
   each-decrypted (x ∷ p) (y ∷ q) related =
       ap₂ ◌∷◌ (sym ((graph y x).0 related.0).1) (each-decrypted p q related.1)
 
-  -- ---- chains
+  -- ---- CBC
 
-  chain-are_blocks : (iv : List ℕ) (p q : List (List ℕ)) → Chains Relates iv p q → All IsBlock q
-  chain-are_blocks iv p q chains =
+  ciphertext-are_blocks : (iv : List ℕ) (p q : List (List ℕ)) → Chains Relates iv p q → All IsBlock q
+  ciphertext-are_blocks iv p q chains =
       All-from_get_or IsBlock q [] (λ i within.
       let this : i + 1 - 1 ≡ i = omega arith in
       subst (λ (n : ℕ). IsBlock (get_or q n [])) this
       ((graph _ _).0 (chains.chained (i + 1) (omega arith) (omega (arith, within, chains.count)))).0)
 
-  chain-decrypted : (iv : List ℕ) (p q : List (List ℕ)) → IsBlock iv → Chains Relates iv p q → Unchains back iv q p
-  chain-decrypted iv p q is_iv chains = record {
+  ciphertext-decrypted : (iv : List ℕ) (p q : List (List ℕ)) → IsBlock iv → Chains Relates iv p q → Unchains back iv q p
+  ciphertext-decrypted iv p q is_iv chains = record {
     count = sym chains.count;
     unchained = λ n from to.
         let within : n ≤ length p = omega (arith, to, chains.count) in
         let before : IsBlock (block_before iv q n) =
-        All-cons IsBlock iv q is_iv (chain-are_blocks iv p q chains) (n - 1) [] (omega (arith, from, to)) in
+        All-cons IsBlock iv q is_iv (ciphertext-are_blocks iv p q chains) (n - 1) [] (omega (arith, from, to)) in
         sym (xor_blocks-undone (block_at p n) (block_before iv q n) (chains.widths n from within ∙ sym before.0))
         ∙ ap (λ (l : List ℕ). xor_blocks l (block_before iv q n))
         (sym ((graph _ _).0 (chains.chained n from within)).1);
   }
 
-  unchained-same : (iv : List ℕ) (p other q : List (List ℕ)) → Unchains back iv q p → Unchains back iv q other
+  plaintext-same : (iv : List ℕ) (p other q : List (List ℕ)) → Unchains back iv q p → Unchains back iv q other
       → p ≡ other
-  unchained-same iv p other q one two =
+  plaintext-same iv p other q one two =
       ext_get_or [] p other (one.count ∙ sym two.count) (λ i within.
       let this : i + 1 - 1 ≡ i = omega arith in
       let place : i + 1 ≤ length q = omega (arith, within, one.count) in
@@ -112,13 +112,13 @@ module _ (Relates : List ℕ → List ℕ → Type 0) (back : List ℕ → List 
       ∙ two.of_p
   encrypted-same (Cbc iv) plain other part vector one two =
       let blocks : one.q_blocks ≡ two.q_blocks =
-      blocks-same one.q_blocks two.q_blocks (chain-are_blocks iv one.p_blocks one.q_blocks one.encrypted)
-      (chain-are_blocks iv two.p_blocks two.q_blocks two.encrypted) (one.of_q ∙ sym two.of_q) in
+      blocks-same one.q_blocks two.q_blocks (ciphertext-are_blocks iv one.p_blocks one.q_blocks one.encrypted)
+      (ciphertext-are_blocks iv two.p_blocks two.q_blocks two.encrypted) (one.of_q ∙ sym two.of_q) in
       sym one.of_p
-      ∙ ap joined (unchained-same iv one.p_blocks two.p_blocks two.q_blocks
+      ∙ ap joined (plaintext-same iv one.p_blocks two.p_blocks two.q_blocks
       (subst (λ (q : List (List ℕ)). Unchains back iv q one.p_blocks) blocks
-      (chain-decrypted iv one.p_blocks one.q_blocks vector one.encrypted))
-      (chain-decrypted iv two.p_blocks two.q_blocks vector two.encrypted))
+      (ciphertext-decrypted iv one.p_blocks one.q_blocks vector one.encrypted))
+      (ciphertext-decrypted iv two.p_blocks two.q_blocks vector two.encrypted))
       ∙ two.of_p
 
   pub reading-same : (form : Form) (mode : BlockMode) (value text other : List ℕ) (status its : ℤ) → HasVector mode

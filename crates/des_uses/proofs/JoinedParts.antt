@@ -202,7 +202,7 @@ Decrypts-joined decryption mode next padding n r t s m e u v w all first_is seco
       after.end,
     )
 
--- so it is if the last call answers so
+-- so it is if the last call returns so
 pub joined_done : (result : Result (Unit {0}) StreamError) {decryption : List ℕ → List ℕ} {mode next : Mode}
     {padding : Padding} {n : ℕ} {r t s m u v : Option (List ℕ)} (e w : Option (List ℕ))
     → DecryptsPart decryption mode padding (Some n) (passage_of r t u v) → Skips mode next n s m

@@ -1,7 +1,7 @@
 pub mod BlockLists
 pub mod ColumnsAgain
 pub mod JoinedParts
-pub mod KeyedChains
-pub mod RelatedAnswers
+pub mod KeyedCbc
+pub mod RelatedBlocks
 pub mod ReversedSchedules
 pub mod ZippedLists

@@ -1,5 +1,5 @@
 //! One key, in a cipher of `des` and in one over another single cipher, such as that of `des_fast`:
-//! what the clauses on equal answers give to a caller.
+//! what the clauses that the two make the same blocks give to a caller.
 
 ghost use Rattle.std.specs.Prelude.{◌≡◌};
 ghost use Rattle.des.specs.Relations.{IsTheOne, AnswerAlike};
@@ -8,8 +8,8 @@ use crate::by_relation::RelatesBlocks;
 use des::cipher::{KeyInit, KeySizeUser};
 use des::tdes::{Ede2, Ede3, Eee2, Eee3, SingleDes};
 
-/// A cipher whose `new` says that it answers as a cipher of `des` with the same key.
-pub trait AnswersAlike: RelatesBlocks {
+/// A cipher whose `new` says that it makes the same blocks as a cipher of `des` with the same key.
+pub trait AgreesWithPort: RelatesBlocks {
     /// The cipher of `des`.
     type Port: RelatesBlocks + KeySizeUser<Key = Self::Key> + Drop;
 
@@ -23,7 +23,7 @@ pub trait AnswersAlike: RelatesBlocks {
             → AnswerAlike (Self.decrypted result) (Self.Port.decrypted other) };
 }
 
-impl AnswersAlike for des_fast::Des {
+impl AgreesWithPort for des_fast::Des {
     type Port = des::Des;
 
     fn of_key_alike(key: &[u8; 8]) -> des_fast::Des {
@@ -31,7 +31,7 @@ impl AnswersAlike for des_fast::Des {
     }
 }
 
-impl<D: SingleDes> AnswersAlike for Ede3<D> {
+impl<D: SingleDes> AgreesWithPort for Ede3<D> {
     type Port = des::TdesEde3;
 
     fn of_key_alike(key: &[u8; 24]) -> Ede3<D> {
@@ -39,7 +39,7 @@ impl<D: SingleDes> AnswersAlike for Ede3<D> {
     }
 }
 
-impl<D: SingleDes> AnswersAlike for Eee3<D> {
+impl<D: SingleDes> AgreesWithPort for Eee3<D> {
     type Port = des::TdesEee3;
 
     fn of_key_alike(key: &[u8; 24]) -> Eee3<D> {
@@ -47,7 +47,7 @@ impl<D: SingleDes> AnswersAlike for Eee3<D> {
     }
 }
 
-impl<D: SingleDes> AnswersAlike for Ede2<D> {
+impl<D: SingleDes> AgreesWithPort for Ede2<D> {
     type Port = des::TdesEde2;
 
     fn of_key_alike(key: &[u8; 16]) -> Ede2<D> {
@@ -55,7 +55,7 @@ impl<D: SingleDes> AnswersAlike for Ede2<D> {
     }
 }
 
-impl<D: SingleDes> AnswersAlike for Eee2<D> {
+impl<D: SingleDes> AgreesWithPort for Eee2<D> {
     type Port = des::TdesEee2;
 
     fn of_key_alike(key: &[u8; 16]) -> Eee2<D> {
@@ -65,35 +65,35 @@ impl<D: SingleDes> AnswersAlike for Eee2<D> {
 
 /// What the cipher of `des` makes of a block by encryption, and what the other makes of it, under a
 /// key. The two are one.
-pub fn encrypted_by_both<C: AnswersAlike + Drop>(
+pub fn encrypted_by_both<C: AgreesWithPort + Drop>(
     key: &C::Key,
     block: &[u8; 8],
 ) -> ([u8; 8], [u8; 8])
     ensures enciphers { IsTheOne
-        (λ answer. C.Port.relation (C.Key.bytes_of key.now) block.now answer) result.0 }
+        (λ encrypted. C.Port.relation (C.Key.bytes_of key.now) block.now encrypted) result.0 }
     ensures alike { result.1 ≡ result.0 }
 {
     let cipher = C::Port::of_key(key);
     let other = C::of_key_alike(key);
-    let (mut answer, mut other_answer) = (*block, *block);
-    cipher.encrypt(&mut answer);
-    other.encrypt(&mut other_answer);
-    (answer, other_answer)
+    let (mut by_port, mut by_other) = (*block, *block);
+    cipher.encrypt(&mut by_port);
+    other.encrypt(&mut by_other);
+    (by_port, by_other)
 }
 
 /// The decryptions of a block by both.
-pub fn decrypted_by_both<C: AnswersAlike + Drop>(
+pub fn decrypted_by_both<C: AgreesWithPort + Drop>(
     key: &C::Key,
     block: &[u8; 8],
 ) -> ([u8; 8], [u8; 8])
     ensures deciphers { IsTheOne
-        (λ answer. C.Port.relation (C.Key.bytes_of key.now) answer block.now) result.0 }
+        (λ decrypted. C.Port.relation (C.Key.bytes_of key.now) decrypted block.now) result.0 }
     ensures alike { result.1 ≡ result.0 }
 {
     let cipher = C::Port::of_key(key);
     let other = C::of_key_alike(key);
-    let (mut answer, mut other_answer) = (*block, *block);
-    cipher.decrypt(&mut answer);
-    other.decrypt(&mut other_answer);
-    (answer, other_answer)
+    let (mut by_port, mut by_other) = (*block, *block);
+    cipher.decrypt(&mut by_port);
+    other.decrypt(&mut by_other);
+    (by_port, by_other)
 }

@@ -5,19 +5,19 @@ ghost use Rattle.std.specs.Prelude.{◌≡◌, ◌↔◌, length, map, IsTrue, I
 
 use des::cipher::{BlockCipher, BlockCipherDecrypt, BlockCipherEncrypt};
 
-/// Encrypts a block into `answer`, and decrypts this into `back`, which so becomes the block again.
+/// Encrypts a block into `encrypted_block`, and decrypts this into `back`, which so becomes the block again.
 pub fn block_there_and_back<C: BlockCipher>(
     cipher: &C,
     block: &[u8; 8],
-    answer: &mut [u8; 8],
+    encrypted_block: &mut [u8; 8],
     back: &mut [u8; 8],
 )
-    ensures encrypted { answer.new ≡ C.encrypted cipher.now block.now }
-    ensures decrypted { back.new ≡ C.decrypted cipher.now answer.new }
+    ensures encrypted { encrypted_block.new ≡ C.encrypted cipher.now block.now }
+    ensures decrypted { back.new ≡ C.decrypted cipher.now encrypted_block.new }
     ensures same { back.new ≡ block.now }
 {
-    cipher.encrypt_block_b2b(block, answer);
-    cipher.decrypt_block_b2b(answer, back);
+    cipher.encrypt_block_b2b(block, encrypted_block);
+    cipher.decrypt_block_b2b(encrypted_block, back);
 }
 
 /// Encrypts the blocks into `output`, and tells whether it did: lists of two lengths leave `output`

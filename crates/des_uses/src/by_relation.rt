@@ -28,13 +28,13 @@ pub trait RelatesBlocks: Relating {
     fn encrypt(&self, block: &mut [u8; 8])
         ensures encrypted { block.new ≡ Self.encrypted self.now block.old }
         ensures enciphers { (key : List ℕ) → Self.is_made_from self.now key
-            → IsTheOne (λ answer. Self.relation key block.old answer) block.new };
+            → IsTheOne (λ encrypted. Self.relation key block.old encrypted) block.new };
 
     /// Decrypts a block in place, by `decrypt_block`.
     fn decrypt(&self, block: &mut [u8; 8])
         ensures decrypted { block.new ≡ Self.decrypted self.now block.old }
         ensures deciphers { (key : List ℕ) → Self.is_made_from self.now key
-            → IsTheOne (λ answer. Self.relation key answer block.old) block.new };
+            → IsTheOne (λ decrypted. Self.relation key decrypted block.old) block.new };
 }
 
 impl RelatesBlocks for des::Des {
@@ -122,11 +122,14 @@ impl<D: SingleDes> RelatesBlocks for Eee2<D> {
 }
 
 /// What a block becomes by encryption under the key, and what it becomes by decryption.
-pub fn answers_of<C: RelatesBlocks + Drop>(key: &C::Key, block: &[u8; 8]) -> ([u8; 8], [u8; 8])
+pub fn encrypt_and_decrypt<C: RelatesBlocks + Drop>(
+    key: &C::Key,
+    block: &[u8; 8],
+) -> ([u8; 8], [u8; 8])
     ensures enciphers { IsTheOne
-        (λ answer. C.relation (C.Key.bytes_of key.now) block.now answer) result.0 }
+        (λ encrypted. C.relation (C.Key.bytes_of key.now) block.now encrypted) result.0 }
     ensures deciphers { IsTheOne
-        (λ answer. C.relation (C.Key.bytes_of key.now) answer block.now) result.1 }
+        (λ decrypted. C.relation (C.Key.bytes_of key.now) decrypted block.now) result.1 }
 {
     let cipher = C::of_key(key);
     let (mut encrypted, mut decrypted) = (*block, *block);
@@ -140,22 +143,22 @@ pub fn answers_of<C: RelatesBlocks + Drop>(key: &C::Key, block: &[u8; 8]) -> ([u
 pub fn relates<C: RelatesBlocks + Drop>(
     key: &C::Key,
     block: &[u8; 8],
-    answer: &[u8; 8],
+    other: &[u8; 8],
 ) -> (bool, bool)
     ensures there { IsTrue result.0
-        ↔ C.relation (C.Key.bytes_of key.now) block.now answer.now }
+        ↔ C.relation (C.Key.bytes_of key.now) block.now other.now }
     ensures back { IsTrue result.1
-        ↔ C.relation (C.Key.bytes_of key.now) block.now answer.now }
+        ↔ C.relation (C.Key.bytes_of key.now) block.now other.now }
 {
     let cipher = C::of_key(key);
-    let (mut encrypted, mut decrypted) = (*block, *answer);
+    let (mut encrypted, mut decrypted) = (*block, *other);
     cipher.encrypt_block(&mut encrypted);
     cipher.decrypt_block(&mut decrypted);
-    (is_same(&encrypted, answer), is_same(&decrypted, block))
+    (is_same(&encrypted, other), is_same(&decrypted, block))
 }
 
-/// Whether the key makes one answer of two blocks: only if they are one block.
-pub fn answers_alike<C: RelatesBlocks + Drop>(
+/// Whether the key encrypts two blocks to one: only if they are one block.
+pub fn encrypts_alike<C: RelatesBlocks + Drop>(
     key: &C::Key,
     block: &[u8; 8],
     other: &[u8; 8],
@@ -163,10 +166,10 @@ pub fn answers_alike<C: RelatesBlocks + Drop>(
     ensures { IsTrue result ↔ (block.now ≡ other.now) }
 {
     let cipher = C::of_key(key);
-    let (mut answer, mut other_answer) = (*block, *other);
-    cipher.encrypt(&mut answer);
-    cipher.encrypt(&mut other_answer);
-    is_same(&answer, &other_answer)
+    let (mut encrypted, mut other_encrypted) = (*block, *other);
+    cipher.encrypt(&mut encrypted);
+    cipher.encrypt(&mut other_encrypted);
+    is_same(&encrypted, &other_encrypted)
 }
 
 // Whether two blocks are the same.

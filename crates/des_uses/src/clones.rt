@@ -2,7 +2,7 @@
 
 ghost use Rattle.std.specs.Prelude.{◌≡◌};
 
-// A clone of a value whose clone always answers.
+// A clone of a value whose clone never fails.
 fn clone_of<C: Clone>(cipher: &C) -> C
     requires { C.is_infallible cipher.now }
     ensures { C.is_clone cipher.now result }

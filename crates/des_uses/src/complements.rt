@@ -15,7 +15,7 @@ pub fn complement_bytes(bytes: &mut [u8])
 }
 
 /// Complements a key and a block of 8 bytes, in place, and encrypts the one under the other: the
-/// block becomes the complement of what the key as it was answers to the block as it was.
+/// block becomes the complement of what the key as it was makes of the block as it was.
 /// `InvalidLength` if the key does not have `KEY_SIZE` bytes: then both are complemented alone.
 pub fn encrypt_complements<C: Complementing + Drop>(
     key: &mut [u8],

@@ -14,7 +14,7 @@ use des_fast::{Des, no_tables};
 /// no other list is so related.
 pub fn encrypt_list_by_fast_des(key: &[u8; 8], blocks: &mut [[u8; 8]])
     ensures { IsTheOne
-        (λ answers. AnswersEach (λ x y. Enciphers key.now x y) blocks.old answers) blocks.new }
+        (λ ciphertext. AnswersEach (λ x y. Enciphers key.now x y) blocks.old ciphertext) blocks.new }
 {
     let cipher = Des::new(key);
     cipher.encrypt_many(blocks);
@@ -24,16 +24,16 @@ pub fn encrypt_list_by_fast_des(key: &[u8; 8], blocks: &mut [[u8; 8]])
 /// relates to those that stood there.
 pub fn decrypt_list_by_fast_des(key: &[u8; 8], blocks: &mut [[u8; 8]])
     ensures { IsTheOne
-        (λ answers. AnswersEach (λ x y. Enciphers key.now x y) answers blocks.old) blocks.new }
+        (λ plaintext. AnswersEach (λ x y. Enciphers key.now x y) plaintext blocks.old) blocks.new }
 {
     let cipher = Des::new(key);
     cipher.decrypt_many(blocks);
 }
 
-/// Decrypts in place a list that CBC under a key chained from the initialization vector: DES under
+/// Decrypts in place a list that CBC under a key encrypted from the initialization vector: DES under
 /// the key takes each new block xor the block of the list before it, or for the first the vector,
 /// to the block of the list.
-pub fn unchain_by_fast_des(key: &[u8; 8], iv: &[u8; 8], blocks: &mut [[u8; 8]])
+pub fn decrypt_cbc_by_fast_des(key: &[u8; 8], iv: &[u8; 8], blocks: &mut [[u8; 8]])
     ensures { Chains (λ x y. Enciphers key.now x y) iv.now blocks.new blocks.old }
 {
     let cipher = Des::new(key);
@@ -44,7 +44,7 @@ pub fn unchain_by_fast_des(key: &[u8; 8], iv: &[u8; 8], blocks: &mut [[u8; 8]])
 /// each is related to the one at its place, and no other list is so related.
 pub fn encrypt_list_side_by_side(key: &[u8; 8], blocks: &mut [[u8; 8]])
     ensures { IsTheOne
-        (λ answers. AnswersEach (λ x y. Enciphers key.now x y) blocks.old answers) blocks.new }
+        (λ ciphertext. AnswersEach (λ x y. Enciphers key.now x y) blocks.old ciphertext) blocks.new }
 {
     let cipher = no_tables::Des::new(key);
     cipher.encrypt_blocks(blocks);
@@ -54,7 +54,7 @@ pub fn encrypt_list_side_by_side(key: &[u8; 8], blocks: &mut [[u8; 8]])
 /// the list is the one whose blocks the key relates to those that stood there.
 pub fn decrypt_list_side_by_side(key: &[u8; 8], blocks: &mut [[u8; 8]])
     ensures { IsTheOne
-        (λ answers. AnswersEach (λ x y. Enciphers key.now x y) answers blocks.old) blocks.new }
+        (λ plaintext. AnswersEach (λ x y. Enciphers key.now x y) plaintext blocks.old) blocks.new }
 {
     let cipher = no_tables::Des::new(key);
     cipher.decrypt_blocks(blocks);

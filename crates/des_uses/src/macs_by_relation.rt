@@ -11,7 +11,7 @@ use des::{Des, TdesEde3};
 use des_mac::{CbcMac, Cmac, Mac, Method1, Method2, RetailMac};
 
 /// The tag of a message by CBC-MAC under `Des`, with padding method 1: the one in which the blocks
-/// of the padded message end that DES under the key chains from a block of zeros.
+/// of the padded message end that CBC by DES under the key makes from a block of zeros.
 pub fn cbc_mac_of_des(key: &[u8; 8], message: &[u8]) -> [u8; 8]
     ensures { IsTheOne (IsCbcMac (λ x y. Enciphers key.now x y) (padded zeros_after message.now))
         result }
@@ -22,7 +22,7 @@ pub fn cbc_mac_of_des(key: &[u8; 8], message: &[u8]) -> [u8; 8]
 }
 
 /// The tag of a message by the retail MAC under `Des`, with padding method 2: DES under the second
-/// key takes some block to the end of the chain under the first, and DES under the first takes this
+/// key takes some block to the end of the CBC under the first, and DES under the first takes this
 /// block to the tag.
 pub fn retail_mac_of_des(first: &[u8; 8], second: &[u8; 8], message: &[u8]) -> [u8; 8]
     ensures { IsTheOne

@@ -9,11 +9,11 @@ ghost use Rattle.des.specs.Triple.{EnciphersEde3};
 use des::cipher::{InvalidLength, KeyedCipher};
 use des::{TdesEde3, cbc};
 
-/// Decrypts in place the blocks of a record, which CBC under a cipher chained from the
+/// Decrypts in place the blocks of a record, which CBC under a cipher encrypted from the
 /// initialization vector: the key's encryption takes each new block xor the block of the record
 /// before it, or for the first the vector, to the block of the record. A key that does not have
 /// `KEY_SIZE` bytes is `InvalidLength`, and the record is unchanged.
-pub fn read_chain<C: KeyedCipher + Drop>(
+pub fn read_record_by<C: KeyedCipher + Drop>(
     key: &[u8],
     iv: &[u8; 8],
     blocks: &mut [[u8; 8]],
@@ -36,5 +36,5 @@ pub fn read_record(key: &[u8], iv: &[u8; 8], blocks: &mut [[u8; 8]]) -> Result<(
     ensures read { OnOk result (Chains (EnciphersEde3 key.now) iv.now blocks.new blocks.old) }
     ensures kept { OnErr result (blocks.new ≡ blocks.old) }
 {
-    read_chain::<TdesEde3>(key, iv, blocks)
+    read_record_by::<TdesEde3>(key, iv, blocks)
 }

@@ -8,8 +8,8 @@ ghost use Rattle.des.specs.Relations.{TakesBlock};
 use des::cipher::{InvalidLength, KeyedCipher};
 use des_fast::many::{Slice, SpreadOnce};
 
-/// Encrypts in place each block of a list by keys that are spread over slices: what the key answers
-/// to it. A key that does not have `KEY_SIZE` bytes is `InvalidLength`, and the list is unchanged.
+/// Encrypts in place each block of a list by keys that are spread over slices: what the key makes
+/// of it. A key that does not have `KEY_SIZE` bytes is `InvalidLength`, and the list is unchanged.
 pub fn encrypt_spread<S: Slice, C: KeyedCipher + SpreadOnce + Drop>(
     key: &[u8],
     blocks: &mut [[u8; 8]],
@@ -37,11 +37,11 @@ pub fn decrypt_spread<S: Slice, C: KeyedCipher + SpreadOnce + Drop>(
     Ok(())
 }
 
-/// Decrypts in place a list that CBC under a cipher chained from the initialization vector: the
+/// Decrypts in place a list that CBC under a cipher encrypted from the initialization vector: the
 /// key's encryption takes each new block xor the block of the list before it, or for the first the
 /// vector, to the block of the list. A key that does not have `KEY_SIZE` bytes is `InvalidLength`,
 /// and the list is unchanged.
-pub fn unchain_spread<S: Slice, C: KeyedCipher + SpreadOnce + Drop>(
+pub fn decrypt_cbc_spread<S: Slice, C: KeyedCipher + SpreadOnce + Drop>(
     key: &[u8],
     iv: &[u8; 8],
     blocks: &mut [[u8; 8]],

@@ -10,7 +10,7 @@ use des::cipher::{BlockCipher, NotEqualError};
 use des_fast::many::{Slice, SpreadOnce};
 
 /// Encrypts records in place by CBC, each from the vector at its place: record k has `sizes[k]`
-/// blocks. Each vector becomes the one with which its chain goes on. Sizes that are not those of
+/// blocks. Each vector becomes the one with which its CBC goes on. Sizes that are not those of
 /// the vectors and the blocks are `NotEqualError`, and nothing changes.
 pub fn encrypt_records<S: Slice, C: BlockCipher + SpreadOnce>(
     cipher: &C,
@@ -33,8 +33,8 @@ pub fn encrypt_records<S: Slice, C: BlockCipher + SpreadOnce>(
     Ok(())
 }
 
-/// Reads such records: what stands in place of each is what encryption chains to it. Each vector
-/// becomes the one with which its chain goes on.
+/// Reads such records: what stands in place of each is what CBC encrypts to it. Each vector
+/// becomes the one with which its CBC goes on.
 pub fn read_records<S: Slice, C: BlockCipher + SpreadOnce>(
     cipher: &C,
     vectors: &mut [[u8; 8]],

@@ -4,7 +4,7 @@ use crate::common::*;
 use cukvashe_des::*;
 
 /// The first byte is 0, which the end of a text would be.
-const CHAIN_IV: Block = [0x00, 0x34, 0x56, 0x78, 0x90, 0xab, 0xcd, 0xef];
+const CBC_IV: Block = [0x00, 0x34, 0x56, 0x78, 0x90, 0xab, 0xcd, 0xef];
 
 /// Makes `answer` of `plain`, and takes it back, by each call of a cipher for single blocks.
 fn electronic_codebook(cipher: &impl BlockCipher, plain: &[u8], answer: &[u8]) {
@@ -31,8 +31,8 @@ fn electronic_codebook(cipher: &impl BlockCipher, plain: &[u8], answer: &[u8]) {
     assert_eq!(blocks, blocks_of(plain));
 }
 
-/// Checks each call for chains so, whole and in pieces.
-fn chain(cipher: &impl BlockCipher, iv: &Block, plain: &[u8], answer: &[u8]) {
+/// Checks each call for CBC so, whole and in pieces.
+fn cbc(cipher: &impl BlockCipher, iv: &Block, plain: &[u8], answer: &[u8]) {
     let last = blocks_of(answer).last().copied().unwrap_or(*iv);
     for cut in [0, 8, plain.len() / 16 * 8, plain.len()].into_iter().filter(|&cut| cut <= plain.len()) {
         let (mut vector, mut data) = (*iv, plain.to_vec());
@@ -61,8 +61,8 @@ fn chain(cipher: &impl BlockCipher, iv: &Block, plain: &[u8], answer: &[u8]) {
     assert_eq!((vector, &blocks), (last, &blocks_of(plain)));
 }
 
-/// Known answers of one cipher, made by a call, alone and in lists: the published blocks, again and again. A chain of their
-/// answers is decrypted to each block xor the answer before it, so its encryption gives the answers back.
+/// Known answers of one cipher, made by a call, alone and in lists: the published blocks, again and again. CBC decrypts their
+/// ciphertexts to each block xor the answer before it, so its encryption gives the answers back.
 fn answers<C: BlockCipher>(name: &str, new: fn(&[u8]) -> C) {
     for list in ciphertexts(name) {
         electronic_codebook(&new(&list.key), &list.plain, &list.answer);
@@ -73,15 +73,15 @@ fn answers<C: BlockCipher>(name: &str, new: fn(&[u8]) -> C) {
         let plain: Vec<u8> = text.plain.iter().copied().cycle().take(8 * count).collect();
         let answer: Vec<u8> = text.answer.iter().copied().cycle().take(8 * count).collect();
         electronic_codebook(&cipher, &plain, &answer);
-        let before = CHAIN_IV.iter().chain(&answer);
-        let chained: Vec<u8> = plain.iter().zip(before).map(|(byte, other)| byte ^ other).collect();
-        chain(&cipher, &CHAIN_IV, &chained, &answer);
+        let before = CBC_IV.iter().chain(&answer);
+        let by_cbc: Vec<u8> = plain.iter().zip(before).map(|(byte, other)| byte ^ other).collect();
+        cbc(&cipher, &CBC_IV, &by_cbc, &answer);
     }
 }
 
-fn chains<C: BlockCipher>(name: &str, new: fn(&[u8]) -> C) {
+fn cbc_lists<C: BlockCipher>(name: &str, new: fn(&[u8]) -> C) {
     for list in ciphertexts(name) {
-        chain(&new(&list.key), &list.iv.unwrap(), &list.plain, &list.answer);
+        cbc(&new(&list.key), &list.iv.unwrap(), &list.plain, &list.answer);
     }
 }
 
@@ -99,8 +99,8 @@ fn ciphers_answer() {
     answers::<Des>("des", with_tables);
     answers::<TdesEde2>("ede2", with_tables);
     answers::<TdesEde3>("ede3", with_tables);
-    chains::<Des>("des-cbc", with_tables);
-    chains::<TdesEde3>("ede3-cbc", with_tables);
+    cbc_lists::<Des>("des-cbc", with_tables);
+    cbc_lists::<TdesEde3>("ede3-cbc", with_tables);
 }
 
 #[test]
@@ -108,8 +108,8 @@ fn ciphers_without_tables_answer() {
     answers::<Des>("des", no_tables);
     answers::<TdesEde2>("ede2", no_tables);
     answers::<TdesEde3>("ede3", no_tables);
-    chains::<Des>("des-cbc", no_tables);
-    chains::<TdesEde3>("ede3-cbc", no_tables);
+    cbc_lists::<Des>("des-cbc", no_tables);
+    cbc_lists::<TdesEde3>("ede3-cbc", no_tables);
 }
 
 /// The key's length chooses the cipher.
@@ -117,7 +117,7 @@ fn ciphers_without_tables_answer() {
 fn chosen_ciphers_answer() {
     for new in [with_tables::<Cipher>, no_tables::<Cipher>] {
         ["des", "ede2", "ede3"].into_iter().for_each(|name| answers(name, new));
-        ["des-cbc", "ede3-cbc"].into_iter().for_each(|name| chains(name, new));
+        ["des-cbc", "ede3-cbc"].into_iter().for_each(|name| cbc_lists(name, new));
     }
 }
 
@@ -162,7 +162,7 @@ fn refuses_data(cipher: &impl BlockCipher) {
         let mut data = before.clone();
         assert_eq!(cipher.encrypt_ecb(&mut data), Err(DataError::NotBlocks));
         assert_eq!(cipher.decrypt_ecb(&mut data), Err(DataError::NotBlocks));
-        let mut iv = CHAIN_IV;
+        let mut iv = CBC_IV;
         assert_eq!(cipher.encrypt_cbc(&mut iv, &mut data), Err(DataError::NotBlocks));
         assert_eq!(cipher.decrypt_cbc(&mut iv, &mut data), Err(DataError::NotBlocks));
         let input = vec![0x11; length];
@@ -170,29 +170,29 @@ fn refuses_data(cipher: &impl BlockCipher) {
         assert_eq!(cipher.decrypt_ecb_to(&input, &mut data), Err(DataError::NotBlocks));
         assert_eq!(cipher.encrypt_cbc_to(&mut iv, &input, &mut data), Err(DataError::NotBlocks));
         assert_eq!(cipher.decrypt_cbc_to(&mut iv, &input, &mut data), Err(DataError::NotBlocks));
-        assert_eq!((iv, &data), (CHAIN_IV, &before));
+        assert_eq!((iv, &data), (CBC_IV, &before));
     }
 }
 
-/// A call from one slice to another, of single blocks and of a chain.
+/// A call from one slice to another, of single blocks and of CBC.
 type Single<C> = fn(&C, &[u8], &mut [u8]) -> Result<(), DataError>;
-type Chained<C> = fn(&C, &mut Block, &[u8], &mut [u8]) -> Result<(), DataError>;
+type CbcTo<C> = fn(&C, &mut Block, &[u8], &mut [u8]) -> Result<(), DataError>;
 
 /// Two lengths are refused, whichever is the shorter one, and no byte is written, neither in the output nor behind it.
 fn refuses_two_lengths<C: BlockCipher>(cipher: &C) {
     let single: [Single<C>; 2] = [C::encrypt_ecb_to, C::decrypt_ecb_to];
-    let chained: [Chained<C>; 2] = [C::encrypt_cbc_to, C::decrypt_cbc_to];
+    let by_cbc: [CbcTo<C>; 2] = [C::encrypt_cbc_to, C::decrypt_cbc_to];
     for (from, to) in
         [(8, 0), (0, 8), (16, 8), (8, 16), (2400, 8), (8, 2400), (1032, 1024), (1024, 1032), (8, 7), (7, 8)]
     {
-        let (input, mut output, mut iv) = (vec![0x11; from], vec![0x5a; 4800], CHAIN_IV);
+        let (input, mut output, mut iv) = (vec![0x11; from], vec![0x5a; 4800], CBC_IV);
         for call in single {
             assert_eq!(call(cipher, &input, &mut output[..to]), Err(DataError::LengthsDiffer));
         }
-        for call in chained {
+        for call in by_cbc {
             assert_eq!(call(cipher, &mut iv, &input, &mut output[..to]), Err(DataError::LengthsDiffer));
         }
-        assert_eq!((iv, output), (CHAIN_IV, vec![0x5a; 4800]));
+        assert_eq!((iv, output), (CBC_IV, vec![0x5a; 4800]));
     }
 }
 

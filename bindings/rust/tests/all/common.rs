@@ -31,7 +31,7 @@ fn lines_of(place: &str) -> Vec<String> {
     text.lines().filter(|line| !line.trim().is_empty() && !line.starts_with('#')).map(String::from).collect()
 }
 
-/// A list of blocks, its ciphertext, and of chains the vector.
+/// A list of blocks, its ciphertext, and of CBC the vector.
 pub struct Ciphertext {
     pub name: String,
     pub key: Vec<u8>,

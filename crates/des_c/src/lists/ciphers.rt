@@ -1,4 +1,4 @@
-//! The exports of ECB, and those that decrypt what CBC chained.
+//! The exports of ECB, and those that decrypt by CBC.
 
 ghost use Rattle.std.specs.Prelude.{◌≡◌, ◌≢◌, ◌↔◌, ℕ, List};
 ghost use Rattle.des.specs.Blocks.{AnswersEach};
@@ -27,7 +27,7 @@ pub extern "C" fn cukvashe_internal_encrypt_ecb(
     ensures refused { (result ≡ ERR_BLOCKS)
         ↔ (HasMark NO_MAC context.now × ¬ (AreBytesOf blocks.old size)) }
     ensures encrypted { result ≡ OK → (key : List ℕ) → IsContextOf context.now key
-        → IsTheOne (λ answers. AnswersEach (relation_of key) blocks.old answers) blocks.new }
+        → IsTheOne (λ ciphertext. AnswersEach (relation_of key) blocks.old ciphertext) blocks.new }
     ensures kept { result ≢ OK → blocks.new ≡ blocks.old }
 {
     block_modes::encrypt_ecb::<Width>(context, blocks, size)
@@ -47,7 +47,7 @@ pub extern "C" fn cukvashe_internal_decrypt_ecb(
     ensures refused { (result ≡ ERR_BLOCKS)
         ↔ (HasMark NO_MAC context.now × ¬ (AreBytesOf blocks.old size)) }
     ensures decrypted { result ≡ OK → (key : List ℕ) → IsContextOf context.now key
-        → IsTheOne (λ answers. AnswersEach (relation_of key) answers blocks.old) blocks.new }
+        → IsTheOne (λ plaintext. AnswersEach (relation_of key) plaintext blocks.old) blocks.new }
     ensures kept { result ≢ OK → blocks.new ≡ blocks.old }
 {
     block_modes::decrypt_ecb::<Width>(context, blocks, size)
@@ -70,7 +70,7 @@ pub extern "C" fn cukvashe_internal_encrypt_ecb_to(
     ensures refused { (result ≡ ERR_BLOCKS)
         ↔ (HasMark NO_MAC context.now × ¬ (FitInto output.old input.now size)) }
     ensures encrypted { result ≡ OK → (key : List ℕ) → IsContextOf context.now key
-        → IsTheOne (λ answers. AnswersEach (relation_of key) input.now answers) output.new }
+        → IsTheOne (λ ciphertext. AnswersEach (relation_of key) input.now ciphertext) output.new }
     ensures kept { result ≢ OK → output.new ≡ output.old }
 {
     match block_modes::copy_whole(context, input, output, size) {
@@ -95,7 +95,7 @@ pub extern "C" fn cukvashe_internal_decrypt_ecb_to(
     ensures refused { (result ≡ ERR_BLOCKS)
         ↔ (HasMark NO_MAC context.now × ¬ (FitInto output.old input.now size)) }
     ensures decrypted { result ≡ OK → (key : List ℕ) → IsContextOf context.now key
-        → IsTheOne (λ answers. AnswersEach (relation_of key) answers input.now) output.new }
+        → IsTheOne (λ plaintext. AnswersEach (relation_of key) plaintext input.now) output.new }
     ensures kept { result ≢ OK → output.new ≡ output.old }
 {
     match block_modes::copy_whole(context, input, output, size) {
@@ -104,7 +104,7 @@ pub extern "C" fn cukvashe_internal_decrypt_ecb_to(
     }
 }
 
-/// Decrypts bytes in place that CBC chained from the vector, which becomes the last ciphertext
+/// Decrypts bytes in place that CBC encrypted from the vector, which becomes the last ciphertext
 /// block. The status is `ERR_BLOCKS` if the bytes are not whole blocks; they and the vector then
 /// are unchanged.
 #[unsafe(no_mangle)]

@@ -1,4 +1,4 @@
-//! The exports of records that CBC chains, each from a vector of its own.
+//! The exports of records in CBC, each from a vector of its own.
 
 ghost use Rattle.std.specs.Prelude.{◌≡◌, ◌≢◌, ◌↔◌, ℕ, List, length};
 ghost use Rattle.des_fast.specs.Records.{GoOn};
@@ -13,7 +13,7 @@ use des_context::records::{decrypt_cbc_records, encrypt_cbc_records};
 use des_context::status::{ERR_BLOCKS, ERR_CONTEXT, ERR_COUNTS, OK};
 
 /// Encrypts records in place by CBC: `counts[k]` blocks are record k, one record after another, and
-/// `vectors[k]`, from which it is chained, becomes its last ciphertext block. The status is
+/// `vectors[k]`, from which CBC begins, becomes its last ciphertext block. The status is
 /// `ERR_COUNTS` if the numbers of vectors and counts differ, or the counts do not add up to the
 /// number of blocks; vectors and blocks are then unchanged.
 #[unsafe(no_mangle)]
@@ -42,7 +42,7 @@ pub extern "C" fn cukvashe_internal_encrypt_cbc_records(
     encrypt_cbc_records::<Width>(context, vectors, counts, blocks, size)
 }
 
-/// Decrypts records in place that CBC chained. The status is as of encryption.
+/// Decrypts records in place that CBC encrypted. The status is as of encryption.
 #[unsafe(no_mangle)]
 pub extern "C" fn cukvashe_internal_decrypt_cbc_records(
     context: &[u64],

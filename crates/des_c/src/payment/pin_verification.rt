@@ -37,10 +37,10 @@ fn status_of(fault: VerificationError) -> i32
 }
 
 // The status of a verification.
-fn verified(answer: Result<(), VerificationError>) -> i32
-    ensures { result ≡ status_after status_of_fault (result_err answer) }
+fn verified(result_of: Result<(), VerificationError>) -> i32
+    ensures { result ≡ status_after status_of_fault (result_err result_of) }
 {
-    match answer {
+    match result_of {
         Ok(()) => OK,
         Err(fault) => status_of(fault),
     }

@@ -72,7 +72,7 @@ pub extern "C" fn cukvashe_pin_translate_to_0(
     ensures status { result ≡ status_after status_of_fault
         (translation_fault incoming.now (format_by format) outgoing.now Format.Format0
         account.now (replicate 10 0) block.now) }
-    ensures answer { result ≡ OK → IsTranslation incoming.now (format_by format)
+    ensures translated { result ≡ OK → IsTranslation incoming.now (format_by format)
         outgoing.now Format.Format0 account.now (replicate 10 0) block.now translated.new }
     ensures kept { result ≢ OK → translated.new ≡ translated.old }
 {
@@ -94,7 +94,7 @@ pub extern "C" fn cukvashe_pin_translate_to_1(
 ) -> i32
     ensures status { result ≡ status_after status_of_fault
         (rekeying_fault incoming.now outgoing.now block.now) }
-    ensures answer { result ≡ OK
+    ensures translated { result ≡ OK
         → translated.new ≡ rekeyed incoming.now outgoing.now block.now }
     ensures kept { result ≢ OK → translated.new ≡ translated.old }
 {
@@ -116,7 +116,7 @@ pub extern "C" fn cukvashe_pin_translate_to_3(
     ensures status { result ≡ status_after status_of_fault
         (translation_fault incoming.now (format_by format) outgoing.now Format.Format3
         account.now fill.now block.now) }
-    ensures answer { result ≡ OK → IsTranslation incoming.now (format_by format)
+    ensures translated { result ≡ OK → IsTranslation incoming.now (format_by format)
         outgoing.now Format.Format3 account.now fill.now block.now translated.new }
     ensures kept { result ≢ OK → translated.new ≡ translated.old }
 {

@@ -1,6 +1,6 @@
 //! The words of a command line, parsed by the table of commands.
 
-use super::table::{Argument, CommandRow, Group, STATUSES, Takes, groups, list_of};
+use super::table::{Argument, CommandGroup, CommandRow, STATUSES, Takes, groups, list_of};
 use clap::{Arg, ArgAction, ArgMatches, Command, Error, value_parser};
 use std::alloc::{AllocError, Global};
 
@@ -97,7 +97,7 @@ fn parent<'a>(command: Command<'a>) -> Command<'a> {
 fn with_group<'a>(
     alloc: Global,
     command: Command<'a>,
-    group: &'a Group<'a>,
+    group: &'a CommandGroup<'a>,
     words: &[&str],
 ) -> Result<Command<'a>, AllocError> {
     if group.name == "" {
@@ -187,7 +187,7 @@ fn names_by(word: &str, second: &str) -> (&'static str, &'static str) {
 }
 
 // The name of a command of a group that a word is; nothing of another word.
-fn name_in(group: &Group<'static>, word: &str) -> &'static str {
+fn name_in(group: &CommandGroup<'static>, word: &str) -> &'static str {
     let row = group.commands.iter().find(|row| row.name == word);
     row.map_or("", |row| row.name)
 }

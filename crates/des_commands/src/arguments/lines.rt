@@ -11,7 +11,7 @@ use super::misuse::{misuse, refuse};
 use super::passwords::PASSWORD;
 use super::sources::{KEY, file_of, input_of, names_one, one_of, output_of, read_once};
 use crate::command::lines::{LineSecret, LinesRequest, ValueFormat};
-use crate::lines::readings::LineCoding;
+use crate::lines::line_kind::LineCoding;
 use clap::ArgMatches;
 use des_columns::pbe::Algorithm;
 use des_columns::pgcrypto::Scheme;

@@ -9,7 +9,7 @@ pub use shared::{Argument, Arguments, Takes, list_of};
 /// A group of commands: its name, what the help says of it, and its commands. Those of a group with
 /// no name stand in none.
 #[derive(Clone, Copy)]
-pub struct Group<'a> {
+pub struct CommandGroup<'a> {
     pub name: &'a str,
     pub about: &'a str,
     pub commands: &'a [CommandRow<'a>],
@@ -32,7 +32,7 @@ macro_rules! list {
 
 macro_rules! group {
     ($name:literal: $about:literal; $($command:literal: $says:literal; [$($list:tt),*] $example:literal;)*) => {
-        Group {
+        CommandGroup {
             name: $name,
             about: $about,
             commands: &[$(CommandRow {
@@ -58,7 +58,7 @@ const PADDINGS: &[&str] = &["pkcs7", "iso7816", "zeros", "none"];
 
 // `encrypt` takes `from` and `blocks` too, and does not show them: who types them is told that only
 // decryption takes a part.
-static ENCRYPTION: Group<'static> = group! {
+static ENCRYPTION: CommandGroup<'static> = group! {
     "": "";
 
     "encrypt": "Encrypt a file or a pipe";
@@ -87,7 +87,7 @@ Example:
     --iv random --key-file KEY | xxd -p";
 };
 
-static DECRYPTION: Group<'static> = group! {
+static DECRYPTION: CommandGroup<'static> = group! {
     "": "";
 
     "decrypt": "Decrypt a file or a pipe, or a part of one";
@@ -118,7 +118,7 @@ Example:
     cukvashe decrypt des-ede-cbc --iv first-block --key-file KEY --out -";
 };
 
-static PRIVATE_KEYS: Group<'static> = group! {
+static PRIVATE_KEYS: CommandGroup<'static> = group! {
     "": "";
 
     "decrypt-pem": "Decrypt a private key under a password, in PEM or DER";
@@ -134,7 +134,7 @@ Example:
     cukvashe decrypt-pem --password-file password --out - | head -n 1";
 };
 
-static LINES: Group<'static> = group! {
+static LINES: CommandGroup<'static> = group! {
     "": "";
 
     "decrypt-lines": "Decrypt values of MySQL, MariaDB, pgcrypto or Jasypt, one in each line";
@@ -176,7 +176,7 @@ Example:
     cukvashe decrypt-lines mysql --password-file password";
 };
 
-static MACS: Group<'static> = group! {
+static MACS: CommandGroup<'static> = group! {
     "": "";
 
     "mac": "Print or verify the message authentication code of a file or a pipe";
@@ -196,7 +196,7 @@ static MACS: Group<'static> = group! {
   printf 'a message' | cukvashe mac cmac --key-file KEY";
 };
 
-static KEYS: Group<'static> = group! {
+static KEYS: CommandGroup<'static> = group! {
     "": "";
 
     "check-value": "Print the check value (KCV) of a key, six digits or four";
@@ -227,7 +227,7 @@ static KEYS: Group<'static> = group! {
   cukvashe combine --part-file one.part --part-file two.part";
 };
 
-static CARDS: Group<'static> = group! {
+static CARDS: CommandGroup<'static> = group! {
     "": "";
 
     "dukpt": "Print a key of a transaction, from the base derivation key (BDK) or the initial key (ANSI X9.24-1)";
@@ -251,7 +251,7 @@ static CARDS: Group<'static> = group! {
     --expiry 8701 --service 101 --key-file KEY";
 };
 
-static PIN: Group<'static> = group! {
+static PIN: CommandGroup<'static> = group! {
     "pin": "Print the block of a PIN, the PIN of a block, or a block under another key";
 
     "encode": "Print the block of a PIN";
@@ -281,7 +281,7 @@ static PIN: Group<'static> = group! {
     --account 4012345678909 --key-file KEY --to-key-file TO_KEY";
 };
 
-static PVV: Group<'static> = group! {
+static PVV: CommandGroup<'static> = group! {
     "pvv": "Print the PIN verification value (PVV) of a PIN, or whether it is right";
 
     "make": "Print the PIN verification value of a PIN under a key pair, four digits";
@@ -297,7 +297,7 @@ static PVV: Group<'static> = group! {
     --account 4111111111111111 --index 1 --value 9464 --key-file KEY";
 };
 
-static OFFSET: Group<'static> = group! {
+static OFFSET: CommandGroup<'static> = group! {
     "offset": "Print the offset of a PIN, or whether it is right (IBM 3624)";
 
     "make": "Print the offset of a PIN";
@@ -324,7 +324,7 @@ static OFFSET: Group<'static> = group! {
     --validation 4123456789012345 --table 0123456789012345 --key-file KEY";
 };
 
-static EMV: Group<'static> = group! {
+static EMV: CommandGroup<'static> = group! {
     "emv": "Print keys and cryptograms of a card (EMV 4.3, Book 2)";
 
     "card-key": "Print the key of a card, from the issuer's master key (IMK)";
@@ -374,7 +374,7 @@ static EMV: Group<'static> = group! {
     --status 00820000 --key-file KEY";
 };
 
-static KEY_BLOCK: Group<'static> = group! {
+static KEY_BLOCK: CommandGroup<'static> = group! {
     "key-block": "Print a key block, what it says of its key, or the key (ANSI X9.143, TR-31)";
 
     "header": "Print the fields of a block's header and its optional blocks, none authenticated";
@@ -417,7 +417,7 @@ static KEY_BLOCK: Group<'static> = group! {
 
 /// The groups, in the help's order. Each is a static of its own, since the time of a proof grows by the
 /// square of what a static holds.
-pub fn groups() -> [&'static Group<'static>; 12] {
+pub fn groups() -> [&'static CommandGroup<'static>; 12] {
     [
         &ENCRYPTION,
         &DECRYPTION,

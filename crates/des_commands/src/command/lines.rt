@@ -4,7 +4,7 @@ ghost use Rattle.std.specs.Prelude.{◌≡◌};
 ghost use Rattle.des_commands.specs.LineFormats.{source_of};
 
 use super::streams::Output;
-use crate::lines::readings::LineCoding;
+use crate::lines::line_kind::LineCoding;
 use des_columns::pbe::Algorithm;
 use des_columns::pgcrypto::Scheme;
 use des_lines::source::Source;

@@ -230,7 +230,7 @@ pub fn blocks_before(request: &StreamRequest) -> u64
 }
 
 // How the first block that is read goes on. A vector that is the first block is passed over as a
-// block, chained from zeros; one that is random, or of a password, is `vector`.
+// block, by CBC from zeros; one that is random, or of a password, is `vector`.
 fn begin_of(asked: Option<Vector>, vector: [u8; 8]) -> Mode
     ensures { result ≡ begin_by asked vector }
 {

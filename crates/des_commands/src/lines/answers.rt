@@ -6,7 +6,7 @@ ghost use Rattle.std.specs.Str.{chars};
 ghost use Rattle.des_commands.specs.LineAnswers.{is_plain as is_plain_of, is_printable_character as is_printable_character_of, is_text as is_text_of, is_printable as is_printable_of, answer_of, AddsAnswer, Outcome, IsFaultOf, IsOpened, IsOutcome};
 
 use super::line_fault::LineFault;
-use super::readings::Reading;
+use super::line_kind::LineKind;
 use des_columns::status::{
     ERR_BASE64, ERR_BLOCKS, ERR_KEY_NUMBER, ERR_NOT_ENCRYPTED, ERR_SALT_LENGTH, OK,
 };
@@ -117,22 +117,22 @@ fn add_opened(
 pub fn add_outcome(
     alloc: Global,
     writes_digits: bool,
-    reading: Reading,
+    kind: LineKind,
     text: &[u8],
     status: i32,
     out: &mut Vec<u8>,
 ) -> Result<Option<LineFault>, AllocError>
     ensures { IfOk result (λ fault. (outcome : Outcome)
-        × IsOutcome writes_digits reading text.now status outcome
+        × IsOutcome writes_digits kind text.now status outcome
         × AddsAnswer outcome fault out.old.items out.new.items) }
 {
-    match reading {
-        Reading::Value => add_opened(alloc, writes_digits, text, status, out),
-        Reading::Empty => Ok(None),
-        Reading::Null(word) => {
+    match kind {
+        LineKind::Value => add_opened(alloc, writes_digits, text, status, out),
+        LineKind::Empty => Ok(None),
+        LineKind::Null(word) => {
             out.extend_from_slice(word.text())?;
             Ok(None)
         }
-        Reading::Faulty(fault) => Ok(Some(fault)),
+        LineKind::Faulty(fault) => Ok(Some(fault)),
     }
 }

@@ -5,14 +5,14 @@ ghost use Rattle.des_columns.specs.Columns.{pieces};
 ghost use Rattle.des_columns.specs.Readings.{IsColumnRead};
 ghost use Rattle.des_commands.specs.LineColumns.{OpensColumn};
 
-use super::readings::Reading;
+use super::line_kind::LineKind;
 use std::alloc::{AllocError, Global};
 
 /// Lines that were read, and their values as a column: one after another. A line without a value has
 /// an empty one.
 #[derive(Drop)]
 pub struct LineColumn {
-    pub readings: Vec<Reading>,
+    pub kinds: Vec<LineKind>,
     pub values: Vec<u8>,
     pub lengths: Vec<usize>,
     /// The texts, each from where its value begins.
@@ -28,7 +28,7 @@ impl LineColumn {
     /// No lines.
     pub fn new(alloc: Global) -> LineColumn {
         LineColumn {
-            readings: Vec::new(alloc),
+            kinds: Vec::new(alloc),
             values: Vec::new(alloc),
             lengths: Vec::new(alloc),
             texts: Vec::new(alloc),
@@ -40,7 +40,7 @@ impl LineColumn {
     /// The text of line `at`, the first being 0, which begins at byte `from` of the texts.
     pub fn text(&self, at: usize, from: usize) -> &[u8]
         requires column { IsWhole self.now }
-        requires at { at < length self.now.readings.items }
+        requires at { at < length self.now.kinds.items }
         requires from { from ≡ start_of self.now.lengths.items at }
         ensures { result.now ≡ text_at self.now.texts.items self.now.lengths.items
             self.now.text_lengths.items at }

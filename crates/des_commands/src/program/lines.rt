@@ -31,7 +31,7 @@ const LONGEST_KEY_FILE: usize = 65536;
 
 // A request, with what was read for it.
 #[derive(Clone, Copy)]
-struct Task<'a> {
+struct LinesTask<'a> {
     request: &'a LinesRequest<'a>,
     // The password, the key string, the key, or what the server's file of keys has.
     secret: &'a [u8],
@@ -96,7 +96,7 @@ fn answer_lines<R: BufRead, W: Write, E: Write>(
     }
 }
 
-impl<'a> Task<'a> {
+impl<'a> LinesTask<'a> {
     // Answers the lines of a reader, and returns the status.
     fn run<R: Read + Drop, W: Write>(
         self,
@@ -152,7 +152,11 @@ fn end_file(
 }
 
 // Writes where the request says.
-fn run_to_output<R: Read + Drop>(rt: &HostRuntime, task: Task, reader: R) -> Result<u8, FaultKind> {
+fn run_to_output<R: Read + Drop>(
+    rt: &HostRuntime,
+    task: LinesTask,
+    reader: R,
+) -> Result<u8, FaultKind> {
     let output = task.request.output;
     let secret = task.request.secret.source();
     match targets::open(rt, output, Access::OfFolder, secret)? {
@@ -174,7 +178,7 @@ fn run_to_output<R: Read + Drop>(rt: &HostRuntime, task: Task, reader: R) -> Res
 
 fn run_reader<R: Read + Drop>(
     rt: &HostRuntime,
-    task: Task,
+    task: LinesTask,
     reader: R,
     total: Option<u64>,
 ) -> Result<u8, FaultKind> {
@@ -185,7 +189,7 @@ fn run_reader<R: Read + Drop>(
     outcome
 }
 
-fn run_input(rt: &HostRuntime, task: Task) -> Result<u8, FaultKind> {
+fn run_input(rt: &HostRuntime, task: LinesTask) -> Result<u8, FaultKind> {
     match task.request.input {
         Source::File(path) => {
             let input = files::open(rt, path)?;
@@ -253,7 +257,7 @@ pub fn lines_status<'a>(rt: &HostRuntime, request: &LinesRequest<'a>) -> Result<
     let secret = secret_in(rt, request)?;
     let digits = vector_digits(request.format).as_bytes();
     let vector = bytes_of_digits(rt.alloc(), digits).map_err(|kind| vector_fault(kind))?;
-    let task = Task {
+    let task = LinesTask {
         request: &*request,
         secret: secret.as_slice(),
         vector: vector.as_slice(),

@@ -24,7 +24,7 @@ use std::io::{Read, Write};
 
 // A request, with what was read for it.
 #[derive(Clone, Copy)]
-struct Task<'a> {
+struct StreamTask<'a> {
     request: &'a StreamRequest<'a>,
     // The key, or the password.
     secret: &'a [u8],
@@ -34,7 +34,7 @@ struct Task<'a> {
     skipped: u64,
 }
 
-impl<'a> Task<'a> {
+impl<'a> StreamTask<'a> {
     // Encrypts or decrypts to a writer, which is given the bytes, or their digits and a line end.
     fn run<R: Read, W: Write>(
         self,
@@ -82,7 +82,11 @@ impl<'a> Task<'a> {
 // ---- the output
 
 // Writes where the request says.
-fn run_to_output<R: Read>(rt: &HostRuntime, task: Task, reader: &mut R) -> Result<(), FaultKind> {
+fn run_to_output<R: Read>(
+    rt: &HostRuntime,
+    task: StreamTask,
+    reader: &mut R,
+) -> Result<(), FaultKind> {
     let request = task.request;
     match targets::open(
         rt,
@@ -113,7 +117,7 @@ fn run_to_output<R: Read>(rt: &HostRuntime, task: Task, reader: &mut R) -> Resul
 // Reads from a reader, and writes where the request says.
 fn run_reader<R: Read + Drop>(
     rt: &HostRuntime,
-    task: Task,
+    task: StreamTask,
     reader: R,
     total: Option<u64>,
 ) -> Result<(), FaultKind> {
@@ -136,7 +140,7 @@ const PREFIX_IN_BASE64: [u8; 8] = *b"U2FsdGVk";
 // the words do not announce is refused, also in Base64.
 fn run_from_start<R: Read + Drop>(
     rt: &HostRuntime,
-    task: Task,
+    task: StreamTask,
     reader: R,
     total: Option<u64>,
 ) -> Result<(), FaultKind> {
@@ -171,7 +175,7 @@ fn may_seek(request: &StreamRequest) -> bool {
 }
 
 // Reads a file. By a key it is sought to a part, and then its beginning is not looked at.
-fn run_file(rt: &HostRuntime, task: Task, path: &str) -> Result<(), FaultKind> {
+fn run_file(rt: &HostRuntime, task: StreamTask, path: &str) -> Result<(), FaultKind> {
     let mut input = files::open(rt, path)?;
     let skipped = if may_seek(task.request) {
         input.seek_to_last(task.skipped)
@@ -183,7 +187,7 @@ fn run_file(rt: &HostRuntime, task: Task, path: &str) -> Result<(), FaultKind> {
     if skipped == task.skipped {
         run_from_start(rt, task, input.file, total)
     } else {
-        run_reader(rt, Task { skipped, ..task }, input.file, total)
+        run_reader(rt, StreamTask { skipped, ..task }, input.file, total)
     }
 }
 
@@ -216,7 +220,11 @@ pub fn tell_hex(rt: &HostRuntime, fault: HexFault, input: &str) -> Result<u8, Fa
 }
 
 // Does the work with the bytes that a reader gives as Base64. A text that is none is told by its line.
-fn run_encoded<R: Read + Drop>(rt: &HostRuntime, task: Task, reader: R) -> Result<u8, FaultKind> {
+fn run_encoded<R: Read + Drop>(
+    rt: &HostRuntime,
+    task: StreamTask,
+    reader: R,
+) -> Result<u8, FaultKind> {
     let mut reader = Base64Reader::new(reader, &STANDARD);
     let outcome = run_from_start(rt, task, &mut reader, None);
     match reader.line_of_fault() {
@@ -226,7 +234,7 @@ fn run_encoded<R: Read + Drop>(rt: &HostRuntime, task: Task, reader: R) -> Resul
 }
 
 // Reads Base64, and does the work with its bytes.
-fn run_base64(rt: &HostRuntime, task: Task) -> Result<u8, FaultKind> {
+fn run_base64(rt: &HostRuntime, task: StreamTask) -> Result<u8, FaultKind> {
     match task.request.input {
         Source::File(path) => run_encoded(rt, task, files::open(rt, path)?.file),
         _ => run_encoded(rt, task, rt.stdin()),
@@ -234,7 +242,11 @@ fn run_base64(rt: &HostRuntime, task: Task) -> Result<u8, FaultKind> {
 }
 
 // Does the work with the bytes whose digits a reader gives. A text that has others is told.
-fn run_digits<R: Read + Drop>(rt: &HostRuntime, task: Task, reader: R) -> Result<u8, FaultKind> {
+fn run_digits<R: Read + Drop>(
+    rt: &HostRuntime,
+    task: StreamTask,
+    reader: R,
+) -> Result<u8, FaultKind> {
     let mut reader = HexReader::new(reader);
     let outcome = run_from_start(rt, task, &mut reader, None);
     match reader.fault() {
@@ -244,7 +256,7 @@ fn run_digits<R: Read + Drop>(rt: &HostRuntime, task: Task, reader: R) -> Result
 }
 
 // Reads hexadecimal digits, and does the work with their bytes.
-fn run_hexadecimal(rt: &HostRuntime, task: Task) -> Result<u8, FaultKind> {
+fn run_hexadecimal(rt: &HostRuntime, task: StreamTask) -> Result<u8, FaultKind> {
     match task.request.input {
         Source::File(path) => run_digits(rt, task, files::open(rt, path)?.file),
         _ => run_digits(rt, task, rt.stdin()),
@@ -302,7 +314,7 @@ fn fault_of<'a>(kind: FaultKind, request: &StreamRequest<'a>) -> Fault<'a> {
 
 // Encrypts or decrypts by a secret that is taken. Returns 0, or the status of a fault that was told.
 fn run_taken(rt: &HostRuntime, request: &StreamRequest, secret: &[u8]) -> Result<u8, FaultKind> {
-    let task = Task {
+    let task = StreamTask {
         request,
         secret,
         random: random_for(rt, request)?,

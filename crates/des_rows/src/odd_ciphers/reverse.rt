@@ -6,7 +6,7 @@ ghost use Rattle.des_rows.specs.OddCiphers.{IsBlock-reverse};
 
 use des::cipher::{BlockCipher, BlockCipherDecrypt, BlockCipherEncrypt, BlockSizeUser};
 
-/// The cipher without a key that answers a block with its bytes in the opposite order, in each
+/// The cipher without a key that takes a block to its bytes in the opposite order, in each
 /// direction.
 #[derive(Clone, Copy)]
 pub struct Reverse;

@@ -8,7 +8,7 @@ use des::cipher::{
     KeyedCipher,
 };
 
-/// The cipher that answers a block with the block xor the key, in each direction.
+/// The cipher that takes a block to the block xor the key, in each direction.
 #[derive(Drop)]
 pub struct XorKey {
     key: [u8; 8],
@@ -16,7 +16,7 @@ pub struct XorKey {
 
 impl XorKey {
     // The block xor the key.
-    fn answer(&self, block: &mut [u8; 8])
+    fn xor(&self, block: &mut [u8; 8])
         ensures { block.new ≡ xored self.now.key block.old }
     {
         let word = u64::from_be_bytes(*block) ^ u64::from_be_bytes(self.key);
@@ -55,7 +55,7 @@ impl BlockCipherEncrypt for XorKey {
     ghost encrypted = { λ cipher. xored (key_of cipher) };
 
     fn encrypt_block(&self, block: &mut [u8; 8]) {
-        self.answer(block);
+        self.xor(block);
     }
 }
 
@@ -63,7 +63,7 @@ impl BlockCipherDecrypt for XorKey {
     ghost decrypted = { λ cipher. xored (key_of cipher) };
 
     fn decrypt_block(&self, block: &mut [u8; 8]) {
-        self.answer(block);
+        self.xor(block);
     }
 }
 

@@ -4,8 +4,8 @@ use crate::tests::known::{DES, EDE2, EDE3, EEE2, EEE3, Known, LIST_PARTS, PARTS}
 use crate::tests::{blocks, generic, lengths, lists};
 use des::cipher::{AlgorithmName, KeyedCipher, ParBlocksSizeUser};
 
-// Whether a cipher of the first parts of a key answers as it must.
-fn answers<C: KeyedCipher + Clone + Drop>(known: &Known) -> bool {
+// Whether a cipher of the first parts of a key gives what is known of it.
+fn gives_known<C: KeyedCipher + Clone + Drop>(known: &Known) -> bool {
     match C::new_from_slice(known.key(&PARTS)) {
         Ok(cipher) => {
             blocks::passes(&cipher, known)
@@ -16,9 +16,9 @@ fn answers<C: KeyedCipher + Clone + Drop>(known: &Known) -> bool {
     }
 }
 
-fn answers_list<C: KeyedCipher + Drop>(known: &Known) -> bool {
+fn gives_known_list<C: KeyedCipher + Drop>(known: &Known) -> bool {
     match C::new_from_slice(known.key(&LIST_PARTS)) {
-        Ok(cipher) => lists::answers_list(&cipher, known),
+        Ok(cipher) => lists::gives_known(&cipher, known),
         Err(_) => false,
     }
 }
@@ -30,9 +30,9 @@ where
 {
     lengths::has_constants::<C>(known)
         && lengths::takes_its_length_alone::<C>(8 * known.parts)
-        && answers::<C>(known)
+        && gives_known::<C>(known)
         && blocks::complements::<C>(known)
-        && answers_list::<C>(known)
+        && gives_known_list::<C>(known)
 }
 
 fn triple_ciphers_pass() -> bool {

@@ -51,7 +51,7 @@ fn are_refused<C: BlockCipher>(cipher: &C, input: &[[u8; 8]], output: &mut [[u8;
     true
 }
 
-// Whether lists of two lengths are refused, and empty ones answered in place and from list to list.
+// Whether lists of two lengths are refused, and empty ones taken in place and from list to list.
 pub fn refuses<C: BlockCipher>(cipher: &C) -> bool {
     cipher.encrypt_blocks(&mut []);
     cipher.decrypt_blocks(&mut []);

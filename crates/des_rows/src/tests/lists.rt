@@ -11,13 +11,13 @@ fn has(list: &List, digits: &str) -> bool {
     [list[0], list[64], list[127], list[129]] == blocks(digits)
 }
 
-// Whether a cipher answers so, encrypted, decrypted, and decrypted by CBC.
-pub fn answers_list<C: BlockCipher>(cipher: &C, known: &Known) -> bool {
+// Whether a cipher encrypts and decrypts a list so, and decrypts it by CBC.
+pub fn gives_known<C: BlockCipher>(cipher: &C, known: &Known) -> bool {
     let mut lists: [List; 3] = [multiples(STEP); 3];
     cipher.encrypt_blocks(&mut lists[0]);
     cipher.decrypt_blocks(&mut lists[1]);
     cbc::decrypt(cipher, &IV, &mut lists[2]);
     has(&lists[0], known.encrypted)
         && has(&lists[1], known.decrypted)
-        && has(&lists[2], known.unchained)
+        && has(&lists[2], known.decrypted_by_cbc)
 }

@@ -74,13 +74,13 @@ fn p_moves_the_first_bit(rt: HostRuntime) {
     assert_eq!(rt; p(0x8000000000000000), 0x0080000000000000);
 }
 
-// Whether a cipher takes the block of the worked example to its answer, and back.
+// Whether a cipher takes the block of the worked example to its ciphertext, and back.
 fn gives_the_worked_example<C: BlockCipher>(cipher: &C) -> bool {
     let block = 0x0123456789abcdefu64.to_be_bytes();
-    let (mut answer, mut back) = ([0xa5; 8], [0xa5; 8]);
-    cipher.encrypt_block_b2b(&block, &mut answer);
-    cipher.decrypt_block_b2b(&answer, &mut back);
-    u64::from_be_bytes(answer) == 0x85e813540f0ab405 && back == block
+    let (mut ciphertext, mut back) = ([0xa5; 8], [0xa5; 8]);
+    cipher.encrypt_block_b2b(&block, &mut ciphertext);
+    cipher.decrypt_block_b2b(&ciphertext, &mut back);
+    u64::from_be_bytes(ciphertext) == 0x85e813540f0ab405 && back == block
 }
 
 #[test]

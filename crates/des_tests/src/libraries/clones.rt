@@ -19,14 +19,14 @@ const TWO: [u8; 16] = *b"\x01\x23\x45\x67\x89\xab\xcd\xef\x01\x23\x45\x67\x89\xa
 const THREE: [u8; 24] =
     *b"\x01\x23\x45\x67\x89\xab\xcd\xef\x01\x23\x45\x67\x89\xab\xcd\xef\x01\x23\x45\x67\x89\xab\xcd\xef";
 
-// Whether a clone of the cipher answers so.
-fn is_cloned<C: BlockCipherEncrypt + Clone + Drop>(cipher: &C, answer: [u8; 8]) -> bool {
+// Whether a clone of the cipher encrypts so.
+fn is_cloned<C: BlockCipherEncrypt + Clone + Drop>(cipher: &C, encrypted: [u8; 8]) -> bool {
     let Ok(clone) = cipher.clone() else {
         return false;
     };
     let mut block = BLOCK;
     clone.encrypt_block(&mut block);
-    block == answer
+    block == encrypted
 }
 
 // The triple ciphers of both libraries have one body, over their single DES.

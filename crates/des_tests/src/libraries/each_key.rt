@@ -14,27 +14,31 @@ const COUNTS: [usize; 9] = [0, 1, 2, 127, 128, 129, 256, 257, MOST];
 
 type List = [[u8; 8]; MOST];
 
-// Whether the first blocks of a list are answered so, and taken back.
-fn answers_prefix<S: Slice, C: KeyForEach>(keys: &[C::Key], count: usize, answers: &List) -> bool {
+// Whether the first blocks of a list are encrypted so, and decrypted again.
+fn encrypts_prefix<S: Slice, C: KeyForEach>(
+    keys: &[C::Key],
+    count: usize,
+    ciphertext: &List,
+) -> bool {
     let plain: List = multiples(STEP);
     let mut list = plain;
     let (Some(keys), Some(blocks)) = (keys.get(..count), list.get_mut(..count)) else {
         return false;
     };
     C::encrypt_each_by::<S>(keys, blocks).is_ok()
-        && answers.get(..count) == Some(&*blocks)
+        && ciphertext.get(..count) == Some(&*blocks)
         && C::decrypt_each_by::<S>(keys, blocks).is_ok()
         && list == plain
 }
 
-// Whether prefixes of the list are answered as one block at a time, and taken back.
-fn answers_each<S: Slice, C: KeyForEach + Drop>(keys: &[C::Key]) -> bool {
-    let mut answers: List = multiples(STEP);
-    for (key, block) in keys.iter().zip(answers.iter_mut()) {
+// Whether prefixes of the list are encrypted as one block at a time, and decrypted again.
+fn encrypts_each<S: Slice, C: KeyForEach + Drop>(keys: &[C::Key]) -> bool {
+    let mut ciphertext: List = multiples(STEP);
+    for (key, block) in keys.iter().zip(ciphertext.iter_mut()) {
         C::new(key).encrypt_block(block);
     }
     for count in COUNTS {
-        if !answers_prefix::<S, C>(keys, count, &answers) {
+        if !encrypts_prefix::<S, C>(keys, count, &ciphertext) {
             return false;
         }
     }
@@ -42,8 +46,8 @@ fn answers_each<S: Slice, C: KeyForEach + Drop>(keys: &[C::Key]) -> bool {
 }
 
 fn ciphers_pass() -> bool {
-    answers_each::<u64x2, TdesEee2>(&keys::<16, MOST>(13))
-        && answers_each::<u64x4, TdesEee3>(&keys::<24, MOST>(15))
+    encrypts_each::<u64x2, TdesEee2>(&keys::<16, MOST>(13))
+        && encrypts_each::<u64x4, TdesEee3>(&keys::<24, MOST>(15))
 }
 
 #[test]

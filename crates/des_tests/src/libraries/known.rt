@@ -49,7 +49,7 @@ pub const IV: [u8; 8] = *b"\x12\x34\x56\x78\x90\xab\xcd\xef";
 pub struct Known {
     pub encrypted: &'static str,
     pub decrypted: &'static str,
-    pub unchained: &'static str,
+    pub decrypted_by_cbc: &'static str,
 }
 
 // OpenSSL's: three runs of `openssl enc -provider legacy -provider default -des-ecb -nopad -K PART`,
@@ -57,11 +57,11 @@ pub struct Known {
 pub const EEE3: Known = Known {
     encrypted: "c1ac664eef5bf5d7 540a46eb589c5a60 f525c2d8d718726d 05c0f33d46e56b7c",
     decrypted: "a4f8fbb1984eef53 b7a5aa4a6ee2c111 83ee7f923c8d8889 084a4e1a4bd305dc",
-    unchained: "b6ccadc908e522bc f00bbe308fa56cc0 0cb25767fe02d32b 99e8fdde9e35f25c",
+    decrypted_by_cbc: "b6ccadc908e522bc f00bbe308fa56cc0 0cb25767fe02d32b 99e8fdde9e35f25c",
 };
 
 pub const EEE2: Known = Known {
     encrypted: "968f718a197d21d4 8b5d7f9a8ef505ed a2134fa39fc4cad1 397ac37ee4dcd82b",
     decrypted: "1dbbba364dbbd97b 9dd3c79ec0a02839 01562c529aa9a6a2 98e98e75e83df142",
-    unchained: "0f8fec4edd101494 da7dd3e421e785e8 8e0a04a75826fd00 094b3db13ddb06c2",
+    decrypted_by_cbc: "0f8fec4edd101494 da7dd3e421e785e8 8e0a04a75826fd00 094b3db13ddb06c2",
 };

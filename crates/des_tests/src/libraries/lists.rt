@@ -15,15 +15,15 @@ fn has(list: &List, digits: &str) -> bool {
     [list[0], list[64], list[127], list[129]] == blocks(digits)
 }
 
-// Whether a list is answered so encrypted, decrypted, and decrypted by CBC.
+// Whether a list was encrypted and decrypted so, and decrypted by CBC.
 fn are(lists: &[List; 3], known: &Known) -> bool {
     has(&lists[0], known.encrypted)
         && has(&lists[1], known.decrypted)
-        && has(&lists[2], known.unchained)
+        && has(&lists[2], known.decrypted_by_cbc)
 }
 
 // Whether a cipher does so by the list calls that name no width.
-fn answers_many<C: ManyBlocks>(cipher: &C, known: &Known) -> bool {
+fn gives_known_by_many<C: ManyBlocks>(cipher: &C, known: &Known) -> bool {
     let mut lists: [List; 3] = [multiples(STEP); 3];
     cipher.encrypt_many(&mut lists[0]);
     cipher.decrypt_many(&mut lists[1]);
@@ -32,7 +32,7 @@ fn answers_many<C: ManyBlocks>(cipher: &C, known: &Known) -> bool {
 }
 
 // Whether keys do that are spread over slices of a width.
-fn spread_keys_answer<S: Slice>(keys: &SpreadKeys<S>, known: &Known) -> bool {
+fn spread_keys_give_known<S: Slice>(keys: &SpreadKeys<S>, known: &Known) -> bool {
     let mut lists: [List; 3] = [multiples(STEP); 3];
     keys.encrypt_many(&mut lists[0]);
     keys.decrypt_many(&mut lists[1]);
@@ -41,7 +41,7 @@ fn spread_keys_answer<S: Slice>(keys: &SpreadKeys<S>, known: &Known) -> bool {
 }
 
 // Whether a cipher does by the calls that every cipher has.
-fn answers<C: BlockCipher>(cipher: &C, known: &Known) -> bool {
+fn gives_known<C: BlockCipher>(cipher: &C, known: &Known) -> bool {
     let mut lists: [List; 3] = [multiples(STEP); 3];
     cipher.encrypt_blocks(&mut lists[0]);
     cipher.decrypt_blocks(&mut lists[1]);
@@ -49,21 +49,21 @@ fn answers<C: BlockCipher>(cipher: &C, known: &Known) -> bool {
     are(&lists, known)
 }
 
-fn three_parts_answer() -> bool {
+fn three_parts_give_known() -> bool {
     let cipher = des_fast::TdesEee3::new(&THREE);
-    answers_many(&cipher, &EEE3)
-        && spread_keys_answer(&cipher.spread_keys::<u64x2>(), &EEE3)
-        && answers(&no_tables::TdesEee3::new(&THREE), &EEE3)
+    gives_known_by_many(&cipher, &EEE3)
+        && spread_keys_give_known(&cipher.spread_keys::<u64x2>(), &EEE3)
+        && gives_known(&no_tables::TdesEee3::new(&THREE), &EEE3)
 }
 
-fn two_parts_answer() -> bool {
+fn two_parts_give_known() -> bool {
     let cipher = des_fast::TdesEee2::new(&TWO);
-    answers_many(&cipher, &EEE2)
-        && spread_keys_answer(&cipher.spread_keys::<u64x4>(), &EEE2)
-        && answers(&no_tables::TdesEee2::new(&TWO), &EEE2)
+    gives_known_by_many(&cipher, &EEE2)
+        && spread_keys_give_known(&cipher.spread_keys::<u64x4>(), &EEE2)
+        && gives_known(&no_tables::TdesEee2::new(&TWO), &EEE2)
 }
 
 #[test]
-fn lists_are_answered_as_by_openssl(rt: HostRuntime) {
-    assert!(rt; three_parts_answer() && two_parts_answer());
+fn lists_become_those_of_openssl(rt: HostRuntime) {
+    assert!(rt; three_parts_give_known() && two_parts_give_known());
 }

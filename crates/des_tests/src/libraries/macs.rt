@@ -38,10 +38,10 @@ fn tag_of_pieces<M: Mac + Drop>(key: &[u8], head: &[u8], tail: &[u8]) -> Option<
 
 // Whether the message has the tag in two pieces, cut at every place, and the one of no bytes has its
 // own.
-fn has_tag<M: Mac + Drop>(key: &[u8], answer: [u8; 8], of_none: [u8; 8]) -> bool {
+fn has_tag<M: Mac + Drop>(key: &[u8], tag: [u8; 8], of_none: [u8; 8]) -> bool {
     for cut in 0..23usize {
         let (head, tail) = MESSAGE.split_at(cut);
-        if tag_of_pieces::<M>(key, head, tail) != Some(answer) {
+        if tag_of_pieces::<M>(key, head, tail) != Some(tag) {
             return false;
         }
     }

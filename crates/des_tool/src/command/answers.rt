@@ -6,7 +6,7 @@ ghost use Rattle.des.specs.Blocks.{AnswersEach};
 ghost use Rattle.des.specs.Cbc.{Chains, Cbc, Unchains};
 ghost use Rattle.des.specs.Relations.{IsTheOne};
 ghost use Rattle.des_tool.specs.Digits.{bytes_of_digits};
-ghost use Rattle.des_tool.specs.Request.{of_blocks, of_chain, texts};
+ghost use Rattle.des_tool.specs.Request.{of_blocks, of_cbc, texts};
 ghost use Rattle.des_tool.specs.Fault.{key_fault, tested_key_fault, vector_fault, blocks_fault, fault_of_request, fault_of, FailsBy};
 ghost use Rattle.des_tool.specs.Answer.{ReadIn, IsTextOf, IsVerdict, AnswersRequest, IsAnswer};
 ghost use Rattle.des_tool.specs.Ciphers.{in_direction, IsMadeBy};
@@ -15,7 +15,7 @@ use super::digits::{
     LONGEST_KEY, parse_blocks, parse_cipher_key, parse_key, parse_vector, text_of,
 };
 use super::fault::Fault;
-use super::request::{ChainedCipher, Cipher, Command, Direction, parse};
+use super::request::{CbcCipher, Cipher, Command, Direction, parse};
 use des::cipher::{BlockCipher, KeyedCipher};
 use des::{Des, TdesEde2, TdesEde3, TdesEee2, TdesEee3, WeakKeyError, cbc, weak_key_test};
 use std::alloc::Global;
@@ -28,9 +28,9 @@ use std::alloc::Global;
 /// digits in either case, two a byte; no block at all is a list too. The answer is the blocks'
 /// lower-case digits, in order, and a newline.
 ///
-/// `CHAINED encrypt KEY VECTOR BLOCKS` enciphers blocks by cipher block chaining (FIPS 81), from an
-/// initialization vector of 8 bytes, and `CHAINED decrypt KEY VECTOR BLOCKS` deciphers them.
-/// `CHAINED` is `des-cbc`, with a key of 8 bytes, or `ede3-cbc`, with one of 24; the rest is as
+/// `CBC-CIPHER encrypt KEY VECTOR BLOCKS` enciphers blocks by cipher block chaining (FIPS 81), from
+/// an initialization vector of 8 bytes, and `CBC-CIPHER decrypt KEY VECTOR BLOCKS` deciphers them.
+/// `CBC-CIPHER` is `des-cbc`, with a key of 8 bytes, or `ede3-cbc`, with one of 24; the rest is as
 /// above.
 ///
 /// `weak KEY` tests a key of 8, 16 or 24 bytes: the answer is `WeakKey` if `weak_key_test`
@@ -48,13 +48,13 @@ pub fn answer(alloc: Global, arguments: &[&str]) -> Result<Vec<u8>, Fault>
             key,
             blocks,
         } => blocks_text(alloc, cipher, direction, key, blocks),
-        Command::Chain {
+        Command::Cbc {
             cipher,
             direction,
             key,
             vector,
             blocks,
-        } => chain_text(alloc, cipher, direction, key, vector, blocks),
+        } => cbc_text(alloc, cipher, direction, key, vector, blocks),
         Command::Weak { key } => weak_text(alloc, key),
     }
 }
@@ -96,30 +96,30 @@ fn text_by<C: KeyedCipher + Drop>(
 {
     let cipher: C = parse_cipher_key(key)?;
     let mut blocks = parse_blocks(alloc, digits)?;
-    answer_each(&cipher, direction, blocks.as_mut_slice());
+    apply_ecb(&cipher, direction, blocks.as_mut_slice());
     text_of(alloc, blocks.as_slice())
 }
 
-fn chain_text(
+fn cbc_text(
     alloc: Global,
-    cipher: ChainedCipher,
+    cipher: CbcCipher,
     direction: Direction,
     key: &str,
     vector: &str,
     digits: &str,
 ) -> Result<Vec<u8>, Fault>
     ensures fault { FailsBy
-        (fault_of_request (of_chain cipher direction key.now vector.now digits.now)) result }
+        (fault_of_request (of_cbc cipher direction key.now vector.now digits.now)) result }
     ensures answer { IfOk result (λ text.
-        AnswersRequest (of_chain cipher direction key.now vector.now digits.now) text.items) }
+        AnswersRequest (of_cbc cipher direction key.now vector.now digits.now) text.items) }
 {
     match cipher {
-        ChainedCipher::DesCbc => chain_text_by::<Des>(alloc, direction, key, vector, digits),
-        ChainedCipher::Ede3Cbc => chain_text_by::<TdesEde3>(alloc, direction, key, vector, digits),
+        CbcCipher::DesCbc => cbc_text_by::<Des>(alloc, direction, key, vector, digits),
+        CbcCipher::Ede3Cbc => cbc_text_by::<TdesEde3>(alloc, direction, key, vector, digits),
     }
 }
 
-fn chain_text_by<C: KeyedCipher + Drop>(
+fn cbc_text_by<C: KeyedCipher + Drop>(
     alloc: Global,
     direction: Direction,
     key: &str,
@@ -137,7 +137,7 @@ fn chain_text_by<C: KeyedCipher + Drop>(
     let cipher: C = parse_cipher_key(key)?;
     let iv = parse_vector(vector)?;
     let mut blocks = parse_blocks(alloc, digits)?;
-    answer_chain(&cipher, direction, &iv, blocks.as_mut_slice());
+    apply_cbc(&cipher, direction, &iv, blocks.as_mut_slice());
     text_of(alloc, blocks.as_slice())
 }
 
@@ -162,7 +162,7 @@ fn weak_text(alloc: Global, digits: &str) -> Result<Vec<u8>, Fault>
     Ok(Vec::from_slice(alloc, text)?)
 }
 
-fn answer_each<C: BlockCipher>(cipher: &C, direction: Direction, blocks: &mut [[u8; 8]])
+fn apply_ecb<C: BlockCipher>(cipher: &C, direction: Direction, blocks: &mut [[u8; 8]])
     ensures { blocks.new
         ≡ map (in_direction direction C.encrypted C.decrypted cipher.now) blocks.old }
 {
@@ -172,12 +172,7 @@ fn answer_each<C: BlockCipher>(cipher: &C, direction: Direction, blocks: &mut [[
     }
 }
 
-fn answer_chain<C: BlockCipher>(
-    cipher: &C,
-    direction: Direction,
-    iv: &[u8; 8],
-    blocks: &mut [[u8; 8]],
-)
+fn apply_cbc<C: BlockCipher>(cipher: &C, direction: Direction, iv: &[u8; 8], blocks: &mut [[u8; 8]])
     ensures { in_direction direction
         (Cbc (C.encrypted cipher.now)) (Unchains (C.decrypted cipher.now))
         iv.now blocks.old blocks.new }

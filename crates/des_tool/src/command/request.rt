@@ -2,7 +2,7 @@
 
 ghost use Rattle.std.specs.Prelude.{◌≡◌};
 ghost use Rattle.std.specs.Option.{option_map};
-ghost use Rattle.des_tool.specs.Request.{request, request_of, cipher_of, chained_cipher_of, direction_of, texts};
+ghost use Rattle.des_tool.specs.Request.{request, request_of, cipher_of, cbc_cipher_of, direction_of, texts};
 
 // A block cipher that the program knows.
 #[derive(Clone, Copy)]
@@ -16,7 +16,7 @@ pub(super) enum Cipher {
 
 // A block cipher in CBC mode that the program knows.
 #[derive(Clone, Copy)]
-pub(super) enum ChainedCipher {
+pub(super) enum CbcCipher {
     DesCbc,
     Ede3Cbc,
 }
@@ -36,8 +36,8 @@ pub(super) enum Command<'a> {
         key: &'a str,
         blocks: &'a str,
     },
-    Chain {
-        cipher: ChainedCipher,
+    Cbc {
+        cipher: CbcCipher,
         direction: Direction,
         key: &'a str,
         vector: &'a str,
@@ -61,12 +61,12 @@ fn parse_cipher(argument: &str) -> Option<Cipher>
     }
 }
 
-fn parse_chained_cipher(argument: &str) -> Option<ChainedCipher>
-    ensures { result ≡ chained_cipher_of argument.now }
+fn parse_cbc_cipher(argument: &str) -> Option<CbcCipher>
+    ensures { result ≡ cbc_cipher_of argument.now }
 {
     match argument {
-        "des-cbc" => Some(ChainedCipher::DesCbc),
-        "ede3-cbc" => Some(ChainedCipher::Ede3Cbc),
+        "des-cbc" => Some(CbcCipher::DesCbc),
+        "ede3-cbc" => Some(CbcCipher::Ede3Cbc),
         _ => None,
     }
 }
@@ -92,8 +92,8 @@ pub(super) fn parse<'a>(arguments: &[&'a str]) -> Option<Command<'a>>
             key,
             blocks,
         }),
-        [cipher, direction, key, vector, blocks] => Some(Command::Chain {
-            cipher: parse_chained_cipher(cipher)?,
+        [cipher, direction, key, vector, blocks] => Some(Command::Cbc {
+            cipher: parse_cbc_cipher(cipher)?,
             direction: parse_direction(direction)?,
             key,
             vector,

@@ -12,8 +12,8 @@ use des_payment::{check_value, key_check_value, short_key_check_value};
 /// The check value of a key of 24 bytes: the first three bytes of what FIPS 46-3 makes of the block
 /// of zeros under it.
 pub fn check_value_of_ede3(key: &[u8; 24]) -> [u8; 3]
-    ensures { (answer : List ℕ) → EnciphersEde3 key.now (replicate 8 0) answer
-        → result ≡ take 3 answer }
+    ensures { (encrypted : List ℕ) → EnciphersEde3 key.now (replicate 8 0) encrypted
+        → result ≡ take 3 encrypted }
 {
     check_value::<TdesEde3>(key).unwrap()
 }

@@ -42,7 +42,7 @@ pub fn encrypted_pin(
         let initial = initial_key_of base.now serial.now in
         let key = pin_key_of (transaction_key_of initial serial.now) in
         (clear : List ℕ) × IsFormat0 pin.now account.now clear
-        × IsTheOne (λ answer. EnciphersEde2 key clear answer) block) }
+        × IsTheOne (λ encrypted. EnciphersEde2 key clear encrypted) block) }
 {
     let key = pin_key(&transaction_key(&initial_key(base, serial), serial));
     let mut block = encode_format_0(&Pin::new(pin)?, account)?;

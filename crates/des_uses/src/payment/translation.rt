@@ -14,8 +14,8 @@ pub fn under_another_pair(
     account: &[u8],
     block: &[u8; 8],
 ) -> Result<[u8; 8], TranslationError>
-    ensures { IfOk result (λ answer.
-        answer ≡ ede2_encryption outgoing.now (ede2_decryption incoming.now block.now)) }
+    ensures { IfOk result (λ translated.
+        translated ≡ ede2_encryption outgoing.now (ede2_decryption incoming.now block.now)) }
 {
     translate(
         incoming,
@@ -35,7 +35,7 @@ pub fn there_and_back(
     outgoing: &[u8; 16],
     block: &[u8; 8],
 ) -> Result<[u8; 8], TranslationError>
-    ensures { IfOk result (λ answer. answer ≡ block.now) }
+    ensures { IfOk result (λ back. back ≡ block.now) }
 {
     let sent = translate_format_1(incoming, outgoing, block)?;
     Ok(translate_format_1(outgoing, incoming, &sent).unwrap())

@@ -141,14 +141,14 @@ static void store(uint8_t bytes[8], uint64_t word) {
 }
 
 #define RUN(NAME, CONTEXT)                                                                                             \
-  switch (way & (DECRYPT | CBC)) {                                                                                     \
+  switch (flags & (DECRYPT | CBC)) {                                                                                   \
   case 0: return cukvashe_##NAME##_encrypt_ecb(CONTEXT, data, length);                                                 \
   case DECRYPT: return cukvashe_##NAME##_decrypt_ecb(CONTEXT, data, length);                                           \
   case CBC: return cukvashe_##NAME##_encrypt_cbc(CONTEXT, vector, data, length);                                       \
   default: return cukvashe_##NAME##_decrypt_cbc(CONTEXT, vector, data, length);                                        \
   }
 
-static int run(const cipher *keys, jint count, jint way, uint8_t vector[8], uint8_t *data, size_t length) {
+static int run(const cipher *keys, jint count, jint flags, uint8_t vector[8], uint8_t *data, size_t length) {
   switch ((size_t)count * 8) {
   case sizeof(cukvashe_des): RUN(des, &keys->des)
   case sizeof(cukvashe_tdes_ede2): RUN(tdes_ede2, &keys->ede2)
@@ -169,23 +169,23 @@ static jint take(JNIEnv *env, jlongArray words, cipher *keys) {
 }
 
 /* One block. */
-static jlong JNICALL block(JNIEnv *env, jclass class, jlongArray words, jint way, jlong value) {
+static jlong JNICALL block(JNIEnv *env, jclass class, jlongArray words, jint flags, jlong value) {
   (void)class;
   cipher keys;
   uint8_t bytes[8], vector[8] = {0};
   jint count = take(env, words, &keys);
   if (count == 0) return 0;
   store(bytes, (uint64_t)value);
-  int status = run(&keys, count, way & DECRYPT, vector, bytes, sizeof bytes);
+  int status = run(&keys, count, flags & DECRYPT, vector, bytes, sizeof bytes);
   cukvashe_wipe(&keys, 8 * (size_t)count);
   if (status != CUKVASHE_OK) fails(env, status);
-  jlong answer = (jlong)load(bytes);
+  jlong result = (jlong)load(bytes);
   cukvashe_wipe(bytes, sizeof bytes);
-  return answer;
+  return result;
 }
 
 /* Whole blocks in place, and the next vector, a piece after the other. */
-static jlong JNICALL blocks(JNIEnv *env, jclass class, jlongArray words, jint way, jlong iv, jbyteArray data, jint offset, jint length) {
+static jlong JNICALL blocks(JNIEnv *env, jclass class, jlongArray words, jint flags, jlong iv, jbyteArray data, jint offset, jint length) {
   (void)class;
   cipher keys;
   uint8_t vector[8], copy[PIECE];
@@ -197,7 +197,7 @@ static jlong JNICALL blocks(JNIEnv *env, jclass class, jlongArray words, jint wa
     size = length - done < PIECE ? length - done : PIECE;
     (*env)->GetByteArrayRegion(env, data, offset + done, size, (jbyte *)copy);
     if ((*env)->ExceptionCheck(env)) break;
-    status = run(&keys, count, way, vector, copy, (size_t)size);
+    status = run(&keys, count, flags, vector, copy, (size_t)size);
     (*env)->SetByteArrayRegion(env, data, offset + done, size, (const jbyte *)copy);
   }
   cukvashe_wipe(copy, (size_t)(length < PIECE ? length : PIECE));

@@ -12,7 +12,7 @@ use Rattle.des_commands.proofs.lines.add_answers.Goals as goal
 
 -- a line more
 more : (job : LinesJob) (column : LineColumn) (goes_on : Bool) (at : ℕ) (outcomes : List Outcome) (outcome : Outcome)
-    (l m n : Tally) (a b c : Option (List ℕ)) (x y z : List ℕ) → at < length column.readings.items
+    (l m n : Tally) (a b c : Option (List ℕ)) (x y z : List ℕ) → at < length column.kinds.items
     → AreOutcomes job.writes_digits column outcomes → AddsAnswers job true at outcomes l m a b x y
     → IsOutcomeAt job.writes_digits column at outcome → AddsAnswers job goes_on 1 (outcome ∷ []) m n b c y z
     → AreOutcomes job.writes_digits column (outcomes ++ outcome ∷ [])
@@ -38,8 +38,8 @@ lines-preserved g c =
     let at : ℕ = c.lines.at in
     let before = c.lines.invariant.answered in
     let here = c.in_ok-answer_at.ensures.answered in
-    let below : at < length c.args.column.now.readings.items =
-    omega (arith, c.lines-test.true, c.len-at-end.ensures, c.args.column.now.readings.ok.0) in
+    let below : at < length c.args.column.now.kinds.items =
+    omega (arith, c.lines-test.true, c.len-at-end.ensures, c.args.column.now.kinds.ok.0) in
     let inside : at < length lengths = omega (arith, below, c.requires.column.lengths) in
     let after = more _ c.args.column.now true at before.0 here.0 _ _ _ _ _ _ _ _ _ below before.1 before.2 here.1
     (rw c.if-not-branch.false at here.2) in
@@ -54,8 +54,8 @@ returns-then-not-branch-clause-answered g c =
     let at : ℕ = c.lines.at in
     let before = c.lines.invariant.answered in
     let here = c.in_ok-answer_at.ensures.answered in
-    let below : at < length c.args.column.now.readings.items =
-    omega (arith, c.lines-test.true, c.len-at-end.ensures, c.args.column.now.readings.ok.0) in
+    let below : at < length c.args.column.now.kinds.items =
+    omega (arith, c.lines-test.true, c.len-at-end.ensures, c.args.column.now.kinds.ok.0) in
     let after = more _ c.args.column.now false at before.0 here.0 _ _ _ _ _ _ _ _ _ below before.1 before.2 here.1
     (rw c.if-not-branch.true at here.2) in
     (before.0 ++ here.0 ∷ [], after.0, ended _ (at + 1) _ _ _ _ _ _ _ _ (omega (arith, below)) after.1)

@@ -50,7 +50,7 @@ returns-clause-answered g c =
     let added : AddsAnswer outcome fault out new = c.in_ok-fault.ensures.2 in
     let goes : Bool = c.goes_on-goes_on.result in (
       outcome,
-      subst (λ (status : ℤ). IsOutcome c.args.job.now.writes_digits c.args.reading c.args.text.now status outcome)
+      subst (λ (status : ℤ). IsOutcome c.args.job.now.writes_digits c.args.kind c.args.text.now status outcome)
           (to_z-of_z c.ranges.status) c.in_ok-fault.ensures.1,
       record {
         answers = c.in_ok-count_line.ensures.told outcome (is_of outcome fault out new added);

@@ -10,12 +10,12 @@ returns-clause-line g c =
     let line : List ℕ = c.read_until.new.buf.items in
     let consumed = rw c.clear.ensures.items at c.read_until.ensures.none_lost in
     let bytes = rw c.clear.ensures.items at c.in-Ok.ensures.bytes in
-    let added = rw c.deref.ensures.value at c.in_ok-reading.ensures in
+    let added = rw c.deref.ensures.value at c.in_ok-kind.ensures in
     let grown = size c.args.column.now.values.items c.add_value.new.values.items added.0 added.2 in
     let sized : c.len.result - c.len-start.result ≡ length added.0 =
     omega (arith, c.len.ensures, c.len-start.ensures, c.args.column.now.values.ok.0, c.add_value.new.values.ok.0, grown) in (
       line,
-      c.in_ok-reading.reading,
+      c.in_ok-kind.kind,
       added.0,
       (consumed, bytes),
       added.1,

@@ -3,11 +3,11 @@ use Rattle.std.proofs.KnownBytes.{Consumes-nil, Consumes-trans}
 use Rattle.std.specs.Io.KnownBytes.{Consumes, IsAtEnd}
 use Rattle.std.specs.List.{concat}
 use Rattle.des_commands.specs.declared.lines.columns.LineColumn.{LineColumn}
-use Rattle.des_commands.specs.declared.lines.readings.LineCoding.{LineCoding}
+use Rattle.des_commands.specs.declared.lines.line_kind.LineCoding.{LineCoding}
 use Rattle.des_commands.specs.LineColumns.{AddsLine, IsColumnOf}
-use Rattle.des_commands.specs.LineReadings.{ReadsLines}
+use Rattle.des_commands.specs.LineKinds.{ReadsLines}
 use Rattle.des_commands.proofs.LineEnds.{on_err}
-use Rattle.des_commands.proofs.LineReadings.{Consumes-lines, ReadsLines-nothing, ReadsLines-append, all_read, column_more}
+use Rattle.des_commands.proofs.LineKinds.{Consumes-lines, ReadsLines-nothing, ReadsLines-append, all_read, column_more}
 use Rattle.des_commands.proofs.lines.read_lines.Goals as goal
 
 -- there was no line
@@ -19,15 +19,15 @@ none coding true old new from to added is = cc
 -- a line more
 more : (coding : LineCoding) (there : Bool) (old new : LineColumn) (start from to : Option (List ℕ))
     → AddsLine coding there old new from to → there ≡ true → (lines : List (List ℕ)) → ReadsLines lines start from
-    → IsColumnOf coding lines old.readings.items old.values.items old.lengths.items
+    → IsColumnOf coding lines old.kinds.items old.values.items old.lengths.items
     → (all : List (List ℕ)) × ReadsLines all start to
-    × IsColumnOf coding all new.readings.items new.values.items new.lengths.items
+    × IsColumnOf coding all new.kinds.items new.values.items new.lengths.items
 more coding false old new start from to added is lines reads column = cc
 more coding true old new start from to added is lines reads column =
     let line : List ℕ = added.0 in (
       lines ++ line ∷ [],
       ReadsLines-append lines (line ∷ []) start from to reads (to, added.3, Consumes-nil to),
-      column_more coding lines old.readings.items new.readings.items old.values.items new.values.items old.lengths.items
+      column_more coding lines old.kinds.items new.kinds.items old.values.items new.values.items old.lengths.items
           new.lengths.items line added.1 added.2 column added.4 added.5 added.6 added.7,
     )
 
@@ -40,7 +40,7 @@ returns-then-not-branch-clause-lines g c =
     let ended = none _ c.in_ok-read_line.field-0 _ _ from to c.in_ok-read_line.ensures.line c.if-not-branch.true in (
       lines,
       ReadsLines-nothing lines start from to c.lines.invariant.1 ended.1,
-      subst (λ (column : LineColumn). IsColumnOf c.args.coding lines column.readings.items column.values.items column.lengths.items)
+      subst (λ (column : LineColumn). IsColumnOf c.args.coding lines column.kinds.items column.values.items column.lengths.items)
           (sym ended.0) c.lines.invariant.2,
       λ _. all_read lines start from c.lines.invariant.1 ended.2,
     )

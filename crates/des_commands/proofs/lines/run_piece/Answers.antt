@@ -4,7 +4,7 @@ use Rattle.std.proofs.lemmas.List.{take_all}
 use Rattle.std.specs.List.{concat}
 use Rattle.des_lines.proofs.Prefixes.{AppendsPrefix-written}
 use Rattle.des_commands.proofs.LineEnds.{on_err, unanswered}
-use Rattle.des_commands.proofs.LineReadings.{Consumes-lines}
+use Rattle.des_commands.proofs.LineKinds.{Consumes-lines}
 use Rattle.des_commands.proofs.LinePieces.{opened_of, runs, sizes_sum, stops, whole}
 use Rattle.des_commands.proofs.LineRuns.{GoesOn-itself}
 use Rattle.des_commands.proofs.lines.run_piece.Goals as goal

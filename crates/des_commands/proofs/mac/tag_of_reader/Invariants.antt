@@ -5,7 +5,7 @@ use Rattle.des_commands.proofs.mac.tag_of_reader.Given as goal
 -- the state stands for what was read
 abbrev pub invariant-loop : goal.invariant-loop
 invariant-loop g l = record {
-  held : (bytes : List ℕ) × Consumes (g.R.Read.remaining l.initial.reader) (g.R.Read.remaining l.reader) bytes
+  absorbed : (bytes : List ℕ) × Consumes (g.R.Read.remaining l.initial.reader) (g.R.Read.remaining l.reader) bytes
       × g.M.Mac.holds l.state l.key bytes;
-  room : 0 < length l.buffer;
+  capacity : 0 < length l.buffer;
 }

@@ -1,10 +1,10 @@
 use Rattle.std.proofs.Common.{take, drop}
-use Rattle.des_context.proofs.MacCases.{chain-alone, two-contexts}
+use Rattle.des_context.proofs.MacCases.{one-key, two-contexts}
 use Rattle.des_context.proofs.macs.tag_by.Goals as goal
 
 pub returns-else-algorithm-eq3 : goal.returns-else-algorithm-eq3
 returns-else-algorithm-eq3 g c padding key m is =
-    let alone = chain-alone _ _ _ padding key m c.if-algorithm-eq3.false is in
+    let alone = one-key _ _ _ padding key m c.if-algorithm-eq3.false is in
     rw (← is.padded_by) (c.one_cipher_tag_by.ensures key m alone.0 alone.1)
 
 pub of-requires-then-algorithm-eq3-clause-cipher_type : goal.of-requires-then-algorithm-eq3-clause-cipher_type

@@ -17,7 +17,7 @@ returns-in-Ok g c = record {
       let made = c.of.ensures key context in
       let ensured = c.in-Ok.ensures in
       Chains-related_back _ _ _
-      (IsGraphOf-by_length (g.met.C.ContextCipher.answers_by_length cipher key made) _
+      (IsGraphOf-by_length (g.met.C.ContextCipher.relates_by_length cipher key made) _
       (g.met.C.Relating.encrypts_by_relation cipher key made))
       _ _ _ (All-get_or IsBlock _ k [] below ensured.vectors)
       (All-take IsBlock _ _ (All-drop IsBlock _ _ ensured.blocks)) (g.met.C.BlockCipher.decrypted_is_block cipher)

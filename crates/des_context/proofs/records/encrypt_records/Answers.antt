@@ -6,7 +6,7 @@ use Rattle.des_context.specs.Records.{ChainsEach}
 use Rattle.des_context.proofs.RelationsByLength.{IsGraphOf-by_length}
 use Rattle.des_context.proofs.records.encrypt_records.Goals as goal
 
--- the keys are those of the cipher, whose answers the relation gives
+-- the keys are those of the cipher, whose graph the relation is
 pub returns-in-Ok : goal.returns-in-Ok
 unfolding ChainsEach
 returns-in-Ok g c = record {
@@ -17,7 +17,7 @@ returns-in-Ok g c = record {
       let made = c.of.ensures key context in
       let ensured = c.in-Ok.ensures in
       Chains-related _ _
-      (IsGraphOf-by_length (g.met.C.ContextCipher.answers_by_length cipher key made) _
+      (IsGraphOf-by_length (g.met.C.ContextCipher.relates_by_length cipher key made) _
       (g.met.C.Relating.encrypts_by_relation cipher key made))
       _ _ _ (All-get_or IsBlock _ k [] below ensured.vectors)
       (All-take IsBlock _ _ (All-drop IsBlock _ _ ensured.blocks)) (g.met.C.BlockCipher.encrypted_is_block cipher)

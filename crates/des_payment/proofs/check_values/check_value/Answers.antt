@@ -3,7 +3,7 @@ use Rattle.std.proofs.lemmas.List.Elements.{All-from_get_or}
 use Rattle.des.specs.Blocks.{AreBytes, IsBlock}
 use Rattle.des_payment.proofs.check_values.check_value.Goals as goal
 
--- the cipher is made from the key, so it answers the zero block as the key does
+-- the cipher is made from the key, so it encrypts the zero block as the key does
 pub returns-clause-value : goal.returns-clause-value
 returns-clause-value g c =
     let zeros : List ℕ = replicate 8 0 in

@@ -61,7 +61,7 @@ loop-digit-2-preserved g c =
       few = omega (arith, few_more c.loop-digit-2.count (length digits + i) (nat_le 10 digit) c.loop-digit-2.invariant.few);
     }
 
--- all digits are found, so as many as there is room for are written
+-- all digits are found, so as many as fit are written
 whole : goal.returns-clause-value
 whole g c =
     let digits : List ℕ = c.args.digits.now in

@@ -4,7 +4,7 @@ use Rattle.des_payment.specs.CardVerification.{is_decimal, is_letter}
 use Rattle.des_payment.proofs.FirstDecimals.{IsWritten}
 use Rattle.des_payment.proofs.decimals.first_decimals.Given as goal
 
--- of the digits before the index, those below ten are written, as far as there is room
+-- of the digits before the index, those below ten are written, as many as fit
 abbrev pub invariant-loop-digit : goal.invariant-loop-digit
 invariant-loop-digit g l = record {
   is_written : IsWritten l.count l.value (filter is_decimal (take l.digit-index l.digits));

@@ -17,54 +17,54 @@ use Rattle.des_payment.proofs.key_blocks.sealed_key.Goals.{After-are_blocks}
 abbrev Opened : After-are_blocks → Type 0
 Opened c =
     IsOpened c.args.version c.args.protection.now c.args.front.now c.args.text.now
-    (take c.mac_size.result c.in-Some.sealed.mac) c.unseal-answer.new.blocks
+    (take c.mac_size.result c.in-Some.sealed.mac) c.unseal-verdict.new.blocks
     (take c.in-Some.sealed.count c.in-Some.sealed.blocks)
 
 opened : (c : After-are_blocks) → AreBytes c.args.front.now → Opened c
 opened c bytes =
     opened-read c.args.version c.args.protection.now c.args.front.now c.args.text.now c.in-Some.sealed.mac
-    c.protection_keys-keys.result.encryption c.in-Some.sealed.count c.mac_size.result c.unseal-answer.new.blocks
+    c.protection_keys-keys.result.encryption c.in-Some.sealed.count c.mac_size.result c.unseal-verdict.new.blocks
     c.in-Some.sealed.blocks bytes c.requires.some c.are_blocks.ensures c.in-Some.ensures.blocks c.in-Some.ensures.mac
     (search rules) c.mac_size.ensures c.in-Some.ensures.text c.protection_keys-keys.ensures.encryption
-    c.unseal-answer.ensures.chained
+    c.unseal-verdict.ensures.chained
 
 -- the MAC is that of what was opened exactly if `unseal` says so
 abbrev IsMac : After-are_blocks → Type 0
 IsMac c =
     take c.mac_size.result c.in-Some.sealed.mac
     ≡ take (mac_size c.args.version) (tag_of c.args.version (mac_key c.args.version c.args.protection.now)
-    c.args.front.now (joined c.unseal-answer.new.blocks)
+    c.args.front.now (joined c.unseal-verdict.new.blocks)
     (joined (take c.in-Some.sealed.count c.in-Some.sealed.blocks)))
 
 tagged : (c : After-are_blocks) → List ℕ → List ℕ
 tagged c key =
-    take (mac_size c.args.version) (tag_of c.args.version key c.args.front.now (joined c.unseal-answer.new.blocks)
+    take (mac_size c.args.version) (tag_of c.args.version key c.args.front.now (joined c.unseal-verdict.new.blocks)
     (joined (take c.in-Some.sealed.count c.in-Some.sealed.blocks)))
 
-mac-ok : (c : After-are_blocks) → IsMac c → is_ok c.unseal-answer.result ≡ true
+mac-ok : (c : After-are_blocks) → IsMac c → is_ok c.unseal-verdict.result ≡ true
 unfolding tagged
-mac-ok c is = c.unseal-answer.ensures.mac.1 (is ∙ ap (tagged c) (sym c.protection_keys-keys.ensures.mac))
+mac-ok c is = c.unseal-verdict.ensures.mac.1 (is ∙ ap (tagged c) (sym c.protection_keys-keys.ensures.mac))
 
-ok-mac : (c : After-are_blocks) → is_ok c.unseal-answer.result ≡ true → IsMac c
+ok-mac : (c : After-are_blocks) → is_ok c.unseal-verdict.result ≡ true → IsMac c
 unfolding tagged
-ok-mac c ok = c.unseal-answer.ensures.mac.0 ok ∙ ap (tagged c) c.protection_keys-keys.ensures.mac
+ok-mac c ok = c.unseal-verdict.ensures.mac.0 ok ∙ ap (tagged c) c.protection_keys-keys.ensures.mac
 
 -- what is sealed was opened, and its MAC was found
 found : (c : After-are_blocks) → AreBytes c.args.front.now → (clear : List ℕ)
     → IsSealed c.args.version c.args.protection.now c.args.front.now clear c.args.text.now
-    → (clear ≡ joined c.unseal-answer.new.blocks) × (is_ok c.unseal-answer.result ≡ true)
+    → (clear ≡ joined c.unseal-verdict.new.blocks) × (is_ok c.unseal-verdict.result ≡ true)
 found c bytes clear sealed =
     let same = opened-sealed c.args.version c.args.protection.now c.args.front.now c.args.text.now
-    (take c.mac_size.result c.in-Some.sealed.mac) c.unseal-answer.new.blocks
+    (take c.mac_size.result c.in-Some.sealed.mac) c.unseal-verdict.new.blocks
     (take c.in-Some.sealed.count c.in-Some.sealed.blocks) (opened c bytes) clear sealed in
     (same.0, mac-ok c same.1)
 
 -- if the MAC was found, what was opened is sealed
-are-sealed : (c : After-are_blocks) → AreBytes c.args.front.now → is_ok c.unseal-answer.result ≡ true
-    → IsSealed c.args.version c.args.protection.now c.args.front.now (joined c.unseal-answer.new.blocks) c.args.text.now
+are-sealed : (c : After-are_blocks) → AreBytes c.args.front.now → is_ok c.unseal-verdict.result ≡ true
+    → IsSealed c.args.version c.args.protection.now c.args.front.now (joined c.unseal-verdict.new.blocks) c.args.text.now
 are-sealed c bytes ok =
     sealed-opened c.args.version c.args.protection.now c.args.front.now c.args.text.now
-    (take c.mac_size.result c.in-Some.sealed.mac) c.unseal-answer.new.blocks
+    (take c.mac_size.result c.in-Some.sealed.mac) c.unseal-verdict.new.blocks
     (take c.in-Some.sealed.count c.in-Some.sealed.blocks) (opened c bytes) (ok-mac c ok)
 
 front-bytes : (front : List ℕ) → ((i : ℕ) → Fits w8 (get_or front i 0)) → AreBytes front
@@ -93,7 +93,7 @@ pub returns-clause-opened : goal.returns-clause-opened
 returns-clause-opened c =
     let opening : After-are_blocks = (goal.at.returns-clause-opened c).After-are_blocks in
     let bytes : AreBytes c.args.front.now = front-bytes c.args.front.now c.type_inv.front in
-    let blocks : List (List ℕ) = c.unseal-answer.new.blocks in
+    let blocks : List (List ℕ) = c.unseal-verdict.new.blocks in
     let flat : List ℕ = c.as_flattened.result.now in
     let same : flat ≡ joined blocks = c.as_flattened.ensures.value in
     let sealed = are-sealed opening bytes (c.is_err.ensures.negation ∙ ap not c.if-is_err.false) in
@@ -104,7 +104,7 @@ returns-clause-opened c =
     (ap length same ∙ length-joined blocks (eight-blocks blocks c.are_blocks.ensures))
     (omega (
       arith,
-      c.unseal-answer.ensures.chained.count,
+      c.unseal-verdict.ensures.chained.count,
       length-take c.in-Some.sealed.count c.in-Some.sealed.blocks,
       c.in-Some.ensures.some.1,
     ))
@@ -123,7 +123,7 @@ returns-clause-fault c =
     let opening : After-are_blocks = (goal.at.returns-clause-fault c).After-are_blocks in
     let bytes : AreBytes c.args.front.now = front-bytes c.args.front.now c.type_inv.front in
     let flat : List ℕ = c.as_flattened.result.now in
-    let same : flat ≡ joined c.unseal-answer.new.blocks = c.as_flattened.ensures.value in
+    let same : flat ≡ joined c.unseal-verdict.new.blocks = c.as_flattened.ensures.value in
     let sealed = are-sealed opening bytes (c.is_err.ensures.negation ∙ ap not c.if-is_err.false) in
     key-fault c.args.version c.args.protection.now c.args.front.now c.args.text.now flat
     (subst (λ (clear : List ℕ). IsSealed c.args.version c.args.protection.now c.args.front.now clear c.args.text.now)

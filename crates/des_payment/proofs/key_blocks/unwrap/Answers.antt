@@ -5,7 +5,7 @@ use Rattle.std.proofs.lemmas.Result.{err_from_is_err_and}
 use Rattle.des_payment.specs.KeyBlocks.{IsKeyBlock}
 use Rattle.des_payment.specs.KeyBlockReading.{is_sealed_length}
 use Rattle.des_payment.specs.declared.key_block_header.Header.{Header}
-use Rattle.des_payment.proofs.HeldKeys.{sealed-there, seal-fault}
+use Rattle.des_payment.proofs.ReadKeyBlocks.{sealed-there, seal-fault}
 use Rattle.des_payment.proofs.KeyDataLengths.{key-data-sealed}
 use Rattle.des_payment.proofs.NamedHeaders.{named-same}
 use Rattle.des_payment.proofs.key_blocks.unwrap.Goals as goal

@@ -3,7 +3,7 @@ use mir.Val.{bool_byte}
 use Rattle.des_payment.proofs.ChosenBytes.{chosen-ones, chosen-zeros, at_mask}
 use Rattle.des_payment.proofs.masks.chosen.Goals as goal
 
--- the mask of each answer
+-- what the mask chooses
 by_mask : (condition : Bool) (mask one other : ℕ) → one < 256 → other < 256 → mask < 256
     → (mask + bool_byte condition) % 256 ≡ 0
     → bit_xor other (bit_and mask (bit_xor other one)) ≡ (if condition then one else other)

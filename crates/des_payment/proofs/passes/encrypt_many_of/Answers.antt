@@ -5,7 +5,7 @@ use Rattle.des.specs.Blocks.{AreBytes, IsBlock}
 use Rattle.des_fast.proofs.AnsweredBatches.{answered-at}
 use Rattle.des_payment.proofs.passes.encrypt_many_of.Goals as goal
 
--- a cipher made from the key answers as the key does
+-- a cipher made from the key encrypts as the key does
 pub returns : goal.returns
 returns g c =
     let key : List ℕ = g.C.Key.KeyBytes.bytes_of c.args.key.now in

@@ -2,7 +2,7 @@ use Rattle.std.proofs.Common.{ℕ, List, [], ◌++◌, ap, ◌∙◌, arith}
 use Rattle.std.proofs.lemmas.List.{length-append}
 use Rattle.des.specs.TripleCiphers.{ede3_encryption}
 use Rattle.des_mac.specs.CbcMac.{cbc_mac}
-use Rattle.des_payment.proofs.KeyedChains.{padded-whole}
+use Rattle.des_payment.proofs.KeyedCbc.{padded-whole}
 use Rattle.des_payment.proofs.sealing.encrypted_tag.Goals as goal
 
 -- the state stands for the header and the blocks, which are whole blocks

@@ -4,7 +4,7 @@ use Rattle.des.specs.Cbc.{Cbc}
 use Rattle.des.specs.TripleCiphers.{ede3_encryption}
 use Rattle.des_mac.specs.Cmac.{cmac}
 use Rattle.des_payment.specs.KeyBlocks.{joined, tag_of, mac_size}
-use Rattle.des_payment.proofs.VersionForms.{mac_size-within, chained-in_B, chained-in_A_or_C, tag_of-in_B, tag_of-in_A_or_C}
+use Rattle.des_payment.proofs.VersionForms.{mac_size-within, cbc-in_B, cbc-in_A_or_C, tag_of-in_B, tag_of-in_A_or_C}
 use Rattle.des_payment.proofs.sealing.unseal.Goals as goal
 use Rattle.des_payment.proofs.sealing.unseal.Goals.{in-B, in-A}
 
@@ -19,14 +19,14 @@ returns-clause-chained c =
       | in-B w ↦ (
           let whole : length mac ≡ 8 = c.requires.mac ∙ ap mac_size w.in-B.is in
           let vector = w.first_eight.ensures ∙ take_all 8 mac (omega arith) in
-          chained-in_B c.args.version encryption header mac blocks sealed w.in-B.is
+          cbc-in_B c.args.version encryption header mac blocks sealed w.in-B.is
           (subst (λ p. Cbc encryption mac p sealed) (sym w.blocks-is)
-          (subst (λ iv. Cbc encryption iv w.decrypt_chain.new.blocks sealed) vector w.decrypt_chain.ensures)))
+          (subst (λ iv. Cbc encryption iv w.decrypt_cbc.new.blocks sealed) vector w.decrypt_cbc.ensures)))
       | in-A w ↦
-          chained-in_A_or_C c.args.version encryption header mac blocks sealed w.in-A.is
+          cbc-in_A_or_C c.args.version encryption header mac blocks sealed w.in-A.is
           (subst (λ p. Cbc encryption (take 8 header) p sealed) (sym w.blocks-is)
-          (subst (λ iv. Cbc encryption iv w.decrypt_chain-in-A.new.blocks sealed) w.first_eight-in-A.ensures
-          w.decrypt_chain-in-A.ensures))
+          (subst (λ iv. Cbc encryption iv w.decrypt_cbc-in-A.new.blocks sealed) w.first_eight-in-A.ensures
+          w.decrypt_cbc-in-A.ensures))
     ]
 
 pub returns-clause-mac : goal.returns-clause-mac

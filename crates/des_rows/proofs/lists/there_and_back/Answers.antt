@@ -1,8 +1,8 @@
 use Rattle.std.proofs.Common.{rules}
-use Rattle.des_rows.proofs.AnsweredLists.{AnswersEach-map, map-undone}
+use Rattle.des_rows.proofs.MappedLists.{AnswersEach-map, map-undone}
 use Rattle.des_rows.proofs.lists.there_and_back.Goals as goal
 
--- the list call makes the answers by a map
+-- the list call makes the ciphertext by a map
 pub returns-clause-encrypted : goal.returns-clause-encrypted
 returns-clause-encrypted g c = search (rules, AnswersEach-map (g.C.BlockCipherEncrypt.encrypted c.args.cipher.now))
 

@@ -1,5 +1,5 @@
 use Rattle.des.proofs.RelatedLists.{IsTheOne-map_turned}
-use Rattle.des_rows.proofs.AnsweredLists.{OnOk-more}
+use Rattle.des_rows.proofs.MappedLists.{OnOk-more}
 use Rattle.des_rows.proofs.related_lists.decrypt_related_b2b.Goals as goal
 
 pub returns-clause-deciphered : goal.returns-clause-deciphered

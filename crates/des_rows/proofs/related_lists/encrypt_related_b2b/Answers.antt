@@ -1,5 +1,5 @@
 use Rattle.des.proofs.RelatedLists.{IsTheOne-map}
-use Rattle.des_rows.proofs.AnsweredLists.{OnOk-more}
+use Rattle.des_rows.proofs.MappedLists.{OnOk-more}
 use Rattle.des_rows.proofs.related_lists.encrypt_related_b2b.Goals as goal
 
 pub returns-clause-enciphered : goal.returns-clause-enciphered

@@ -6,8 +6,8 @@ use Rattle.des.specs.Complement.{complement, complement_of_byte}
 use Rattle.des.specs.Laws.ComplementBits.{IsKey-complement}
 use Rattle.des_uses.proofs.complements.encrypt_complements.Goals as goal
 
--- the cipher is made from the complemented key, so it answers as that key does, which is the complement of what the
--- key answers
+-- the cipher is made from the complemented key, so it makes of a block what that key does, which is the complement of what the
+-- key makes
 pub returns-clause-processed : goal.returns-clause-processed
 returns-clause-processed g c =
     let size : ℕ = g.C.KeySizeUser.KEY_SIZE in
@@ -22,12 +22,12 @@ returns-clause-processed g c =
     (c.told-block, All-from_get_or (λ byte. byte < 256) block 0 (λ i within. c.fits-block i)) in
     let made : g.C.KeyInit.is_made_from cipher (complement key) =
     subst (g.C.KeyInit.is_made_from cipher) c.complement_bytes.ensures c.in_ok-new_from_slice.ensures.made in
-    let answers = g.C.BlockCipherEncrypt.encrypted cipher in
-    let answered : answers c.complement_bytes-2.new.bytes
+    let function = g.C.BlockCipherEncrypt.encrypted cipher in
+    let complemented : function c.complement_bytes-2.new.bytes
     ≡ g.C.KeyedCipher.encryption (complement key) (complement block) =
-    ◌∙◌ {b = answers (complement block)} (ap answers c.complement_bytes-2.ensures)
+    ◌∙◌ {b = function (complement block)} (ap function c.complement_bytes-2.ensures)
     (g.met.C.KeyedCipher.encrypts_by_key cipher (complement key) (complement block)
     (IsKey-complement size key is_key) made (IsKey-complement 8 block is_block)) in
     ◌∙◌ {b = g.C.KeyedCipher.encryption (complement key) (complement block)}
-    (◌∙◌ {b = answers c.complement_bytes-2.new.bytes} c.encrypt_block.ensures answered)
+    (◌∙◌ {b = function c.complement_bytes-2.new.bytes} c.encrypt_block.ensures complemented)
     (g.met.C.Complementing.encryption_complements key block is_key is_block)

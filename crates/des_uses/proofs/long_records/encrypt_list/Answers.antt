@@ -4,7 +4,7 @@ use Rattle.des.specs.Blocks.{AreBytes}
 use Rattle.des_uses.proofs.BlockLists.{map-alike}
 use Rattle.des_uses.proofs.long_records.encrypt_list.Goals as goal
 
--- the cipher is made from the key, so it answers each block as the key does
+-- the cipher is made from the key, so it encrypts each block as the key does
 pub returns-clause-encrypted : goal.returns-clause-encrypted
 returns-clause-encrypted g c =
     let key : List ℕ = c.args.key.now in

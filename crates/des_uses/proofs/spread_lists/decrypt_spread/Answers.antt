@@ -4,7 +4,7 @@ use Rattle.des.specs.Blocks.{AreBytes}
 use Rattle.des_uses.proofs.BlockLists.{map-alike}
 use Rattle.des_uses.proofs.spread_lists.decrypt_spread.Goals as goal
 
--- the keys are those of the cipher, and the cipher is made from the key, so they answer each block as the key does
+-- the keys are those of the cipher, and the cipher is made from the key, so they decrypt each block as the key does
 pub returns-clause-decrypted : goal.returns-clause-decrypted
 returns-clause-decrypted g c =
     let key : List ℕ = c.args.key.now in

@@ -4,7 +4,7 @@ use Rattle.des.specs.Blocks.{AreBytes}
 use Rattle.des_uses.proofs.BlockLists.{map-alike}
 use Rattle.des_uses.proofs.spread_lists.encrypt_spread.Goals as goal
 
--- the keys are those of the cipher, and the cipher is made from the key, so they answer each block as the key does
+-- the keys are those of the cipher, and the cipher is made from the key, so they encrypt each block as the key does
 pub returns-clause-encrypted : goal.returns-clause-encrypted
 returns-clause-encrypted g c =
     let key : List ℕ = c.args.key.now in

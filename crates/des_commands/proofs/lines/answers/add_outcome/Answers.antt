@@ -1,5 +1,5 @@
 use Rattle.std.proofs.Common.{[], append-nil, refl, sym, Ok, Err}
-use Rattle.des_commands.specs.LineReadings.{null_text}
+use Rattle.des_commands.specs.LineKinds.{null_text}
 use Rattle.des_commands.proofs.lines.answers.add_outcome.Goals as goal
 
 pub returns-in-Empty : goal.returns-in-Empty

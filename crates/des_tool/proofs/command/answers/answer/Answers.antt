@@ -1,6 +1,6 @@
 use Rattle.std.proofs.Common.{rules, ◌≡◌, Some}
 use Rattle.std.proofs.lemmas.Result.{IfOk-weaker}
-use Rattle.des_tool.specs.Request.{of_blocks, of_chain, request_of, texts}
+use Rattle.des_tool.specs.Request.{of_blocks, of_cbc, request_of, texts}
 use Rattle.des_tool.proofs.OneText.{IsTheOne-IsAnswer}
 use Rattle.des_tool.proofs.command.answers.answer.Goals as goal
 
@@ -14,12 +14,12 @@ returns-in-Blocks-clause-answer c =
     IfOk-weaker c.blocks_text.result _ _
     (λ text answers. IsTheOne-IsAnswer arguments text.items (rw asked answers)) c.blocks_text.ensures.answer
 
-pub returns-in-Chain-clause-answer : goal.returns-in-Chain-clause-answer
-returns-in-Chain-clause-answer c =
+pub returns-in-Cbc-clause-answer : goal.returns-in-Cbc-clause-answer
+returns-in-Cbc-clause-answer c =
     let arguments = texts c.args.arguments.now in
     let asked : request_of (texts c.args.arguments.now)
-    ≡ Some (of_chain c.in-Chain.cipher c.in-Chain.direction c.in-Chain.key.now c.in-Chain.vector.now
-    c.in-Chain.blocks.now) =
+    ≡ Some (of_cbc c.in-Cbc.cipher c.in-Cbc.direction c.in-Cbc.key.now c.in-Cbc.vector.now
+    c.in-Cbc.blocks.now) =
     search rules in
-    IfOk-weaker c.chain_text.result _ _
-    (λ text answers. IsTheOne-IsAnswer arguments text.items (rw asked answers)) c.chain_text.ensures.answer
+    IfOk-weaker c.cbc_text.result _ _
+    (λ text answers. IsTheOne-IsAnswer arguments text.items (rw asked answers)) c.cbc_text.ensures.answer

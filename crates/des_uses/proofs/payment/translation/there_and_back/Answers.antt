@@ -33,7 +33,7 @@ module _ (incoming outgoing block : List ℕ) (from : length incoming ≡ 16) (t
 
 -- what has no fault is right
 right : (made : Result (List ℕ) TranslationError) → result_err made ≡ None → IsOk made
-right (Ok answer) none = refl
+right (Ok translated) none = refl
 right (Err fault) none = absurd (none-some fault (sym none))
 
 pub unwrap-requires : goal.unwrap-requires
@@ -45,7 +45,7 @@ unwrap-requires c =
     let is_block = IsBlock-array c.args.block.now c.told-block c.fits-block in
     let none = sym c.translate_format_1.ensures.fault ∙ ap result_err c.in_ok-sent.was in
     right c.translate_format_1-2.result
-    (c.translate_format_1-2.ensures.fault ∙ ap (rekeying_fault outgoing incoming) c.in_ok-sent.ensures.answer
+    (c.translate_format_1-2.ensures.fault ∙ ap (rekeying_fault outgoing incoming) c.in_ok-sent.ensures.translated
     ∙ none_again incoming outgoing c.args.block.now from to is_block none)
 
 pub returns : goal.returns
@@ -55,6 +55,6 @@ returns c =
     let from : length incoming ≡ 16 = search rules in
     let to : length outgoing ≡ 16 = search rules in
     let is_block = IsBlock-array c.args.block.now c.told-block c.fits-block in
-    (rw c.unwrap.ensures at c.translate_format_1-2.ensures.answer)
-    ∙ ap (rekeyed outgoing incoming) c.in_ok-sent.ensures.answer
+    (rw c.unwrap.ensures at c.translate_format_1-2.ensures.translated)
+    ∙ ap (rekeyed outgoing incoming) c.in_ok-sent.ensures.translated
     ∙ back incoming outgoing c.args.block.now from to is_block

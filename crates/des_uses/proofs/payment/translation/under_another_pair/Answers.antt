@@ -17,11 +17,11 @@ one_block pin account block other is it = digits_of-injective block other (is.2.
 again : (incoming outgoing account fill block : List ℕ) (made : Result (List ℕ) TranslationError)
     → length incoming ≡ 16 → length outgoing ≡ 16
     → IfOk made (IsTranslation incoming Format0 outgoing Format0 account fill block)
-    → IfOk made (λ answer. answer ≡ ede2_encryption outgoing (ede2_decryption incoming block))
-again incoming outgoing account fill block (Ok answer) from to (pin, other, next, is, it, same) =
+    → IfOk made (λ translated. translated ≡ ede2_encryption outgoing (ede2_decryption incoming block))
+again incoming outgoing account fill block (Ok translated) from to (pin, other, next, is, it, same) =
     let one : decryption_by incoming block ≡ next = one_block pin account _ next is it in
     let clear : ede2_decryption incoming block ≡ next = rw from at one in
-    let made : answer ≡ ede2_encryption outgoing next = rw to at same in
+    let made : translated ≡ ede2_encryption outgoing next = rw to at same in
     made ∙ sym (ap (ede2_encryption outgoing) clear)
 again incoming outgoing account fill block (Err fault) from to translated = tt
 
@@ -30,4 +30,4 @@ returns c =
     let from : length c.args.incoming.now ≡ 16 = search rules in
     let to : length c.args.outgoing.now ≡ 16 = search rules in
     again c.args.incoming.now c.args.outgoing.now c.args.account.now (replicate 10 0) c.args.block.now c.translate.result from to
-    c.translate.ensures.answer
+    c.translate.ensures.translated

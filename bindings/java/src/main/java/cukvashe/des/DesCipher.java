@@ -41,7 +41,7 @@ class DesCipher extends CipherSpi {
   private boolean decrypts;
   private boolean hasIv;
   private long iv;
-  private long chain;
+  private long chainingValue;
 
   /** Where a mode without padding stands. */
   private final long[] stream = new long[Native.STREAM_WORDS];
@@ -162,7 +162,7 @@ class DesCipher extends CipherSpi {
   }
 
   private void reset() {
-    chain = iv;
+    chainingValue = iv;
     count = 0;
     Arrays.fill(pending, (byte) 0);
     if (mode.isStream()) {
@@ -172,7 +172,7 @@ class DesCipher extends CipherSpi {
 
   // -- Blocks --
 
-  private int way() {
+  private int flags() {
     return (decrypts ? Native.DECRYPT : 0) | (mode == Mode.CBC ? Native.CBC : 0);
   }
 
@@ -184,7 +184,7 @@ class DesCipher extends CipherSpi {
     if (mode.isStream()) {
       keys.next(stream, decrypts, data, offset, length);
     } else {
-      chain = keys.run(way(), chain, data, offset, length);
+      chainingValue = keys.run(flags(), chainingValue, data, offset, length);
     }
   }
 
@@ -300,7 +300,7 @@ class DesCipher extends CipherSpi {
     int before = count + length - BLOCK;
     long last = keys.decrypted(word(before, input, offset));
     if (mode == Mode.CBC) {
-      last ^= before == 0 ? chain : word(before - BLOCK, input, offset);
+      last ^= before == 0 ? chainingValue : word(before - BLOCK, input, offset);
     }
     int padding = padding(last);
     if (padding == 0) {

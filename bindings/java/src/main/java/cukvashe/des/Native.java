@@ -28,10 +28,10 @@ final class Native {
   }
 
   /** A block, encrypted or decrypted. */
-  static native long block(long[] context, int way, long value);
+  static native long block(long[] context, int flags, long value);
 
   /** Encrypts or decrypts whole blocks in place. The next vector. */
-  static native long blocks(long[] context, int way, long iv, byte[] data, int offset, int length);
+  static native long blocks(long[] context, int flags, long iv, byte[] data, int offset, int length);
 
   /** Encrypts or decrypts the bytes that come next in a stream, in place. */
   static native void next(long[] context, long[] stream, boolean decrypts, byte[] data, int offset, int length);

@@ -37,8 +37,8 @@ final class RoundKeys {
   }
 
   /** Encrypts or decrypts whole blocks in place. The next vector. */
-  long run(int way, long iv, byte[] data, int offset, int length) {
-    return Native.blocks(context, way, iv, data, offset, length);
+  long run(int flags, long iv, byte[] data, int offset, int length) {
+    return Native.blocks(context, flags, iv, data, offset, length);
   }
 
   /** Encrypts or decrypts the bytes that come next in a stream, in place. */

@@ -6,7 +6,7 @@ use Rattle.des_commands.proofs.LineRuns.{within}
 use Rattle.des_commands.proofs.lines.columns.LineColumn.text.Goals as goal
 
 -- a text ends within the column's
-inside : (column : LineColumn) (at from size : ℕ) → IsWhole column → at < length column.readings.items
+inside : (column : LineColumn) (at from size : ℕ) → IsWhole column → at < length column.kinds.items
     → from ≡ start_of column.lengths.items at → size ≡ get_or column.text_lengths.items at size
     → from + size ≤ length column.texts.items
 inside column at from size whole below begins is =
