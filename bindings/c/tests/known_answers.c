@@ -100,7 +100,7 @@ static void is_in_one_buffer(const struct known_case *known, const struct path *
   uint8_t iv[8];
   put(&here, known->plain, length);
   memcpy(iv, known->vector, 8);
-  if (known->is_cbc_there_and_back) {
+  if (known->is_cbc) {
     CHECK(path->encrypt_cbc_to(context, iv, here.bytes, here.bytes, length) == CUKVASHE_OK && is(&here, known->answer, length));
     memcpy(iv, known->vector, 8);
     CHECK(path->decrypt_cbc_to(context, iv, here.bytes, here.bytes, length) == CUKVASHE_OK && is(&here, known->plain, length));
@@ -120,7 +120,7 @@ static void is_answered(const struct known_case *known) {
   is_in_one_buffer(known, &cipher->paths[PUBLIC_PATH], &context);
   for (int n = 0; n < count_of_paths(); n++) {
     const struct path *path = &cipher->paths[n];
-    if (known->is_cbc_there_and_back) {
+    if (known->is_cbc) {
       is_cbc_there_and_back(path, &context, known->vector, known->plain, known->answer, 8 * known->count);
       continue;
     }
@@ -137,7 +137,7 @@ static void complement(uint8_t *bytes, size_t count) {
 static void answers_case(const struct known_case *known) {
   struct known_case other = *known;
   is_answered(known);
-  if (known->is_cbc_there_and_back) return;
+  if (known->is_cbc) return;
   complement(other.key, sizeof other.key);
   complement(other.plain, sizeof other.plain);
   complement(other.answer, sizeof other.answer);
