@@ -11,7 +11,7 @@ enum { CASE_BLOCKS = 8 };
 enum { OTHER_CIPHER = -1 };
 
 struct known_case {
-  int cipher, is_cbc_there_and_back;
+  int cipher, is_cbc;
   uint8_t key[24], vector[8], plain[8 * CASE_BLOCKS], answer[8 * CASE_BLOCKS];
   size_t count;
 };
@@ -30,8 +30,8 @@ static size_t put_digits(uint8_t *bytes, const char *digits) {
 static void put_cipher(struct known_case *known, const char *name) {
   static const char *const names[CIPHERS] = {"des", "ede2", "ede3"};
   size_t length = strcspn(name, "-");
-  known->is_cbc_there_and_back = strcmp(name + length, "-cbc") == 0;
-  CHECK(known->is_cbc_there_and_back || name[length] == 0);
+  known->is_cbc = strcmp(name + length, "-cbc") == 0;
+  CHECK(known->is_cbc || name[length] == 0);
   for (known->cipher = 0; known->cipher < CIPHERS; known->cipher++)
     if (strlen(names[known->cipher]) == length && memcmp(name, names[known->cipher], length) == 0) return;
   CHECK(strncmp(name, "eee", 3) == 0);
@@ -55,12 +55,12 @@ static void put_line(struct known_case *known, const char *line) {
   }
   int words = sscanf(line, "%16s %48s %16s %16s %16s", cipher, key, plain, answer, vector);
   put_cipher(known, cipher);
-  CHECK(words == 4 + known->is_cbc_there_and_back);
+  CHECK(words == 4 + known->is_cbc);
   size_t size = put_digits(known->key, key);
   CHECK(known->cipher == OTHER_CIPHER || size == ciphers[known->cipher].key_size);
   known->count = 0;
   put_blocks(known, plain, answer);
-  if (known->is_cbc_there_and_back) CHECK(put_digits(known->vector, vector) == 8);
+  if (known->is_cbc) CHECK(put_digits(known->vector, vector) == 8);
 }
 
 /* Takes each case of a file to a test; how many. */
