@@ -21,6 +21,7 @@ pub mod AnsweredBatches
 pub mod ThreePasses
 pub mod CipherFunctionByGroups
 pub mod XoredLists
+pub mod XoredWords
 pub mod GroupWords
 pub mod FourWords
 pub mod GroupBytes
