@@ -13,8 +13,8 @@ ghost use Rattle.des_context.specs.CipherTypeLaws.{AnswersByLength, AnswersByLen
 use des::cipher::Relating;
 use des::tdes::{self, Ede2, Ede3};
 use des_fast::box_lookup::BoxLookup;
-use des_fast::single::Des;
 use des_fast::round_keys;
+use des_fast::single::Des;
 
 /// A type of cipher: DES, or triple DES in the EDE form.
 #[derive(Clone, Copy)]

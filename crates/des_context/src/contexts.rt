@@ -13,8 +13,7 @@ use crate::ciphers::CipherType;
 use crate::status::{ERR_KEY_LENGTH, OK};
 use des::cipher::{KeyInit, are_bytes};
 use des::tdes::key_part;
-use des_fast::Des;
-use des_fast::round_keys;
+use des_fast::{Des, round_keys};
 
 /// What each mark begins with: no round key has a word that does.
 pub const MARK: u64 = 0xc0de000000000000;
