@@ -9,7 +9,7 @@ ghost use Rattle.des_modes.specs.CmsKeyWrap.{Wraps};
 ghost use Rattle.des_modes.specs.Tkw.{IsSemiblock, TkwUnder};
 ghost use Rattle.des_context.specs.Bytes.{blocks_of};
 ghost use Rattle.des_context.specs.CipherTypes.{relation_of};
-ghost use Rattle.des_c.specs.KeyWraps.{semiblocks_of, IsCmsKeyLength, IsCmsWrappedLength, IsProtectionLength, IsTkwKeyLength, IsTkwWrappedLength};
+ghost use Rattle.des_c.specs.KeyWraps.{semiblocks_of, IsCmsKeyLength, IsProtectionLength, IsTkwKeyLength};
 
 use des::cipher::Relating;
 use des_context::status::{
@@ -201,11 +201,11 @@ pub extern "C" fn cukvashe_cms_unwrap_key(
     ensures protection { (result ≡ ERR_PROTECTION_KEY_LENGTH)
         ↔ ¬ (IsProtectionLength (length protection.now)) }
     ensures length { (result ≡ ERR_WRAPPED_LENGTH) ↔ (IsProtectionLength (length protection.now)
-        × ¬ (IsCmsWrappedLength (length wrapped.now))) }
+        × ¬ (IsCmsKeyLength (length wrapped.now - 16))) }
     ensures capacity { (result ≡ ERR_CAPACITY) ↔ (IsProtectionLength (length protection.now)
-        × IsCmsWrappedLength (length wrapped.now) × (length key.old < length wrapped.now / 8 - 2)) }
+        × IsCmsKeyLength (length wrapped.now - 16) × (length key.old < length wrapped.now / 8 - 2)) }
     ensures tried { ((result ≡ OK) ⊎ (result ≡ ERR_WRAPPED_KEY))
-        ↔ (IsProtectionLength (length protection.now) × IsCmsWrappedLength (length wrapped.now)
+        ↔ (IsProtectionLength (length protection.now) × IsCmsKeyLength (length wrapped.now - 16)
         × (length wrapped.now / 8 - 2 ≤ length key.old)) }
     ensures unwrapped { result ≡ OK → (iv : List ℕ) × IsBlock iv
         × Wraps (relation_of protection.now) iv
@@ -296,11 +296,11 @@ pub extern "C" fn cukvashe_tkw_unwrap_key(
     ensures protection { (result ≡ ERR_PROTECTION_KEY_LENGTH)
         ↔ ¬ (IsProtectionLength (length protection.now)) }
     ensures length { (result ≡ ERR_WRAPPED_LENGTH) ↔ (IsProtectionLength (length protection.now)
-        × ¬ (IsTkwWrappedLength (length wrapped.now))) }
+        × ¬ (IsTkwKeyLength (length wrapped.now - 4))) }
     ensures capacity { (result ≡ ERR_CAPACITY) ↔ (IsProtectionLength (length protection.now)
-        × IsTkwWrappedLength (length wrapped.now) × (length key.old < length wrapped.now / 4 - 1)) }
+        × IsTkwKeyLength (length wrapped.now - 4) × (length key.old < length wrapped.now / 4 - 1)) }
     ensures tried { ((result ≡ OK) ⊎ (result ≡ ERR_WRAPPED_KEY))
-        ↔ (IsProtectionLength (length protection.now) × IsTkwWrappedLength (length wrapped.now)
+        ↔ (IsProtectionLength (length protection.now) × IsTkwKeyLength (length wrapped.now - 4)
         × (length wrapped.now / 4 - 1 ≤ length key.old)) }
     ensures unwrapped { result ≡ OK → TkwUnder (relation_of protection.now)
         (take (length wrapped.now / 4 - 1) key.new) (semiblocks_of wrapped.now) }
