@@ -10,15 +10,9 @@ IsProtectionLength bytes = (bytes ≡ 16) ⊎ (bytes ≡ 24)
 abbrev pub IsCmsKeyLength : ℕ → Type 0
 IsCmsKeyLength bytes = (1 ≤ bytes) × (bytes % 8 ≡ 0)
 
-abbrev pub IsCmsWrappedLength : ℕ → Type 0
-IsCmsWrappedLength bytes = (24 ≤ bytes) × (bytes % 8 ≡ 0)
-
 -- TKW takes 2 to 2^28 - 1 semiblocks of four bytes, and makes one more
 abbrev pub IsTkwKeyLength : ℕ → Type 0
 IsTkwKeyLength bytes = (8 ≤ bytes) × (bytes % 4 ≡ 0) × (bytes < 2 ^ 30)
-
-abbrev pub IsTkwWrappedLength : ℕ → Type 0
-IsTkwWrappedLength bytes = (12 ≤ bytes) × (bytes % 4 ≡ 0) × (bytes ≤ 2 ^ 30)
 
 -- the semiblocks of bytes, in their order; what comes after the last whole one is in none
 abbrev pub semiblocks_of : List ℕ → List (List ℕ)

@@ -5,11 +5,11 @@
 ghost use Rattle.std.specs.Prelude.{◌≡◌, ◌≢◌, ◌⊎◌, ◌↔◌, ◌<◌, ◌≤◌, ◌+◌, ◌-◌, ◌/◌, ◌^◌, ℕ, List, length, take, drop, replicate, IsOk, OnOk, OnErr};
 ghost use Rattle.std.specs.List.{All};
 ghost use Rattle.des.specs.Blocks.{IsBlock};
-ghost use Rattle.des_modes.specs.CmsKeyWrap.{WrapsUnder};
+ghost use Rattle.des_modes.specs.CmsKeyWrap.{Wraps};
 ghost use Rattle.des_modes.specs.Tkw.{IsSemiblock, TkwUnder};
 ghost use Rattle.des_context.specs.Bytes.{blocks_of};
 ghost use Rattle.des_context.specs.CipherTypes.{relation_of};
-ghost use Rattle.des_c.specs.KeyWraps.{semiblocks_of, IsCmsKeyLength, IsCmsWrappedLength, IsProtectionLength, IsTkwKeyLength, IsTkwWrappedLength};
+ghost use Rattle.des_c.specs.KeyWraps.{semiblocks_of, IsCmsKeyLength, IsProtectionLength, IsTkwKeyLength};
 
 use des::cipher::Relating;
 use des_context::status::{
@@ -28,7 +28,7 @@ fn wrap_cms_as<C: Relating + Drop>(
 )
     requires protection { length protection.now ≡ C.KEY_SIZE }
     requires count { length wrapped.old ≡ length key.now + 2 }
-    ensures { WrapsUnder (C.relation protection.now) iv.now key.now wrapped.new }
+    ensures { Wraps (C.relation protection.now) iv.now key.now wrapped.new }
 {
     by_key::wrap_cms(&C::new_from_slice(protection).unwrap(), iv, key, wrapped);
 }
@@ -41,9 +41,9 @@ fn unwrap_cms_as<C: Relating + Drop>(
     requires protection { length protection.now ≡ C.KEY_SIZE }
     requires count { length wrapped.now ≡ length key.old + 2 }
     ensures unwrapped { OnOk result ((iv : List ℕ) × IsBlock iv
-        × WrapsUnder (C.relation protection.now) iv key.new wrapped.now) }
+        × Wraps (C.relation protection.now) iv key.new wrapped.now) }
     ensures accepted { (iv : List ℕ) (other : List (List ℕ)) → IsBlock iv
-        → WrapsUnder (C.relation protection.now) iv other wrapped.now
+        → Wraps (C.relation protection.now) iv other wrapped.now
         → IsOk result × (key.new ≡ other) }
     ensures none { OnErr result (key.new ≡ replicate (length key.old) (replicate 8 0)) }
 {
@@ -82,7 +82,7 @@ fn unwrap_tkw_as<C: Relating + Drop>(
 fn wrap_cms(protection: &[u8], iv: &[u8; 8], key: &[[u8; 8]], wrapped: &mut [[u8; 8]])
     requires protection { IsProtectionLength (length protection.now) }
     requires count { length wrapped.old ≡ length key.now + 2 }
-    ensures { WrapsUnder (relation_of protection.now) iv.now key.now wrapped.new }
+    ensures { Wraps (relation_of protection.now) iv.now key.now wrapped.new }
 {
     match protection.len() {
         16 => wrap_cms_as::<TdesEde2>(protection, iv, key, wrapped),
@@ -98,9 +98,9 @@ fn unwrap_cms(
     requires protection { IsProtectionLength (length protection.now) }
     requires count { length wrapped.now ≡ length key.old + 2 }
     ensures unwrapped { OnOk result ((iv : List ℕ) × IsBlock iv
-        × WrapsUnder (relation_of protection.now) iv key.new wrapped.now) }
+        × Wraps (relation_of protection.now) iv key.new wrapped.now) }
     ensures accepted { (iv : List ℕ) (other : List (List ℕ)) → IsBlock iv
-        → WrapsUnder (relation_of protection.now) iv other wrapped.now
+        → Wraps (relation_of protection.now) iv other wrapped.now
         → IsOk result × (key.new ≡ other) }
     ensures none { OnErr result (key.new ≡ replicate (length key.old) (replicate 8 0)) }
 {
@@ -163,7 +163,7 @@ pub extern "C" fn cukvashe_cms_wrap_key(
         × IsCmsKeyLength (length key.now) × (length wrapped.old < length key.now / 8 + 2)) }
     ensures accepted { (result ≡ OK) ↔ (IsProtectionLength (length protection.now)
         × IsCmsKeyLength (length key.now) × (length key.now / 8 + 2 ≤ length wrapped.old)) }
-    ensures wrapped { result ≡ OK → WrapsUnder (relation_of protection.now) iv.now
+    ensures wrapped { result ≡ OK → Wraps (relation_of protection.now) iv.now
         (blocks_of key.now) (take (length key.now / 8 + 2) wrapped.new) }
     ensures size { result ≡ OK → wrapped_length.new ≡ length key.now + 16 }
     ensures rest { drop (length key.now / 8 + 2) wrapped.new
@@ -201,18 +201,18 @@ pub extern "C" fn cukvashe_cms_unwrap_key(
     ensures protection { (result ≡ ERR_PROTECTION_KEY_LENGTH)
         ↔ ¬ (IsProtectionLength (length protection.now)) }
     ensures length { (result ≡ ERR_WRAPPED_LENGTH) ↔ (IsProtectionLength (length protection.now)
-        × ¬ (IsCmsWrappedLength (length wrapped.now))) }
+        × ¬ (IsCmsKeyLength (length wrapped.now - 16))) }
     ensures capacity { (result ≡ ERR_CAPACITY) ↔ (IsProtectionLength (length protection.now)
-        × IsCmsWrappedLength (length wrapped.now) × (length key.old < length wrapped.now / 8 - 2)) }
+        × IsCmsKeyLength (length wrapped.now - 16) × (length key.old < length wrapped.now / 8 - 2)) }
     ensures tried { ((result ≡ OK) ⊎ (result ≡ ERR_WRAPPED_KEY))
-        ↔ (IsProtectionLength (length protection.now) × IsCmsWrappedLength (length wrapped.now)
+        ↔ (IsProtectionLength (length protection.now) × IsCmsKeyLength (length wrapped.now - 16)
         × (length wrapped.now / 8 - 2 ≤ length key.old)) }
     ensures unwrapped { result ≡ OK → (iv : List ℕ) × IsBlock iv
-        × WrapsUnder (relation_of protection.now) iv
+        × Wraps (relation_of protection.now) iv
         (take (length wrapped.now / 8 - 2) key.new) (blocks_of wrapped.now) }
     ensures accepted { (result ≡ OK) ⊎ (result ≡ ERR_WRAPPED_KEY)
         → (iv : List ℕ) (other : List (List ℕ)) → IsBlock iv
-        → WrapsUnder (relation_of protection.now) iv other (blocks_of wrapped.now)
+        → Wraps (relation_of protection.now) iv other (blocks_of wrapped.now)
         → (result ≡ OK) × (take (length wrapped.now / 8 - 2) key.new ≡ other) }
     ensures none { result ≡ ERR_WRAPPED_KEY → take (length wrapped.now / 8 - 2) key.new
         ≡ replicate (length wrapped.now / 8 - 2) (replicate 8 0) }
@@ -296,11 +296,11 @@ pub extern "C" fn cukvashe_tkw_unwrap_key(
     ensures protection { (result ≡ ERR_PROTECTION_KEY_LENGTH)
         ↔ ¬ (IsProtectionLength (length protection.now)) }
     ensures length { (result ≡ ERR_WRAPPED_LENGTH) ↔ (IsProtectionLength (length protection.now)
-        × ¬ (IsTkwWrappedLength (length wrapped.now))) }
+        × ¬ (IsTkwKeyLength (length wrapped.now - 4))) }
     ensures capacity { (result ≡ ERR_CAPACITY) ↔ (IsProtectionLength (length protection.now)
-        × IsTkwWrappedLength (length wrapped.now) × (length key.old < length wrapped.now / 4 - 1)) }
+        × IsTkwKeyLength (length wrapped.now - 4) × (length key.old < length wrapped.now / 4 - 1)) }
     ensures tried { ((result ≡ OK) ⊎ (result ≡ ERR_WRAPPED_KEY))
-        ↔ (IsProtectionLength (length protection.now) × IsTkwWrappedLength (length wrapped.now)
+        ↔ (IsProtectionLength (length protection.now) × IsTkwKeyLength (length wrapped.now - 4)
         × (length wrapped.now / 4 - 1 ≤ length key.old)) }
     ensures unwrapped { result ≡ OK → TkwUnder (relation_of protection.now)
         (take (length wrapped.now / 4 - 1) key.new) (semiblocks_of wrapped.now) }

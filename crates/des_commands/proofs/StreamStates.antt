@@ -1,8 +1,8 @@
--- Where a stream cipher stands after the blocks before a part.
-use Rattle.std.proofs.Common.{◌≡◌, ℕ, ◌-◌, min, List, false, Option}
+-- Where a stream stands after the blocks before a part.
+use Rattle.std.proofs.Common.{◌≡◌, ℕ, ◌-◌, min, List, Option}
 use Rattle.des_io.specs.Streams.{Skips}
 use Rattle.des_io.specs.declared.mode.Mode.{Mode}
-use Rattle.des_io.specs.declared.stream_cipher.StreamCipher.{StreamCipher}
+use Rattle.des_modes.specs.declared.stream.Stream.{Stream}
 use Rattle.des_commands.specs.declared.command.streams.BlockRange.{BlockRange}
 use Rattle.des_commands.specs.declared.command.streams.Job.{Job}
 use Rattle.des_commands.specs.declared.command.streams.StreamMode.{StreamMode}
@@ -10,11 +10,11 @@ use Rattle.des_commands.specs.StreamRequests.{from_of}
 use Rattle.des_commands.specs.Jobs.{vector_of, Begins, Reaches}
 
 pub Reaches-skipped : (mode : StreamMode) (job : Job) (skipped vectors from : ℕ) (part : Option BlockRange)
-    (r middle begun : Option (List ℕ)) (first last : Mode) (vector before : List ℕ) (state : StreamCipher)
+    (r middle begun : Option (List ℕ)) (first last : Mode) (vector before : List ℕ) (stream : Stream)
     → vectors ≡ min skipped job.vectors → from ≡ from_of part → vector ≡ vector_of first → before ≡ vector_of last
     → Skips job.begin first vectors r middle → Skips first last (skipped - vectors) middle begun
-    → Begins mode false vector before from state → Reaches mode job skipped part r begun state
-Reaches-skipped mode job skipped vectors from part r middle begun first last vector before state count place is was passed
+    → Begins mode vector before from stream → Reaches mode job skipped part r begun stream
+Reaches-skipped mode job skipped vectors from part r middle begun first last vector before stream count place is was passed
     others begins = record {
       first = first;
       last = last;

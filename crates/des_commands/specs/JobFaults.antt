@@ -1,10 +1,11 @@
 -- What a stream that ended before its time has written, and what its fault says.
-use Rattle.std.specs.Prelude.{◌≡◌, ◌≢◌, ◌⊎◌, ℕ, ◌-◌, ◌^◌, min, true, List, length, Option, Some, None}
+use Rattle.std.specs.Prelude.{◌≡◌, ◌≢◌, ◌⊎◌, ℕ, ◌-◌, ◌^◌, min, List, length, Option, Some, None}
 use Rattle.std.specs.Io.KnownBytes.{Appends}
 use Rattle.des_io.specs.Streams.{Passage, passage_of, EncryptsPrefix, DecryptsPrefix, DecryptsPartPrefix, Skips}
 use Rattle.des_io.specs.StreamFaults.{FailsToEncrypt, FailsToDecrypt, FailsToSkip, FailsInPart, IsOfReading, IsOfWriting}
 use Rattle.des_io.specs.StreamCiphers.{Applies, AppliesPrefix}
-use Rattle.des_io.specs.declared.stream_cipher.StreamCipher.{StreamCipher}
+use Rattle.des_modes.specs.declared.direction.Direction.TheVariants.{Encrypt as Encrypting, Decrypt as Decrypting}
+use Rattle.des_modes.specs.declared.stream.Stream.{Stream as StreamState}
 use Rattle.des_io.specs.declared.error.StreamError.{StreamError}
 use Rattle.des_io.specs.declared.error.StreamError.TheVariants.{Start}
 use Rattle.des_io.specs.declared.mode.Mode.{Mode}
@@ -56,45 +57,34 @@ StopsPadded fault encrypted decrypted mode padding (Decrypt skipped part) passag
     × StopsHere fault decrypted next padding part
     (passage_of begun passage.read_to passage.written_from passage.written_to))
 
--- what was written begins what the bytes that were read become, and the reader or the writer failed
-abbrev pub StopsApplying : (fault : StreamError) (encryption : List ℕ → List ℕ) (state : StreamCipher) (limit : ℕ)
+-- a stream ended so: where blocks are passed over, the vector first, and nothing was written; where the reader or the writer
+-- failed; or there was no byte where a part begins
+abbrev pub StopsStream : (fault : StreamError) (encryption : List ℕ → List ℕ) (mode : StreamMode) (job : Job) (work : Work)
     (passage : Passage) → Type 0
-StopsApplying fault encryption state limit passage =
-    AppliesPrefix encryption state limit passage × (IsOfReading fault ⊎ IsOfWriting fault)
-
--- a stream cipher ended so; where blocks are passed over, the vector first, and nothing was written; or there was no byte
--- where a part begins
-abbrev pub StopsStreamWork : (fault : StreamError) (encryption : List ℕ → List ℕ) (mode : StreamMode) (job : Job)
-    (work : Work) (passage : Passage) → Type 0
-StopsStreamWork fault encryption mode job (Encrypt heading) passage =
+StopsStream fault encryption mode job (Encrypt heading) passage =
     (IsOfWriting fault × (passage.read_to ≡ passage.read_from)
     × AppendsPrefix passage.written_from passage.written_to heading.now)
-    ⊎ ((headed : Option (List ℕ)) × (state : StreamCipher) × Appends passage.written_from headed heading.now
-    × Begins mode true (vector_of job.begin) (vector_of job.begin) 0 state
-    × StopsApplying fault encryption state (2 ^ 64 - 1)
-    (passage_of passage.read_from passage.read_to headed passage.written_to))
-StopsStreamWork fault encryption mode job (Decrypt skipped part) passage =
+    ⊎ ((headed : Option (List ℕ)) × (stream : StreamState) × Appends passage.written_from headed heading.now
+    × Begins mode (vector_of job.begin) (vector_of job.begin) 0 stream
+    × AppliesPrefix encryption Encrypting stream (2 ^ 64 - 1)
+    (passage_of passage.read_from passage.read_to headed passage.written_to) × (IsOfReading fault ⊎ IsOfWriting fault))
+StopsStream fault encryption mode job (Decrypt skipped part) passage =
     (FailsToSkip fault (min skipped job.vectors) passage.read_from passage.read_to
     × (passage.written_to ≡ passage.written_from))
     ⊎ ((first : Mode) × (middle : Option (List ℕ))
     × Skips job.begin first (min skipped job.vectors) passage.read_from middle
     × FailsToSkip fault (skipped - min skipped job.vectors) middle passage.read_to
     × (passage.written_to ≡ passage.written_from))
-    ⊎ ((begun : Option (List ℕ)) × (state : StreamCipher) × Reaches mode job skipped part passage.read_from begun state
-    × StopsApplying fault encryption state (bytes_at_most part)
-    (passage_of begun passage.read_to passage.written_from passage.written_to))
-    ⊎ ((begun : Option (List ℕ)) × (state : StreamCipher) × Reaches mode job skipped part passage.read_from begun state
-    × Applies encryption state (bytes_at_most part) 0
-    (passage_of begun passage.read_to passage.written_from passage.written_to) × (part ≢ None) × (fault ≡ Start))
-
-abbrev pub StopsStream : (fault : StreamError) (encryption : List ℕ → List ℕ) (mode : StreamMode) (job : Job)
-    (passage : Passage) → Type 0
-StopsStream fault encryption mode job passage = StopsStreamWork fault encryption mode job job.work passage
+    ⊎ ((begun : Option (List ℕ)) × (stream : StreamState) × Reaches mode job skipped part passage.read_from begun stream
+    × ((AppliesPrefix encryption Decrypting stream (bytes_at_most part)
+    (passage_of begun passage.read_to passage.written_from passage.written_to) × (IsOfReading fault ⊎ IsOfWriting fault))
+    ⊎ (Applies encryption Decrypting stream (bytes_at_most part) 0
+    (passage_of begun passage.read_to passage.written_from passage.written_to) × (part ≢ None) × (fault ≡ Start))))
 
 -- a job has stopped by functions of blocks
 abbrev pub Stops : (fault : StreamError) (encrypted decrypted : List ℕ → List ℕ) (mode : CipherMode) (job : Job)
     (passage : Passage) → Type 0
-Stops fault encrypted decrypted (Stream mode) job passage = StopsStream fault encrypted mode job passage
+Stops fault encrypted decrypted (Stream mode) job passage = StopsStream fault encrypted mode job job.work passage
 Stops fault encrypted decrypted mode job passage =
     StopsPadded fault encrypted decrypted job.begin job.padding job.work passage
 

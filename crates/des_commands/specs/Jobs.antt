@@ -1,16 +1,18 @@
 -- What a stream is to be: which cipher a name means, and what is made of an input or of a part of one.
-use Rattle.std.specs.Prelude.{◌≡◌, ◌≢◌, ◌⊎◌, ℕ, ◌-◌, ◌*◌, ◌%◌, ◌^◌, min, Bool, true, false, List, ◌++◌, length, drop, replicate, Option, Some, None, ⊤}
+use Rattle.std.specs.Prelude.{◌≡◌, ◌≢◌, ◌⊎◌, ℕ, ◌-◌, ◌*◌, ◌%◌, ◌^◌, min, List, ◌++◌, length, drop, replicate, Option, Some, None, ⊤, [], ◌+◌}
 use Rattle.std.specs.Io.KnownBytes.{Appends, IsAtEnd}
-use Rattle.des.specs.Blocks.{IsBlock}
+use Rattle.des.specs.Blocks.{AreBytes, IsBlock}
 use Rattle.des.specs.Des.{encryption, decryption}
 use Rattle.des.specs.Relations.{AnswerAlike}
 use Rattle.des.specs.TripleCiphers.{ede3_encryption, ede3_decryption, ede2_encryption, ede2_decryption}
 use Rattle.des_io.specs.Streams.{Passage, passage_of, Encrypts, Decrypts, Skips, DecryptsPart}
-use Rattle.des_modes.specs.States.{IsCtrAt, IsOfbAt, IsCfbAt}
-use Rattle.des_modes.specs.declared.cfb.Register.{Register}
+use Rattle.des_modes.specs.Cfb.{Cfb as InCfb}
+use Rattle.des_modes.specs.Ctr.{Ctr as InCtr}
+use Rattle.des_modes.specs.States.{IsStreamAt}
+use Rattle.des_modes.specs.declared.direction.Direction.TheVariants.{Encrypt as Encrypting, Decrypt as Decrypting}
+use Rattle.des_modes.specs.declared.modes.TheConstants.{CFB1, CTR, OFB}
+use Rattle.des_modes.specs.declared.stream.Stream.{Stream as StreamState}
 use Rattle.des_io.specs.StreamCiphers.{Applies}
-use Rattle.des_io.specs.declared.stream_cipher.StreamCipher.{StreamCipher}
-use Rattle.des_io.specs.declared.stream_cipher.StreamCipher.TheVariants.{Ctr as CtrAt, Ofb as OfbAt, EncryptCfb, DecryptCfb}
 use Rattle.des_io.specs.declared.mode.Mode.{Mode}
 use Rattle.des_io.specs.declared.mode.Mode.TheVariants.{Ecb, Cbc}
 use Rattle.des_io.specs.declared.padding.Padding.{Padding}
@@ -93,22 +95,21 @@ abbrev pub vector_of : Mode → List ℕ
 vector_of Ecb = replicate 8 0
 vector_of (Cbc vector) = vector
 
--- a register of cipher feedback stands behind eight bytes
-abbrev pub IsRegister : (s : ℕ) (before : List ℕ) (state : Register) → Type 0
-IsRegister s before state =
-    (encryption : List ℕ → List ℕ) (iv c : List ℕ) → length c % s ≡ 0 → before ≡ drop (length c) (iv ++ c)
-    → IsCfbAt s encryption iv c state
+-- cipher feedback with segments of s bytes goes on behind eight bytes, before a segment
+abbrev pub GoesOnBehind : (s : ℕ) (before : List ℕ) (stream : StreamState) → Type 0
+GoesOnBehind s before stream =
+    (encryption : List ℕ → List ℕ) (iv p c : List ℕ) → IsBlock iv → AreBytes c → length c % s ≡ 0
+    → before ≡ drop (length c) (iv ++ c) → InCfb s encryption iv p c → IsStreamAt (CFB1 + s) encryption iv p c stream
 
--- the state of a stream cipher at the beginning of a stream, or of the part of it from a block on: the counter is that
--- of this block, the register holds the eight bytes before it, and output feedback begins with the stream
-abbrev pub Begins : StreamMode → (encrypts : Bool) → (vector before : List ℕ) → (from : ℕ) → StreamCipher → Type 0
-Begins Ctr encrypts vector before from (CtrAt state) = IsCtrAt vector (8 * from) state
-Begins Ofb encrypts vector before from (OfbAt state) = (encryption : List ℕ → List ℕ) → IsOfbAt encryption vector 0 state
-Begins Cfb true vector before from (EncryptCfb state) = IsRegister 8 before state
-Begins Cfb false vector before from (DecryptCfb state) = IsRegister 8 before state
-Begins Cfb8 true vector before from (EncryptCfb state) = IsRegister 1 before state
-Begins Cfb8 false vector before from (DecryptCfb state) = IsRegister 1 before state
-Begins mode encrypts vector before from state = ⊥
+-- a stream at its beginning, or in it from a block on: its counter is that of this block, cipher feedback goes on behind the
+-- eight bytes before it, and output feedback begins with the stream
+abbrev pub Begins : StreamMode → (vector before : List ℕ) → (from : ℕ) → StreamState → Type 0
+Begins Ctr vector before from stream =
+    (encryption : List ℕ → List ℕ) (p c : List ℕ) → length p ≡ 8 * from → AreBytes c → InCtr encryption vector p c
+    → IsStreamAt CTR encryption vector p c stream
+Begins Ofb vector before from stream = (encryption : List ℕ → List ℕ) → IsStreamAt OFB encryption vector [] [] stream
+Begins Cfb vector before from stream = GoesOnBehind 8 before stream
+Begins Cfb8 vector before from stream = GoesOnBehind 1 before stream
 
 -- the bytes of this many blocks, or of a whole stream, which has no more than 2^64 - 1
 abbrev pub bytes_of_blocks : Option ℕ → ℕ
@@ -120,42 +121,36 @@ abbrev pub bytes_at_most : Option BlockRange → ℕ
 bytes_at_most None = bytes_of_blocks None
 bytes_at_most (Some part) = bytes_of_blocks part.count
 
--- the vector that is the first block, if it is, and the other blocks before a part are passed over, and the state is
--- that of the part
+-- the vector, if it is the first block, and the other blocks before a part are passed over, and the stream goes on there
 pub record Reaches (mode : StreamMode) (job : Job) (skipped : ℕ) (part : Option BlockRange)
-    (read_from begun : Option (List ℕ)) (state : StreamCipher) : Type 0 where
+    (read_from begun : Option (List ℕ)) (stream : StreamState) : Type 0 where
   pub first : Mode
   pub last : Mode
   pub middle : Option (List ℕ)
   pub vector : Skips job.begin first (min skipped job.vectors) read_from middle
   pub others : Skips first last (skipped - min skipped job.vectors) middle begun
-  pub begins : Begins mode false (vector_of first) (vector_of last) (from_of part) state
+  pub begins : Begins mode (vector_of first) (vector_of last) (from_of part) stream
 
--- the heading is written, and all that is left is encrypted; or all that is left, or the bytes of a part, of which there
--- is one, are decrypted
-abbrev pub DoesStreamWork : (encryption : List ℕ → List ℕ) (mode : StreamMode) (job : Job) (work : Work) (passage : Passage)
-    → Type 0
-DoesStreamWork encryption mode job (Encrypt heading) passage =
-    (headed : Option (List ℕ)) × (state : StreamCipher) × (count : ℕ)
+-- the heading is written, and all that is left is encrypted; or all that is left, or a part that has a byte, is decrypted
+abbrev pub DoesStream : (encryption : List ℕ → List ℕ) (mode : StreamMode) (job : Job) (work : Work) (passage : Passage) → Type 0
+DoesStream encryption mode job (Encrypt heading) passage =
+    (headed : Option (List ℕ)) × (stream : StreamState) × (count : ℕ)
     × Appends passage.written_from headed heading.now
-    × Begins mode true (vector_of job.begin) (vector_of job.begin) 0 state
-    × Applies encryption state (2 ^ 64 - 1) count
+    × Begins mode (vector_of job.begin) (vector_of job.begin) 0 stream
+    × Applies encryption Encrypting stream (2 ^ 64 - 1) count
     (passage_of passage.read_from passage.read_to headed passage.written_to)
-DoesStreamWork encryption mode job (Decrypt skipped part) passage =
-    (begun : Option (List ℕ)) × (state : StreamCipher) × (count : ℕ)
-    × Reaches mode job skipped part passage.read_from begun state
-    × Applies encryption state (bytes_at_most part) count
+DoesStream encryption mode job (Decrypt skipped part) passage =
+    (begun : Option (List ℕ)) × (stream : StreamState) × (count : ℕ)
+    × Reaches mode job skipped part passage.read_from begun stream
+    × Applies encryption Decrypting stream (bytes_at_most part) count
     (passage_of begun passage.read_to passage.written_from passage.written_to)
     × ((part ≡ None) ⊎ (count ≢ 0))
-
-abbrev pub DoesStream : (encryption : List ℕ → List ℕ) (mode : StreamMode) (job : Job) (passage : Passage) → Type 0
-DoesStream encryption mode job passage = DoesStreamWork encryption mode job job.work passage
 
 -- ---- jobs
 
 -- a job is done by functions of blocks
 abbrev pub Does : (encrypted decrypted : List ℕ → List ℕ) (mode : CipherMode) (job : Job) (passage : Passage) → Type 0
-Does encrypted decrypted (Stream mode) job passage = DoesStream encrypted mode job passage
+Does encrypted decrypted (Stream mode) job passage = DoesStream encrypted mode job job.work passage
 Does encrypted decrypted mode job passage = DoesPadded encrypted decrypted job.begin job.padding job.work passage
 
 -- a job is done by its key

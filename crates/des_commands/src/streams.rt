@@ -5,6 +5,7 @@ pub mod progress_reader;
 
 ghost use Rattle.std.specs.Prelude.{◌≡◌, ◌<◌, length, IfOk, IfErr};
 ghost use Rattle.des.specs.Relations.{AnswerAlike};
+ghost use Rattle.des_modes.specs.States.{HasBegun};
 ghost use Rattle.des_io.specs.Streams.{passage_of};
 ghost use Rattle.des_commands.specs.StreamRequests.{from_of};
 ghost use Rattle.des_commands.specs.Jobs.{GoesOnFromBlock, IsNamed, DoesPadded, Does, IsDone};
@@ -17,13 +18,13 @@ use des_fast::many::ManyBlocks;
 use des_fast::{Des, TdesEde2, TdesEde3};
 use des_io::pieces::write_whole;
 use des_io::{
-    Mode, StreamCipher, StreamError, Transformation, apply_stream, decrypt_part, decrypt_stream,
-    encrypt_stream, skip_blocks,
+    Mode, StreamError, Transformation, apply_stream, decrypt_part, decrypt_stream, encrypt_stream,
+    skip_blocks,
 };
 use des_lines::fault::FaultKind;
-use des_modes::cfb::Register;
-use des_modes::ctr::Counter;
-use des_modes::ofb::Feedback;
+use des_modes::Direction;
+use des_modes::modes::OFB;
+use des_modes::stream::Stream;
 use std::alloc::Global;
 use std::io::{Read, Write};
 
@@ -78,24 +79,17 @@ fn vector_in(mode: Mode) -> [u8; 8]
     }
 }
 
-// The state of a stream cipher, or of a part of its stream from a block on: by the vector of the stream,
-// and the block before the part.
-fn state_of(
-    mode: StreamMode,
-    encrypts: bool,
-    vector: &[u8; 8],
-    before: &[u8; 8],
-    from: u64,
-) -> StreamCipher
-    ensures { Begins mode encrypts vector.now before.now from result }
+// A stream at its beginning, or in it from a block on: by the vector of the stream, and the block before
+// the part.
+fn stream_from(mode: StreamMode, vector: &[u8; 8], before: &[u8; 8], from: u64) -> Stream
+    ensures begun { HasBegun result }
+    ensures begins { Begins mode vector.now before.now from result }
 {
-    match (mode, encrypts) {
-        (StreamMode::Ctr, _) => StreamCipher::Ctr(Counter::at(vector, from)),
-        (StreamMode::Ofb, _) => StreamCipher::Ofb(Feedback::new(vector)),
-        (StreamMode::Cfb, true) => StreamCipher::EncryptCfb(Register::new(before, 8)),
-        (StreamMode::Cfb, false) => StreamCipher::DecryptCfb(Register::new(before, 8)),
-        (StreamMode::Cfb8, true) => StreamCipher::EncryptCfb(Register::new(before, 1)),
-        (StreamMode::Cfb8, false) => StreamCipher::DecryptCfb(Register::new(before, 1)),
+    match mode {
+        StreamMode::Ctr => Stream::ctr_at(vector, from),
+        StreamMode::Ofb => Stream::new(OFB, vector).unwrap(),
+        StreamMode::Cfb => Stream::cfb_at(before, 8),
+        StreamMode::Cfb8 => Stream::cfb_at(before, 1),
     }
 }
 
@@ -125,10 +119,10 @@ fn run_stream<C: ManyBlocks, R: Read, W: Write>(
     buffer: &mut [[u8; 8]],
 ) -> Result<(), StreamError>
     requires capacity { 0 < length buffer.old }
-    ensures done { IfOk result (λ _. DoesStream (C.encrypted cipher.now) mode job.now
+    ensures done { IfOk result (λ _. DoesStream (C.encrypted cipher.now) mode job.now job.now.work
         (passage_of (R.remaining reader.old) (R.remaining reader.new)
         (W.contents writer.old) (W.contents writer.new))) }
-    ensures fault { IfErr result (λ fault. StopsStream fault (C.encrypted cipher.now) mode job.now
+    ensures fault { IfErr result (λ fault. StopsStream fault (C.encrypted cipher.now) mode job.now job.now.work
         (passage_of (R.remaining reader.old) (R.remaining reader.new)
         (W.contents writer.old) (W.contents writer.new))) }
 {
@@ -136,10 +130,11 @@ fn run_stream<C: ManyBlocks, R: Read, W: Write>(
         Work::Encrypt { heading: front } => {
             write_whole(writer, front)?;
             let vector = vector_in(job.begin);
-            let state = state_of(mode, true, &vector, &vector, 0);
+            let stream = stream_from(mode, &vector, &vector, 0);
             apply_stream(
                 cipher,
-                state,
+                Direction::Encrypt,
+                stream,
                 u64::MAX,
                 reader,
                 writer,
@@ -151,10 +146,11 @@ fn run_stream<C: ManyBlocks, R: Read, W: Write>(
             let first = skip_blocks(job.begin, vectors, reader, buffer)?;
             let last = skip_blocks(first, skipped - vectors, reader, buffer)?;
             let (from, limit) = extent_of(part);
-            let state = state_of(mode, false, &vector_in(first), &vector_in(last), from);
+            let stream = stream_from(mode, &vector_in(first), &vector_in(last), from);
             let count = apply_stream(
                 cipher,
-                state,
+                Direction::Decrypt,
+                stream,
                 limit,
                 reader,
                 writer,

@@ -1,49 +1,57 @@
 -- Bytes that go through a stream cipher, piece after piece.
-use Rattle.std.proofs.Common.{◌≡◌, ℕ, ◌+◌, ◌≤◌, List, [], ◌++◌, Option, length, take, drop, refl, subst, ◌∙◌, arith, append_assoc, append-nil, take-append-drop, take_all, length-append}
+use Rattle.std.proofs.Common.{◌≡◌, ℕ, ◌+◌, ◌≤◌, List, [], ◌++◌, Option, length, take, drop, refl, subst, arith, append_assoc, append-nil, take-append-drop, take_all, length-append}
 use Rattle.std.specs.Io.KnownBytes.{Consumes, Appends}
 use Rattle.std.proofs.KnownBytes.{Consumes-trans, Appends-trans, Consumes-nil, Appends-nil}
 use Rattle.des_io.specs.Streams.{Passage, passage_of}
 use Rattle.des_io.specs.StreamCiphers.{Becomes, AppliesPrefix}
-use Rattle.des_io.specs.declared.stream_cipher.StreamCipher.{StreamCipher}
+use Rattle.des_modes.specs.declared.direction.Direction.{Direction}
+use Rattle.des_modes.specs.declared.direction.Direction.TheVariants.{Encrypt, Decrypt}
+use Rattle.des_modes.specs.declared.stream.Stream.{Stream}
 
-pub Becomes-append : {E : List ℕ → List ℕ} {state : StreamCipher} {next last : StreamCipher} {p c more answers : List ℕ}
-    → Becomes E state p c next → Becomes E next more answers last → Becomes E state (p ++ more) (c ++ answers) last
-Becomes-append {E} {state} {next} {last} {p} {c} {more} {answers} first second = record {
-  mode = second.mode ∙ first.mode;
-  goes_on = λ s iv before made behind.
-      rw (← append_assoc before p more, ← append_assoc made c answers)
-      (second.goes_on s iv (before ++ p) (made ++ c) (first.goes_on s iv before made behind));
+pub Becomes-append : {E : List ℕ → List ℕ} {direction : Direction} {stream next last : Stream} {from to more answers : List ℕ}
+    → Becomes E direction stream from to next → Becomes E direction next more answers last
+    → Becomes E direction stream (from ++ more) (to ++ answers) last
+Becomes-append {direction = Encrypt} {from = from} {to} {more} {answers} first second = record {
+  goes_on = λ number iv p c at.
+      rw (← append_assoc p from more, ← append_assoc c to answers)
+      (second.goes_on number iv (p ++ from) (c ++ to) (first.goes_on number iv p c at));
+}
+Becomes-append {direction = Decrypt} {from = from} {to} {more} {answers} first second = record {
+  goes_on = λ number iv p c at.
+      rw (← append_assoc p to answers, ← append_assoc c from more)
+      (second.goes_on number iv (p ++ to) (c ++ from) (first.goes_on number iv p c at));
 }
 
-pub Becomes-none : (E : List ℕ → List ℕ) (state : StreamCipher) → Becomes E state [] [] state
-Becomes-none E state = record { mode = refl; goes_on = λ s iv p c behind. simp append-nil behind }
+pub Becomes-none : (E : List ℕ → List ℕ) (direction : Direction) (stream : Stream) → Becomes E direction stream [] [] stream
+Becomes-none E Encrypt stream = record { goes_on = λ number iv p c at. simp append-nil at }
+Becomes-none E Decrypt stream = record { goes_on = λ number iv p c at. simp append-nil at }
 
 -- `count` bytes were read, and what they become was written
-pub record AppliesAll (encryption : List ℕ → List ℕ) (state next : StreamCipher) (count : ℕ) (passage : Passage)
+pub record AppliesAll (encryption : List ℕ → List ℕ) (direction : Direction) (stream next : Stream) (count : ℕ) (passage : Passage)
     : Type 0 where
   pub from : List ℕ
   pub to : List ℕ
   pub read : Consumes passage.read_from passage.read_to from
-  pub became : Becomes encryption state from to next
+  pub became : Becomes encryption direction stream from to next
   pub written : Appends passage.written_from passage.written_to to
   pub size : length from ≡ count
 
-pub AppliesAll-none : (E : List ℕ → List ℕ) (state : StreamCipher) (r u : Option (List ℕ))
-    → AppliesAll E state state 0 (passage_of r r u u)
-AppliesAll-none E state r u = record {
+pub AppliesAll-none : (E : List ℕ → List ℕ) (direction : Direction) (stream : Stream) (r u : Option (List ℕ))
+    → AppliesAll E direction stream stream 0 (passage_of r r u u)
+AppliesAll-none E direction stream r u = record {
   from = [];
   to = [];
   read = Consumes-nil r;
-  became = Becomes-none E state;
+  became = Becomes-none E direction stream;
   written = Appends-nil u;
   size = refl;
 }
 
 -- n bytes more
-pub AppliesAll-more : {E : List ℕ → List ℕ} {state next : StreamCipher} {count : ℕ} {r s t u v w : Option (List ℕ)}
-    (bytes answers : List ℕ) (last : StreamCipher) (n k : ℕ) → AppliesAll E state next count (passage_of r s u v)
-    → Consumes s t bytes → length bytes ≡ n → Becomes E next bytes answers last → Appends v w (take k answers)
-    → k ≡ length answers → AppliesAll E state last (count + n) (passage_of r t u w)
+pub AppliesAll-more : {E : List ℕ → List ℕ} {direction : Direction} {stream next : Stream} {count : ℕ} {r s t u v w : Option (List ℕ)}
+    (bytes answers : List ℕ) (last : Stream) (n k : ℕ) → AppliesAll E direction stream next count (passage_of r s u v)
+    → Consumes s t bytes → length bytes ≡ n → Becomes E direction next bytes answers last → Appends v w (take k answers)
+    → k ≡ length answers → AppliesAll E direction stream last (count + n) (passage_of r t u w)
 AppliesAll-more {r = r} {s} {t} {u} {v} {w} bytes answers last n k so_far read size became written all = record {
   from = so_far.from ++ bytes;
   to = so_far.to ++ answers;
@@ -54,10 +62,10 @@ AppliesAll-more {r = r} {s} {t} {u} {v} {w} bytes answers last n k so_far read s
 }
 
 -- after a piece that was written, perhaps not the whole of it, and bytes that were read behind it
-abbrev pub AppliesPrefix-more : {E : List ℕ → List ℕ} {state next last : StreamCipher} {count limit : ℕ}
+abbrev pub AppliesPrefix-more : {E : List ℕ → List ℕ} {direction : Direction} {stream next last : Stream} {count limit : ℕ}
     {r s t u v w : Option (List ℕ)} {answers : List ℕ} (bytes rest : List ℕ) (k : ℕ)
-    → AppliesAll E state next count (passage_of r s u v) → Consumes s t (bytes ++ rest) → Becomes E next bytes answers last
-    → Appends v w (take k answers) → count + length bytes ≤ limit → AppliesPrefix E state limit (passage_of r t u w)
+    → AppliesAll E direction stream next count (passage_of r s u v) → Consumes s t (bytes ++ rest) → Becomes E direction next bytes answers last
+    → Appends v w (take k answers) → count + length bytes ≤ limit → AppliesPrefix E direction stream limit (passage_of r t u w)
 AppliesPrefix-more {last = last} {r = r} {s} {t} {u} {v} {w} {answers} bytes rest k so_far read became written within = record {
   from = so_far.from ++ bytes;
   rest = rest;
@@ -71,8 +79,8 @@ AppliesPrefix-more {last = last} {r = r} {s} {t} {u} {v} {w} {answers} bytes res
 }
 
 -- after bytes that were read alone
-abbrev pub AppliesPrefix-read : {E : List ℕ → List ℕ} {state next : StreamCipher} {count limit : ℕ}
-    {r s t u v : Option (List ℕ)} (bytes : List ℕ) → AppliesAll E state next count (passage_of r s u v)
-    → Consumes s t bytes → count ≤ limit → AppliesPrefix E state limit (passage_of r t u v)
+abbrev pub AppliesPrefix-read : {E : List ℕ → List ℕ} {direction : Direction} {stream next : Stream} {count limit : ℕ}
+    {r s t u v : Option (List ℕ)} (bytes : List ℕ) → AppliesAll E direction stream next count (passage_of r s u v)
+    → Consumes s t bytes → count ≤ limit → AppliesPrefix E direction stream limit (passage_of r t u v)
 AppliesPrefix-read {v = v} bytes so_far read within =
-    AppliesPrefix-more [] bytes 0 so_far read (Becomes-none _ _) (Appends-nil v) (omega arith)
+    AppliesPrefix-more [] bytes 0 so_far read (Becomes-none _ _ _) (Appends-nil v) (omega arith)

@@ -30,5 +30,5 @@ pub use error::StreamError;
 pub use mode::Mode;
 pub use padding::Padding;
 pub use part::{decrypt_part, skip_blocks};
-pub use stream_cipher::{StreamCipher, apply_stream};
+pub use stream_cipher::apply_stream;
 pub use transformation::Transformation;

@@ -5,55 +5,50 @@ ghost use Rattle.std.specs.Prelude.{◌≡◌, ◌⊎◌, ◌<◌, length, IfOk,
 ghost use Rattle.des_io.specs.Streams.{passage_of};
 ghost use Rattle.des_io.specs.StreamCiphers.{Becomes, Applies, AppliesPrefix};
 ghost use Rattle.des_io.specs.StreamFaults.{IsOfReading, IsOfWriting};
+ghost use Rattle.des_modes.specs.States.{HasBegun};
 
 use crate::error::{StreamError, without_end};
 use crate::pieces::{fill_prefix, write_whole};
 use des_fast::many::ManyBlocks;
 use des_modes::Direction;
-use des_modes::cfb::Register;
-use des_modes::ctr::Counter;
 use des_modes::lists::ByLists;
-use des_modes::ofb::Feedback;
+use des_modes::modes::Mode;
+use des_modes::stream::Stream;
 use std::io::{Read, Write};
 use std::simd::u64x2;
 
-/// The mode, and how far its stream has come (NIST SP 800-38A). No initialization vector or counter block
-/// may be used twice under a key: who has both ciphertexts then has the xor of the plaintexts.
-#[derive(Clone, Copy)]
-pub enum StreamCipher {
-    /// The counter mode, which is its own inverse.
-    Ctr(Counter),
-    /// Output feedback, which is its own inverse.
-    Ofb(Feedback),
-    /// Cipher feedback, to encrypt.
-    EncryptCfb(Register),
-    /// Cipher feedback, to decrypt.
-    DecryptCfb(Register),
-}
-
-impl StreamCipher {
-    /// Encrypts or decrypts the bytes that come next in place: any number of them. If no block waits for
-    /// another, no table is read at an index that depends on the key or on a block.
-    pub fn apply<C: ManyBlocks>(&mut self, cipher: &C, bytes: &mut [u8])
-        ensures { Becomes (C.encrypted cipher.now) self.old bytes.old bytes.new self.new }
-    {
-        match self {
-            StreamCipher::Ctr(counter) => {
-                counter.apply(&ByLists::<C, u64x2>::new(cipher, true), bytes)
-            }
-            StreamCipher::Ofb(feedback) => feedback.apply(cipher, bytes),
-            StreamCipher::EncryptCfb(register) => {
-                register.apply(Direction::Encrypt, cipher, bytes)
-            }
-            StreamCipher::DecryptCfb(register) => {
-                let cipher = ByLists::<C, u64x2>::new(cipher, true);
-                register.apply(Direction::Decrypt, &cipher, bytes)
-            }
-        }
+// Whether a block waits for the encryption of another.
+fn waits(mode: Mode, direction: Direction) -> bool {
+    match (mode, direction) {
+        (Mode::Counter, _) => false,
+        (Mode::CipherFeedback(_), Direction::Decrypt) => false,
+        _ => true,
     }
 }
 
-/// Encrypts or decrypts what the reader gives, up to its end or to a limit in bytes, and writes it, a
+/// Encrypts or decrypts the bytes that come next in place: any number of them. If no block waits for
+/// another, no table is read at an index that depends on the key or on a block.
+pub fn apply_piece<C: ManyBlocks>(
+    cipher: &C,
+    direction: Direction,
+    stream: &mut Stream,
+    bytes: &mut [u8],
+)
+    requires { HasBegun stream.old }
+    ensures begun { HasBegun stream.new }
+    ensures became { Becomes (C.encrypted cipher.now) direction
+        stream.old bytes.old bytes.new stream.new }
+{
+    let mode = stream.mode().unwrap();
+    if waits(mode, direction) {
+        stream.apply(direction, mode, cipher, bytes);
+    } else {
+        let cipher = ByLists::<C, u64x2>::new(cipher, true);
+        stream.apply(direction, mode, &cipher, bytes);
+    }
+}
+
+/// Encrypts or decrypts by a stream what the reader gives, up to its end or to a limit in bytes, and writes it, a
 /// buffer at a time. Returns the number of bytes. The buffer has one byte at least; what it holds
 /// afterwards, which can be plaintext, is not said. The writer is not flushed.
 ///
@@ -61,29 +56,31 @@ impl StreamCipher {
 /// what was read, encrypted or decrypted, and the reader may have gone further.
 pub fn apply_stream<R: Read, W: Write, C: ManyBlocks>(
     cipher: &C,
-    state: StreamCipher,
+    direction: Direction,
+    stream: Stream,
     limit: u64,
     reader: &mut R,
     writer: &mut W,
     buffer: &mut [u8],
 ) -> Result<u64, StreamError>
+    requires begun { HasBegun stream }
     requires capacity { 0 < length buffer.old }
-    ensures done { IfOk result (λ count. Applies (C.encrypted cipher.now) state limit count
+    ensures done { IfOk result (λ count. Applies (C.encrypted cipher.now) direction stream limit count
         (passage_of (R.remaining reader.old) (R.remaining reader.new)
         (W.contents writer.old) (W.contents writer.new))) }
-    ensures prefix { AppliesPrefix (C.encrypted cipher.now) state limit
+    ensures prefix { AppliesPrefix (C.encrypted cipher.now) direction stream limit
         (passage_of (R.remaining reader.old) (R.remaining reader.new)
         (W.contents writer.old) (W.contents writer.new)) }
     ensures fault { IfErr result (λ fault. IsOfReading fault ⊎ IsOfWriting fault) }
 {
-    let mut state = state;
+    let mut stream = stream;
     let mut count = 0;
     let capacity = buffer.len();
     for _ in 0..u64::MAX {
         let most = (limit - count).min(capacity as u64);
         let n = fill_prefix(reader, buffer, most as usize)?;
         let bytes = &mut buffer[..n];
-        state.apply(cipher, bytes);
+        apply_piece(cipher, direction, &mut stream, bytes);
         write_whole(writer, bytes)?;
         count += n as u64;
         if n < capacity {

@@ -3,15 +3,14 @@ use Rattle.std.proofs.Common.{◌≡◌, ℕ, ◌+◌, ◌*◌, ◌/◌, ◌%◌
 use Rattle.std.proofs.lemmas.List.{drop-drop, drop-append-le, take-append-le, take_all}
 use Rattle.std.proofs.lemmas.Nat.{div_below}
 use Rattle.std.proofs.Math.Nat.{mul-div-le, mul-add, mul-add-div, mod-add-mod, mod-eq_of_lt, div-add-mod, div-eq_of_lt, div-one, mod-one}
-use Rattle.des_modes.specs.Streams.{XorsFrom}
+use Rattle.des_modes.specs.Streams.{Xors}
 use Rattle.des_modes.specs.Cfb.{block_bit, cfb_bits, cfb_stream, input_block}
-use Rattle.des_modes.specs.States.{CfbAt, IsCfbAt, CfbBitsAt, IsCfbBitsAt}
+use Rattle.des_modes.specs.States.{HoldsLastBits, IsCfbAt}
 use Rattle.des_modes.specs.declared.cfb.Register.{Register}
 use Rattle.des_modes.proofs.Pieces.{GoesByFront, Directed, ByText, Xors-directed, Xors-single, texts-map, bits_undone}
 use Rattle.des.specs.Bits.{bits_of_bytes, xor}
 use Rattle.des.specs.Blocks.{block_of_bits}
 use Rattle.des.specs.Laws.BitLists.{length-bits_of_bytes}
-use Rattle.des_modes.specs.declared.cfb_bits.BitRegister.{BitRegister}
 use Rattle.des_modes.specs.Directions.{ciphertext}
 use Rattle.des_modes.specs.declared.direction.Direction.{Direction}
 
@@ -25,9 +24,9 @@ drop-further iv c more n m within =
     ∙ ap (drop m) (drop-append-le n (iv ++ c) more within)
 
 -- a register into which more is shifted
-pub register-further : {X : Type 0} (iv c more held new : List X) → held ≡ drop (length c) (iv ++ c)
-    → new ≡ drop (length more) (held ++ more) → new ≡ drop (length (c ++ more)) (iv ++ (c ++ more))
-register-further {X} iv c more held new is shifted =
+pub register-further : {X : Type 0} (iv c more register new : List X) → register ≡ drop (length c) (iv ++ c)
+    → new ≡ drop (length more) (register ++ more) → new ≡ drop (length (c ++ more)) (iv ++ (c ++ more))
+register-further {X} iv c more register new is shifted =
     shifted
     ∙ ap (λ (xs : List X). drop (length more) (xs ++ more)) is
     ∙ sym (drop-further iv c more (length c) (length more) (omega (arith, length-append iv c)))
@@ -85,10 +84,10 @@ module _ (s : ℕ) (E : List ℕ → List ℕ) (iv c : List ℕ) (state : Regist
   place_at : (i : ℕ) → (state.used + i) % s ≡ (length c + i) % s
   place_at i = ap (λ (m : ℕ). (m + i) % s) is.used ∙ mod-add-mod (length c) s i
 
-  IsCfbAt-further : {size taken : ℕ} {held answer : List ℕ} (bytes : List ℕ) → size ≡ state.segment
-      → held ≡ drop (length bytes) (state.register ++ bytes) → taken ≡ (state.used + length bytes) % state.segment
-      → (1 ≤ taken → answer ≡ E (input_block s iv (c ++ bytes) ((length c + length bytes) / s)))
-      → CfbAt s E iv (c ++ bytes) size held answer taken
+  IsCfbAt-further : {next : Register} (bytes : List ℕ) → next.segment ≡ state.segment
+      → next.register ≡ drop (length bytes) (state.register ++ bytes) → next.used ≡ (state.used + length bytes) % state.segment
+      → (1 ≤ next.used → next.output ≡ E (input_block s iv (c ++ bytes) ((length c + length bytes) / s)))
+      → IsCfbAt s E iv (c ++ bytes) next
   IsCfbAt-further bytes segment shifted used made =
       let size : length c + length bytes ≡ length (c ++ bytes) = sym (length-append c bytes) in record {
         segment = segment ∙ is.segment;
@@ -104,7 +103,7 @@ module _ (s : ℕ) (E : List ℕ → List ℕ) (iv c : List ℕ) (state : Regist
       → outputs ((state.used + i) / s) ≡ E (input_block s iv (c ++ more) (length c / s + (state.used + i) / s)))
       → ((i : ℕ) → i < length old → get_or new i 0
       ≡ bit_xor (get_or old i 0) (get_or (outputs ((state.used + i) / s)) ((state.used + i) % s) 0))
-      → XorsFrom (length c) (cfb_stream s E iv (c ++ more)) old new
+      → Xors bit_xor 0 (length c) (cfb_stream s E iv (c ++ more)) old new
   XorsFrom-outputs more old new outputs some same made xored = record {
     count = same;
     xored = λ i below.
@@ -114,10 +113,10 @@ module _ (s : ℕ) (E : List ℕ → List ℕ) (iv c : List ℕ) (state : Regist
   }
 
   -- in a segment
-  pub IsCfbAt-within : {size taken : ℕ} {held answer : List ℕ} (bytes output : List ℕ) → 1 ≤ s
-      → output ≡ E (input_block s iv c (length c / s)) → size ≡ state.segment → answer ≡ output
-      → taken ≡ (state.used + length bytes) % state.segment → (1 ≤ taken → state.used + length bytes < state.segment)
-      → held ≡ drop (length bytes) (state.register ++ bytes) → CfbAt s E iv (c ++ bytes) size held answer taken
+  pub IsCfbAt-within : {next : Register} (bytes output : List ℕ) → 1 ≤ s
+      → output ≡ E (input_block s iv c (length c / s)) → next.segment ≡ state.segment → next.output ≡ output
+      → next.used ≡ (state.used + length bytes) % state.segment → (1 ≤ next.used → state.used + length bytes < state.segment)
+      → next.register ≡ drop (length bytes) (state.register ++ bytes) → IsCfbAt s E iv (c ++ bytes) next
   IsCfbAt-within bytes output some made segment kept used inside shifted =
       IsCfbAt-further bytes segment shifted used (λ more.
       let within : state.used + length bytes < s = omega (arith, is.segment, inside more) in
@@ -127,7 +126,7 @@ module _ (s : ℕ) (E : List ℕ → List ℕ) (iv c : List ℕ) (state : Regist
   pub XorsFrom-within : (more output old new : List ℕ) → 1 ≤ s → state.used + length old ≤ state.segment
       → output ≡ E (input_block s iv c (length c / s)) → length new ≡ length old
       → ((i : ℕ) → i < length old → get_or new i 0 ≡ bit_xor (get_or old i 0) (get_or output (state.used + i) 0))
-      → XorsFrom (length c) (cfb_stream s E iv (c ++ more)) old new
+      → Xors bit_xor 0 (length c) (cfb_stream s E iv (c ++ more)) old new
   XorsFrom-within more output old new some within made same xored =
       let inside : (i : ℕ) → i < length old → state.used + i < s = λ i below. omega (arith, is.segment) in
       XorsFrom-outputs more old new (λ j. output) some same
@@ -137,10 +136,11 @@ module _ (s : ℕ) (E : List ℕ → List ℕ) (iv c : List ℕ) (state : Regist
       (λ i below. xored i below ∙ ap (λ (m : ℕ). bit_xor (get_or old i 0) (get_or output m 0)) (sym (mod-eq_of_lt (inside i below))))
 
   -- from the beginning of a segment on
-  pub IsCfbAt-beyond : {size taken : ℕ} {held answer : List ℕ} (bytes : List ℕ) → 1 ≤ s → state.used ≡ 0 → size ≡ state.segment
-      → held ≡ drop (length bytes) (state.register ++ bytes) → taken ≡ length bytes % state.segment
-      → (1 ≤ taken → answer ≡ E (take 8 (drop (state.segment * (length bytes / state.segment)) (state.register ++ bytes))))
-      → CfbAt s E iv (c ++ bytes) size held answer taken
+  pub IsCfbAt-beyond : {next : Register} (bytes : List ℕ) → 1 ≤ s → state.used ≡ 0 → next.segment ≡ state.segment
+      → next.register ≡ drop (length bytes) (state.register ++ bytes) → next.used ≡ length bytes % state.segment
+      → (1 ≤ next.used
+      → next.output ≡ E (take 8 (drop (state.segment * (length bytes / state.segment)) (state.register ++ bytes))))
+      → IsCfbAt s E iv (c ++ bytes) next
   IsCfbAt-beyond bytes some unused segment shifted used made =
       let place : length bytes ≡ state.used + length bytes = omega arith in
       IsCfbAt-further bytes segment shifted (used ∙ ap (λ (m : ℕ). m % state.segment) place) (λ more.
@@ -152,8 +152,8 @@ module _ (s : ℕ) (E : List ℕ → List ℕ) (iv c : List ℕ) (state : Regist
       → length bytes ≤ state.segment * length blocks
       → ((j : ℕ) → j < length blocks
       → get_or blocks j [] ≡ E (take 8 (drop (state.segment * j) (state.register ++ bytes))))
-      → XorsFrom 0 (λ i. get_or (get_or blocks (i / state.segment) []) (i % state.segment) 0) bytes new
-      → XorsFrom (length c) (cfb_stream s E iv (c ++ bytes)) bytes new
+      → Xors bit_xor 0 0 (λ i. get_or (get_or blocks (i / state.segment) []) (i % state.segment) 0) bytes new
+      → Xors bit_xor 0 (length c) (cfb_stream s E iv (c ++ bytes)) bytes new
   XorsFrom-beyond bytes new blocks some unused enough made xors =
       let all : length bytes ≤ s * length blocks = rw is.segment at enough in
       XorsFrom-outputs bytes bytes new (λ j. get_or blocks j []) some xors.count
@@ -167,12 +167,13 @@ module _ (s : ℕ) (E : List ℕ → List ℕ) (iv c : List ℕ) (state : Regist
 
 -- ---- bits, from a place behind c on
 
-module _ (E : List ℕ → List ℕ) (iv : List ℕ) (c : List Bool) (held : List ℕ) (wide : length held ≡ 8) (is : CfbBitsAt iv c held) where
+module _ (E : List ℕ → List ℕ) (iv : List ℕ) (c : List Bool) (register : List ℕ) (wide : length register ≡ 8)
+    (is : HoldsLastBits iv c register) where
   -- the initialization vector has the register's width
   length-iv_bits : length (bits_of_bytes iv) ≡ 64
   length-iv_bits =
       let all : List Bool = bits_of_bytes iv ++ c in
-      omega (arith, ap length is.register, length-bits_of_bytes held, length-drop (length c) all, length-append (bits_of_bytes iv) c)
+      omega (arith, ap length is, length-bits_of_bytes register, length-drop (length c) all, length-append (bits_of_bytes iv) c)
 
   cfb_bits-before : (t more : List Bool) (i : ℕ) → i ≤ length t → cfb_bits 1 E iv (t ++ more) i ≡ cfb_bits 1 E iv t i
   cfb_bits-before t more i within =
@@ -184,31 +185,26 @@ module _ (E : List ℕ → List ℕ) (iv : List ℕ) (c : List Bool) (held : Lis
 
   -- the bit that goes with the next one
   cfb_bits-next : (more : List Bool)
-      → cfb_bits 1 E iv (c ++ more) (length c) ≡ block_bit (E (block_of_bits (bits_of_bytes held))) 0
+      → cfb_bits 1 E iv (c ++ more) (length c) ≡ block_bit (E (block_of_bits (bits_of_bytes register))) 0
   cfb_bits-next more =
       let n : ℕ = length c in
       let single : 1 * (n / 1) ≡ n = omega (arith, div-one n) in
       cfb_bits-before c more n (omega arith)
       ∙ ap₂ (λ (m k : ℕ). block_bit (E (block_of_bits (take 64 (drop m (bits_of_bytes iv ++ c))))) k) single (mod-one n)
       ∙ ap (λ (xs : List Bool). block_bit (E (block_of_bits xs)) 0)
-      (ap (take 64) (sym is.register) ∙ take_all 64 (bits_of_bytes held) (omega (arith, length-bits_of_bytes held)))
+      (ap (take 64) (sym is) ∙ take_all 64 (bits_of_bytes register) (omega (arith, length-bits_of_bytes register)))
 
 -- a bit more
-pub ByText-bit : (E : List ℕ → List ℕ) (iv : List ℕ) (old new : BitRegister) (direction : Direction) (x y : Bool)
-    → length old.register ≡ 8
-    → bits_of_bytes new.register ≡ drop 1 (bits_of_bytes old.register ++ ciphertext direction x y ∷ [])
-    → y ≡ xor x (block_bit (E (block_of_bits (bits_of_bytes old.register))) 0)
-    → Directed direction (ByText xor false (IsCfbBitsAt iv) (cfb_bits 1 E iv) old new) (x ∷ []) (y ∷ [])
+pub ByText-bit : (E : List ℕ → List ℕ) (iv old new : List ℕ) (direction : Direction) (x y : Bool) → length old ≡ 8
+    → bits_of_bytes new ≡ drop 1 (bits_of_bytes old ++ ciphertext direction x y ∷ [])
+    → y ≡ xor x (block_bit (E (block_of_bits (bits_of_bytes old))) 0)
+    → Directed direction (ByText xor false (HoldsLastBits iv) (cfb_bits 1 E iv) old new) (x ∷ []) (y ∷ [])
 ByText-bit E iv old new direction x y wide shifted is =
-    let text = (texts-map (λ (bit : Bool). bit ∷ []) direction x y).1 in
-    let held : List Bool = bits_of_bytes old.register in record {
+    let text = (texts-map (λ (bit : Bool). bit ∷ []) direction x y).1 in record {
       goes = λ t at. (
-        record {
-          register =
-              register-further (bits_of_bytes iv) t _ held (bits_of_bytes new.register) at.register
-              (subst (λ (more : List Bool). bits_of_bytes new.register ≡ drop (length more) (held ++ more)) text shifted);
-        },
+        register-further (bits_of_bytes iv) t _ (bits_of_bytes old) (bits_of_bytes new) at
+            (subst (λ (more : List Bool). bits_of_bytes new ≡ drop (length more) (bits_of_bytes old ++ more)) text shifted),
         Xors-directed direction (length t) _ (x ∷ []) (y ∷ []) bits_undone
-            (Xors-single (length t) _ x y (is ∙ ap (xor x) (sym (cfb_bits-next E iv t old.register wide at _)))),
+            (Xors-single (length t) _ x y (is ∙ ap (xor x) (sym (cfb_bits-next E iv t old wide at _)))),
       );
     }

@@ -81,7 +81,7 @@ module _ {E D : List ℕ → List ℕ} (laws : Undoes E D) where
 
   -- what wraps a key wraps no other, and has its checksum
   pub Wraps-one : (iv vector check : List ℕ) (key other wrapped : List (List ℕ)) → IsBlock iv → IsBlock vector
-      → Encloses (λ block answer. answer ≡ E block) iv (key ++ check ∷ []) wrapped → Wraps E vector other wrapped
+      → Encloses (λ block answer. answer ≡ E block) iv (key ++ check ∷ []) wrapped → Wraps (λ block answer. answer ≡ E block) vector other wrapped
       → (key ≡ other) × (checksum key ≡ check)
   Wraps-one iv vector check key other wrapped is_iv is_vector opened wraps =
       let same : key ++ check ∷ [] ≡ other ++ checksum other ∷ [] =

@@ -11,7 +11,7 @@ use Rattle.des.specs.KeySchedule.{c_half, d_half, rotate, shifts_through, round_
 use Rattle.des.specs.Cbc.{xor_blocks}
 use Rattle.des.specs.TripleCiphers.{ede3_encryption}
 use Rattle.des.specs.Rounds.{after_rounds, through_rounds}
-use Rattle.des_modes.specs.Cfb.{Cfb, Cfb1, cfb_bits}
+use Rattle.des_modes.specs.Cfb.{Cfb, CfbBits, cfb_bits}
 use Rattle.des_modes.specs.Ctr.{counter_block}
 use Rattle.des_modes.specs.Ofb.{Ofb}
 use Rattle.des_modes.specs.Streams.{Xors}
@@ -55,7 +55,7 @@ known_streams : Ofb encryption vector text (blocks (0xf3096249c7f46e51 ∷ 0x35f
     × Cfb 8 encryption vector text (blocks (0xf3096249c7f46e51 ∷ 0xa69e839b1a92f784 ∷ 0x03467133898ea622 ∷ []))
     × Cfb 6 encryption vector text (blocks (0xf3096249c7f430b5 ∷ 0x15ecbb85975a138c ∷ 0x6860e238343cdc1f ∷ []))
     × Cfb 1 encryption vector (take 8 text) (blocks (0xf31fda07011462ee ∷ []))
-    × Cfb1 encryption vector (bits_of_bytes (0x4e ∷ [])) (bits_of_bytes (0xcd ∷ []))
+    × CfbBits 1 encryption vector (bits_of_bytes (0x4e ∷ [])) (bits_of_bytes (0xcd ∷ []))
 unfolding blocks encryption vector text bits_of bits_of_bytes block_of_bits select substitute_by box_entry number_of
     cipher_function xor_bits round_key c_half d_half rotate shifts_through key_schedule after_rounds through_rounds
 known_streams = (

@@ -2,7 +2,6 @@ pub mod TkwSteps
 pub mod Enclosed
 pub mod BitPlaces
 pub mod Pieces
-pub mod Segments
 pub mod CfbPlaces
 pub mod RelatedStreams
 pub mod StreamPlaces

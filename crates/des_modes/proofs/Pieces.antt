@@ -5,7 +5,7 @@ use Rattle.std.proofs.Math.ListN.{get_or-append}
 use Rattle.std.proofs.lemmas.Bool.{cases_lt}
 use Rattle.std.proofs.lemmas.List.{get_or-append_right, ext_get_or, append-nil, length-replicate, take_all, take_more_set, drop-drop, drop-set-lt, drop_more}
 use Rattle.des.specs.Bits.{xor}
-use Rattle.des_modes.specs.Streams.{Xors, XorsFrom}
+use Rattle.des_modes.specs.Streams.{Xors}
 use Rattle.std.proofs.lemmas.Slice.{take-put_mid, drop-put_mid}
 use borrow.Rule.Slice.PartMut.{put_mid, mid_of}
 use Rattle.des_modes.specs.Directions.{plaintext, ciphertext}
@@ -187,7 +187,7 @@ texts-map f Decrypt old new = (refl, refl)
 abbrev pub Directed : {X : Type 0} → Direction → (List X → List X → Type 0) → List X → List X → Type 0
 Directed direction Done old now = Done (plaintext direction old now) (ciphertext direction old now)
 
--- the xor goes both ways
+-- the xor encrypts and decrypts
 pub Xors-directed : {X : Type 0} {op : X → X → X} {d : X} (direction : Direction) (n : ℕ) (k : ℕ → X) (old now : List X)
     → UndoesItself op → Xors op d n k old now → Directed direction (Xors op d n k) old now
 Xors-directed Encrypt n k old now undone xors = xors
@@ -215,8 +215,8 @@ length-behind Decrypt c old new same = length-append c old
 -- what goes on behind each text of n bytes goes on behind n bytes
 pub by_count : {S : Type 0} (At : ℕ → S → Type 0) (k : ℕ → ℕ) (before after : S) (old new : List ℕ) → length new ≡ length old
     → ((c : List ℕ) → At (length c) before → At (length (c ++ new)) after)
-    → ((c : List ℕ) → At (length c) before → XorsFrom (length c) k old new)
-    → (n : ℕ) → At n before → At (n + length old) after × XorsFrom n k old new
+    → ((c : List ℕ) → At (length c) before → Xors bit_xor 0 (length c) k old new)
+    → (n : ℕ) → At n before → At (n + length old) after × Xors bit_xor 0 n k old new
 by_count At k before after old new same goes xored n at =
     let c : List ℕ = replicate n 0 in
     let long : length c ≡ n = length-replicate n _ in

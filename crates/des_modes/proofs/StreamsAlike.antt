@@ -5,22 +5,21 @@ use Rattle.des.specs.Bits.{bits_of_bytes}
 use Rattle.des.specs.Blocks.{AreBytes, IsBlock}
 use Rattle.des.specs.Relations.{AnswerAlike, IsGraphOf}
 use Rattle.des.specs.Laws.BlockBits.{IsBlock-block_of_bits, IsBlock-to_be_bytes}
-use Rattle.des_modes.specs.Cfb.{Cfb1, block_bit}
+use Rattle.des_modes.specs.Cfb.{CfbBits, block_bit}
 use Rattle.des_modes.specs.Modes.{InMode, InModeUnder, mode_by}
-use Rattle.des_modes.specs.Ctr.{counter_block}
 use Rattle.des_modes.specs.Ofb.{output_block}
 use Rattle.des_modes.specs.States.{IsBitStreamAt, IsPlace, IsStreamAt, size_of}
 use Rattle.des_modes.specs.declared.modes.Mode.{Mode}
 use Rattle.des_modes.specs.declared.modes.Mode.TheVariants.{Counter, OutputFeedback, BitFeedback, CipherFeedback}
 use Rattle.des_modes.specs.declared.stream.Place.{Place}
 use Rattle.des_modes.specs.declared.stream.Stream.{Stream}
-use Rattle.des_modes.proofs.RelatedStreams.{XorsBitsFrom-from_Cfb, CfbBits-from_bits, Under-from, IsBlock-input_block, IsBlock-output_block, OfbUnder-from_Ofb}
+use Rattle.des_modes.proofs.RelatedStreams.{CfbBits-from_Cfb, Under-from, IsBlock-input_block, IsBlock-output_block}
 use Rattle.des_modes.proofs.StreamPlaces.{size_of-mode_by}
 use Rattle.des_modes.proofs.Pieces.{Xors-other}
 
 module _ (e f : List ℕ → List ℕ) (alike : AnswerAlike e f) where
-  Cfb1-alike : (iv : List ℕ) (p c : List Bool) → Cfb1 e iv p c → Cfb1 f iv p c
-  Cfb1-alike iv p c made =
+  CfbBits-alike : (iv : List ℕ) (p c : List Bool) → CfbBits 1 e iv p c → CfbBits 1 f iv p c
+  CfbBits-alike iv p c made =
       Xors-other 0 _ _ p c (λ i below. ap (λ (block : List ℕ). block_bit block ((0 + i) % 1)) (alike _ (IsBlock-block_of_bits _))) made
 
   pub IsBitStreamAt-alike : (iv : List ℕ) (p c : List Bool) (stream : Stream) → IsBitStreamAt e iv p c stream
@@ -29,7 +28,7 @@ module _ (e f : List ℕ → List ℕ) (alike : AnswerAlike e f) where
     begun = is.begun;
     is_mode = is.is_mode;
     place = is.place;
-    made = Cfb1-alike iv p c is.made;
+    made = CfbBits-alike iv p c is.made;
   }
 
   module _ (makes : (block : List ℕ) → IsBlock block → IsBlock (e block)) (iv c : List ℕ) (is_iv : IsBlock iv)
@@ -41,15 +40,22 @@ module _ (e f : List ℕ → List ℕ) (alike : AnswerAlike e f) where
 
     IsPlace-alike : (mode : Mode) (place : Place) → IsPlace mode e iv c place → IsPlace mode f iv c place
     IsPlace-alike Counter place at = at
-    IsPlace-alike OutputFeedback place at = record { block = at.block ∙ output_block-alike _; used = at.used }
+    IsPlace-alike OutputFeedback place (at, is, register, used) =
+        (at, record { block = is.block ∙ output_block-alike _; used = is.used }, register, used)
     IsPlace-alike BitFeedback place at = at
-    IsPlace-alike (CipherFeedback s) place at = record {
-      segment = at.segment;
-      register = at.register;
-      used = at.used;
-      output = λ more.
-          at.output more ∙ alike _ (IsBlock-input_block s iv c _ is_iv bytes (mul-div-le (length c) s));
-    }
+    IsPlace-alike (CipherFeedback s) place (at, is, register, output, used) = (
+      at,
+      record {
+        segment = is.segment;
+        register = is.register;
+        used = is.used;
+        output = λ more.
+            is.output more ∙ alike _ (IsBlock-input_block s iv c _ is_iv bytes (mul-div-le (length c) s));
+      },
+      register,
+      output,
+      used,
+    )
 
     pub InMode-alike : (mode : Mode) (p : List ℕ) → InMode mode e iv p c → InMode mode f iv p c
     InMode-alike Counter p made =
@@ -58,7 +64,7 @@ module _ (e f : List ℕ → List ℕ) (alike : AnswerAlike e f) where
     InMode-alike OutputFeedback p made =
         Xors-other 0 _ _ p c
         (λ i below. ap (λ (block : List ℕ). get_or block ((0 + i) % 8) 0) (output_block-alike _)) made
-    InMode-alike BitFeedback p made = Cfb1-alike iv (bits_of_bytes p) (bits_of_bytes c) made
+    InMode-alike BitFeedback p made = CfbBits-alike iv (bits_of_bytes p) (bits_of_bytes c) made
     InMode-alike (CipherFeedback s) p made =
         Xors-other 0 _ _ p c (λ i below.
         let begun : s * ((0 + i) / s) ≤ length c = omega (arith, mul-div-le (0 + i) s, made.count) in
@@ -82,14 +88,13 @@ pub InModeUnder-from : (mode : Mode) (Answers : List ℕ → List ℕ → Type 0
     → ((block : List ℕ) → IsBlock block → IsBlock (encryption block))
     → IsBlock iv → AreBytes c → InMode mode encryption iv p c → InModeUnder mode Answers iv p c
 InModeUnder-from Counter Answers e iv p c sound graph makes is_iv bytes made =
-    Under-from e (λ j. e (counter_block iv j)) graph (λ j. (IsBlock-to_be_bytes _, refl)) made
+    Under-from e graph made
 InModeUnder-from OutputFeedback Answers e iv p c sound graph makes is_iv bytes made =
-    OfbUnder-from_Ofb Answers e iv p c graph is_iv makes made
+    Under-from e graph made
 InModeUnder-from BitFeedback Answers e iv p c sound graph makes is_iv bytes made =
-    CfbBits-from_bits Answers e 1 iv (bits_of_bytes p) (bits_of_bytes c) graph made
+    Under-from e graph made
 InModeUnder-from (CipherFeedback s) Answers e iv p c sound graph makes is_iv bytes made =
-    CfbBits-from_bits Answers e (8 * s) iv (bits_of_bytes p) (bits_of_bytes c) graph
-    (XorsBitsFrom-from_Cfb s e iv p c sound.0 sound.1 is_iv bytes makes made)
+    Under-from e graph (CfbBits-from_Cfb s e iv p c sound.0 sound.1 is_iv bytes makes made)
 
 -- a cipher whose encryption takes blocks to blocks and, of them, is that of a key
 module _ (e k : List ℕ → List ℕ) (alike : AnswerAlike e k) (makes : (block : List ℕ) → IsBlock block → IsBlock (e block)) where

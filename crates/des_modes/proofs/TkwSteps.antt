@@ -13,8 +13,7 @@ use Rattle.des.specs.Blocks.{IsBlock}
 use Rattle.des.specs.Cbc.{xor_blocks}
 use Rattle.des.specs.Laws.BlockBits.{AreBytes-bytes_high_first}
 use Rattle.des.proofs.XoredBlocks.{xor_blocks-undone}
-use Rattle.des.specs.Relations.{IsGraphOf}
-use Rattle.des_modes.specs.Tkw.{IsSemiblock, TkwUnder, icv3, tw_step, tw_steps, tw, tkw}
+use Rattle.des_modes.specs.Tkw.{IsSemiblock, TkwUnder, tw_step, tw_steps, tw}
 
 -- a step more
 pub tw_steps-next : (E : List ℕ → List ℕ) (t : ℕ) (words : List (List ℕ))
@@ -94,7 +93,10 @@ IsSemiblock-xor_blocks word other is too =
 abbrev AreSemiblocks : ℕ → List (List ℕ) → Type 0
 AreSemiblocks n words = (length words ≡ n) × All IsSemiblock words
 
--- the check value before semiblocks
+-- the check value, and semiblocks behind it
+abbrev pub icv3 : List ℕ
+icv3 = 0xa6 ∷ 0xa6 ∷ 0xa6 ∷ 0xa6 ∷ []
+
 checked : (words : List (List ℕ)) → All IsSemiblock words → AreSemiblocks (length words + 1) (icv3 ∷ words)
 checked words are = (omega arith, All-cons IsSemiblock icv3 words (IsSemiblock-number 0xa6a6a6a6) are)
 
@@ -161,27 +163,9 @@ unwrapped-one {E} {D} laws first words other (a ∷ wrapped) is_first are too si
       is_block = λ block is. rw (under.answered block is) (laws.is_block block is);
     } in
     let count : length other ≡ length words =
-    omega (arith, ap length under.answer, (tw_steps-keep other_laws made n (icv3 ∷ other) (checked other too)).0) in
+    omega (arith, ap length under.made, (tw_steps-keep other_laws made n (icv3 ∷ other) (checked other too)).0) in
     let steps : 6 * (length (first ∷ words) - 1) ≡ made = omega (arith, count) in
     tw_steps-injective laws other_laws made n (first ∷ words) (icv3 ∷ other)
     (omega (arith, count), All-cons IsSemiblock first words is_first are) (checked other too)
     (ap (λ (k : ℕ). tw_steps E k (first ∷ words)) (sym steps) ∙ same
-    ∙ ap (λ (xs : List (List ℕ)). a ∷ xs) (behind ∙ take_all (length (a ∷ wrapped) - 1) wrapped (omega arith)) ∙ sym under.answer)
-
--- ---- by the relation of a cipher's key
-
-module _ {P : List ℕ → List ℕ → Type 0} {key wrapped : List (List ℕ)} where
-  pub TkwUnder-from_tkw : {E : List ℕ → List ℕ} → IsGraphOf E P → tkw E key ≡ wrapped → TkwUnder P key wrapped
-  TkwUnder-from_tkw {E} graph made = record {
-    encryption = E;
-    answered = λ block is_block. (graph block (E block)).1 (is_block, refl);
-    answer = made;
-  }
-
-  pub TkwUnder-weaker : {Q : List ℕ → List ℕ → Type 0} → ((x y : List ℕ) → P x y → Q x y) → TkwUnder P key wrapped
-      → TkwUnder Q key wrapped
-  TkwUnder-weaker weaker under = record {
-    encryption = under.encryption;
-    answered = λ block is. weaker block (under.encryption block) (under.answered block is);
-    answer = under.answer;
-  }
+    ∙ ap (λ (xs : List (List ℕ)). a ∷ xs) (behind ∙ take_all (length (a ∷ wrapped) - 1) wrapped (omega arith)) ∙ sym under.made)

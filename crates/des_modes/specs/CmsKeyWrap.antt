@@ -1,18 +1,14 @@
 -- The triple DES key wrap of CMS (RFC 3217, 3), of a key of any number of blocks of eight bytes: a key of triple DES has
 -- three. A relation of blocks, such as that of the key that protects, takes each block to its encryption.
-use Rattle.std.specs.Prelude.{◌≡◌, ℕ, List, [], ◌∷◌, ◌++◌, map, take, reverse}
+use Rattle.std.specs.Prelude.{ℕ, List, [], ◌∷◌, ◌++◌, map, take, reverse}
 use Rattle.std.specs.List.{All, flat_map}
 use Rattle.des.specs.Blocks.{IsBlock}
 use Rattle.des.specs.Cbc.{Chains}
 use Rattle.sha1.specs.Sha1.{sha1}
 
--- the bytes of blocks, one after another
-abbrev pub joined : List (List ℕ) → List ℕ
-joined blocks = flat_map (λ block. block) blocks
-
 -- the key checksum, ICV (section 2)
 abbrev pub checksum : List (List ℕ) → List ℕ
-checksum key = take 8 (sha1 (joined key))
+checksum key = take 8 (sha1 (flat_map (λ block. block) key))
 
 -- the initialization vector of the second encryption
 abbrev pub second_iv : List ℕ
@@ -30,9 +26,5 @@ pub record Encloses (Answers : List ℕ → List ℕ → Type 0) (iv : List ℕ)
   pub second : Chains Answers second_iv (reversed (iv ∷ temp1)) enclosed
 
 -- the key and its checksum are enclosed
-abbrev pub WrapsUnder : (List ℕ → List ℕ → Type 0) → List ℕ → List (List ℕ) → List (List ℕ) → Type 0
-WrapsUnder Answers iv key wrapped = Encloses Answers iv (key ++ checksum key ∷ []) wrapped
-
--- by an encryption
-abbrev pub Wraps : (List ℕ → List ℕ) → List ℕ → List (List ℕ) → List (List ℕ) → Type 0
-Wraps encryption iv key wrapped = WrapsUnder (λ block answer. answer ≡ encryption block) iv key wrapped
+abbrev pub Wraps : (List ℕ → List ℕ → Type 0) → List ℕ → List (List ℕ) → List (List ℕ) → Type 0
+Wraps Answers iv key wrapped = Encloses Answers iv (key ++ checksum key ∷ []) wrapped

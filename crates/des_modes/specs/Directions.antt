@@ -9,5 +9,4 @@ plaintext Decrypt old new = new
 
 -- and the other is the ciphertext
 abbrev pub ciphertext : {X : Type 0} → Direction → X → X → X
-ciphertext Encrypt old new = new
-ciphertext Decrypt old new = old
+ciphertext direction old new = plaintext direction new old

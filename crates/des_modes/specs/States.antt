@@ -3,11 +3,10 @@ use Rattle.std.specs.Prelude.{◌≡◌, ℕ, ◌+◌, ◌/◌, ◌%◌, ◌^◌
 use Rattle.std.specs.Int.{w64, from_be_bytes}
 use Rattle.des.specs.Bits.{bits_of_bytes}
 use Rattle.des.specs.Blocks.{AreBytes, IsBlock}
-use Rattle.des_modes.specs.Cfb.{Cfb1, input_block}
+use Rattle.des_modes.specs.Cfb.{CfbBits, input_block}
 use Rattle.des_modes.specs.Modes.{InMode, IsMode, mode_by}
 use Rattle.des_modes.specs.Ofb.{output_block}
 use Rattle.des_modes.specs.declared.cfb.Register.{Register}
-use Rattle.des_modes.specs.declared.cfb_bits.BitRegister.{BitRegister}
 use Rattle.des_modes.specs.declared.ctr.Counter.{Counter}
 use Rattle.des_modes.specs.declared.modes.Mode.{Mode}
 use Rattle.des_modes.specs.declared.modes.Mode.TheVariants.{Counter as CounterMode, OutputFeedback, BitFeedback, CipherFeedback}
@@ -18,37 +17,25 @@ use Rattle.des_modes.specs.declared.stream.Stream.{Stream}
 use Rattle.des_modes.specs.declared.stream.TheConstants.{MARK}
 
 -- CTR, n bytes behind: the counter is that of the block in which byte n stands, of whose output block n modulo 8 are used
-pub record CtrAt (t : List ℕ) (n now taken : ℕ) : Type 0 where
-  pub counter : now ≡ (from_be_bytes w64 t + n / 8) % 2 ^ 64
-  pub used : taken ≡ n % 8
-
-abbrev pub IsCtrAt : List ℕ → ℕ → Counter → Type 0
-IsCtrAt t n state = CtrAt t n state.counter state.used
+pub record IsCtrAt (t : List ℕ) (n : ℕ) (state : Counter) : Type 0 where
+  pub counter : state.counter ≡ (from_be_bytes w64 t + n / 8) % 2 ^ 64
+  pub used : state.used ≡ n % 8
 
 -- OFB, n bytes behind: the block is the last output block that they took from, of which n modulo 8 are used, 0 for all
-pub record OfbAt (encryption : List ℕ → List ℕ) (iv : List ℕ) (n : ℕ) (last : List ℕ) (taken : ℕ) : Type 0 where
-  pub block : last ≡ output_block encryption iv ((n + 7) / 8)
-  pub used : taken ≡ n % 8
-
-abbrev pub IsOfbAt : (List ℕ → List ℕ) → List ℕ → ℕ → Feedback → Type 0
-IsOfbAt encryption iv n state = OfbAt encryption iv n state.block state.used
+pub record IsOfbAt (encryption : List ℕ → List ℕ) (iv : List ℕ) (n : ℕ) (state : Feedback) : Type 0 where
+  pub block : state.block ≡ output_block encryption iv ((n + 7) / 8)
+  pub used : state.used ≡ n % 8
 
 -- CFB, the ciphertext c behind: the register holds the last eight bytes of IV | C
-pub record CfbAt (s : ℕ) (encryption : List ℕ → List ℕ) (iv c : List ℕ) (size : ℕ) (held answer : List ℕ) (taken : ℕ) : Type 0 where
-  pub segment : size ≡ s
-  pub register : held ≡ drop (length c) (iv ++ c)
-  pub used : taken ≡ length c % s
-  pub output : 1 ≤ taken → answer ≡ encryption (input_block s iv c (length c / s))
-
-abbrev pub IsCfbAt : ℕ → (List ℕ → List ℕ) → List ℕ → List ℕ → Register → Type 0
-IsCfbAt s encryption iv c state = CfbAt s encryption iv c state.segment state.register state.output state.used
+pub record IsCfbAt (s : ℕ) (encryption : List ℕ → List ℕ) (iv c : List ℕ) (state : Register) : Type 0 where
+  pub segment : state.segment ≡ s
+  pub register : state.register ≡ drop (length c) (iv ++ c)
+  pub used : state.used ≡ length c % s
+  pub output : 1 ≤ state.used → state.output ≡ encryption (input_block s iv c (length c / s))
 
 -- CFB of one bit, the bits c of the ciphertext behind: the register holds the last 64 bits of IV | C
-pub record CfbBitsAt (iv : List ℕ) (c : List Bool) (held : List ℕ) : Type 0 where
-  pub register : bits_of_bytes held ≡ drop (length c) (bits_of_bytes iv ++ c)
-
-abbrev pub IsCfbBitsAt : List ℕ → List Bool → BitRegister → Type 0
-IsCfbBitsAt iv c state = CfbBitsAt iv c state.register
+abbrev pub HoldsLastBits : (iv : List ℕ) (c : List Bool) (register : List ℕ) → Type 0
+HoldsLastBits iv c register = bits_of_bytes register ≡ drop (length c) (bits_of_bytes iv ++ c)
 
 -- the bytes of an output block that are used before the next
 abbrev pub size_of : Mode → ℕ
@@ -63,16 +50,15 @@ IsInMode mode stream = (stream.mark ≡ MARK) × IsMode stream.mode × (mode ≡
 abbrev pub HasBegun : Stream → Type 0
 HasBegun stream = (stream.mark ≡ MARK) × IsMode stream.mode × (stream.place.used < size_of (mode_by stream.mode))
 
--- the register holds the last 64 bits of IV | C
-abbrev pub IsCfbBitPlace : List ℕ → List Bool → Place → Type 0
-IsCfbBitPlace iv c place = CfbBitsAt iv c place.register × (place.used ≡ 0)
-
--- the state of a mode: the register holds the counter, the last output block, or the last eight bytes of IV | C
+-- a place holds a state of its mode: in its register the counter, the last output block, or the last eight bytes of IV | C
 abbrev pub IsPlace : Mode → (List ℕ → List ℕ) → List ℕ → List ℕ → Place → Type 0
-IsPlace CounterMode encryption iv c place = CtrAt iv (length c) (from_be_bytes w64 place.register) place.used
-IsPlace OutputFeedback encryption iv c place = OfbAt encryption iv (length c) place.register place.used
-IsPlace BitFeedback encryption iv c place = IsCfbBitPlace iv (bits_of_bytes c) place
-IsPlace (CipherFeedback s) encryption iv c place = CfbAt s encryption iv c s place.register place.output place.used
+IsPlace CounterMode encryption iv c place =
+    (at : Counter) × IsCtrAt iv (length c) at × (from_be_bytes w64 place.register ≡ at.counter) × (place.used ≡ at.used)
+IsPlace OutputFeedback encryption iv c place =
+    (at : Feedback) × IsOfbAt encryption iv (length c) at × (place.register ≡ at.block) × (place.used ≡ at.used)
+IsPlace BitFeedback encryption iv c place = HoldsLastBits iv (bits_of_bytes c) place.register × (place.used ≡ 0)
+IsPlace (CipherFeedback s) encryption iv c place = (at : Register) × IsCfbAt s encryption iv c at
+    × (place.register ≡ at.register) × (place.output ≡ at.output) × (place.used ≡ at.used)
 
 -- a stream in words: in the mode of a number p became c under the encryption, and it goes on from there
 pub record IsStreamAt (number : ℕ) (encryption : List ℕ → List ℕ) (iv p c : List ℕ) (stream : Stream) : Type 0 where
@@ -87,5 +73,5 @@ pub record IsStreamAt (number : ℕ) (encryption : List ℕ → List ℕ) (iv p 
 pub record IsBitStreamAt (encryption : List ℕ → List ℕ) (iv : List ℕ) (p c : List Bool) (stream : Stream) : Type 0 where
   pub begun : HasBegun stream
   pub is_mode : stream.mode ≡ CFB1
-  pub place : IsCfbBitPlace iv c stream.place
-  pub made : Cfb1 encryption iv p c
+  pub place : HoldsLastBits iv c stream.place.register × (stream.place.used ≡ 0)
+  pub made : CfbBits 1 encryption iv p c

@@ -4,16 +4,15 @@
 
 ghost use Rattle.std.specs.Prelude.{◌≡◌, ◌<◌, ◌≤◌, ◌+◌, ◌*◌, ◌^◌, ℕ, List, length, replicate, IsOk, OnOk, OnErr};
 ghost use Rattle.std.specs.List.{All};
-ghost use Rattle.des.specs.Bits.{bits_of_bytes};
 ghost use Rattle.des.specs.Blocks.{IsBlock};
 ghost use Rattle.des_modes.specs.Cfb.{CfbBits, first_bits};
-ghost use Rattle.des_modes.specs.CmsKeyWrap.{WrapsUnder};
-ghost use Rattle.des_modes.specs.Ctr.{CtrUnder};
+ghost use Rattle.des_modes.specs.CmsKeyWrap.{Wraps};
 ghost use Rattle.des_modes.specs.Directions.{plaintext, ciphertext};
 ghost use Rattle.des_modes.specs.Modes.{InModeUnder};
-ghost use Rattle.des_modes.specs.Ofb.{OfbUnder};
 ghost use Rattle.des_modes.specs.States.{size_of};
+ghost use Rattle.des_modes.specs.Streams.{Under};
 ghost use Rattle.des_modes.specs.Tkw.{IsSemiblock, TkwUnder};
+ghost use Rattle.des_modes.specs.declared.modes.Mode.TheVariants.{CipherFeedback, Counter, OutputFeedback};
 
 use crate::direction::Direction::{self, Decrypt, Encrypt};
 use crate::lists::ByLists;
@@ -53,7 +52,7 @@ pub fn apply_ctr<C: ManyBlocks, S: Slice>(
     bytes: &mut [u8],
 )
     ensures { (key : List ℕ) → C.is_made_from cipher.now key
-        → CtrUnder (C.relation key) block.now bytes.old bytes.new }
+        → InModeUnder Counter (C.relation key) block.now bytes.old bytes.new }
 {
     apply_by::<C, S>(cipher, no_tables, Encrypt, Mode::Counter, block, bytes);
 }
@@ -66,7 +65,7 @@ pub fn apply_ofb<C: ManyBlocks, S: Slice>(
     bytes: &mut [u8],
 )
     ensures { (key : List ℕ) → C.is_made_from cipher.now key
-        → OfbUnder (C.relation key) iv.now bytes.old bytes.new }
+        → InModeUnder OutputFeedback (C.relation key) iv.now bytes.old bytes.new }
 {
     apply_by::<C, S>(cipher, no_tables, Encrypt, Mode::OutputFeedback, iv, bytes);
 }
@@ -81,8 +80,8 @@ pub fn encrypt_cfb<C: ManyBlocks, S: Slice>(
 )
     requires some { 1 ≤ segment }
     requires short { segment ≤ 8 }
-    ensures { (key : List ℕ) → C.is_made_from cipher.now key → CfbBits (C.relation key) (8 * segment)
-        iv.now (bits_of_bytes bytes.old) (bits_of_bytes bytes.new) }
+    ensures { (key : List ℕ) → C.is_made_from cipher.now key
+        → InModeUnder (CipherFeedback segment) (C.relation key) iv.now bytes.old bytes.new }
 {
     let mode = Mode::CipherFeedback(segment);
     apply_by::<C, S>(cipher, no_tables, Encrypt, mode, iv, bytes);
@@ -98,8 +97,8 @@ pub fn decrypt_cfb<C: ManyBlocks, S: Slice>(
 )
     requires some { 1 ≤ segment }
     requires short { segment ≤ 8 }
-    ensures { (key : List ℕ) → C.is_made_from cipher.now key → CfbBits (C.relation key) (8 * segment)
-        iv.now (bits_of_bytes bytes.new) (bits_of_bytes bytes.old) }
+    ensures { (key : List ℕ) → C.is_made_from cipher.now key
+        → InModeUnder (CipherFeedback segment) (C.relation key) iv.now bytes.new bytes.old }
 {
     let mode = Mode::CipherFeedback(segment);
     apply_by::<C, S>(cipher, no_tables, Decrypt, mode, iv, bytes);
@@ -115,8 +114,8 @@ pub fn encrypt_cfb_bits<C: ManyBlocks, S: Slice>(
     bits: usize,
 )
     requires { bits ≤ 8 * length bytes.old }
-    ensures { (key : List ℕ) → C.is_made_from cipher.now key → CfbBits (C.relation key) 1 iv.now
-        (first_bits bits bytes.old) (first_bits bits bytes.new) }
+    ensures { (key : List ℕ) → C.is_made_from cipher.now key → Under (C.relation key)
+        (λ encryption. CfbBits 1 encryption iv.now (first_bits bits bytes.old) (first_bits bits bytes.new)) }
 {
     cfb_bits::encrypt(&ByLists::<C, S>::new(cipher, no_tables), iv, bytes, bits);
 }
@@ -131,8 +130,8 @@ pub fn decrypt_cfb_bits<C: ManyBlocks, S: Slice>(
     bits: usize,
 )
     requires { bits ≤ 8 * length bytes.old }
-    ensures { (key : List ℕ) → C.is_made_from cipher.now key → CfbBits (C.relation key) 1 iv.now
-        (first_bits bits bytes.new) (first_bits bits bytes.old) }
+    ensures { (key : List ℕ) → C.is_made_from cipher.now key → Under (C.relation key)
+        (λ encryption. CfbBits 1 encryption iv.now (first_bits bits bytes.new) (first_bits bits bytes.old)) }
 {
     cfb_bits::decrypt(&ByLists::<C, S>::new(cipher, no_tables), iv, bytes, bits);
 }
@@ -141,7 +140,7 @@ pub fn decrypt_cfb_bits<C: ManyBlocks, S: Slice>(
 pub fn wrap_cms<C: Relating>(cipher: &C, iv: &[u8; 8], key: &[[u8; 8]], wrapped: &mut [[u8; 8]])
     requires { length wrapped.old ≡ length key.now + 2 }
     ensures { (protection : List ℕ) → C.is_made_from cipher.now protection
-        → WrapsUnder (C.relation protection) iv.now key.now wrapped.new }
+        → Wraps (C.relation protection) iv.now key.now wrapped.new }
 {
     are_bytes(iv);
     cms_key_wrap::wrap(cipher, iv, key, wrapped);
@@ -156,10 +155,10 @@ pub fn unwrap_cms<C: Relating>(
     requires { length wrapped.now ≡ length key.old + 2 }
     ensures unwrapped { (protection : List ℕ) → C.is_made_from cipher.now protection
         → OnOk result ((iv : List ℕ) × IsBlock iv
-        × WrapsUnder (C.relation protection) iv key.new wrapped.now) }
+        × Wraps (C.relation protection) iv key.new wrapped.now) }
     ensures accepted { (protection iv : List ℕ) (other : List (List ℕ))
         → C.is_made_from cipher.now protection → IsBlock iv
-        → WrapsUnder (C.relation protection) iv other wrapped.now → IsOk result × (key.new ≡ other) }
+        → Wraps (C.relation protection) iv other wrapped.now → IsOk result × (key.new ≡ other) }
     ensures none { OnErr result (key.new ≡ replicate (length key.old) (replicate 8 0)) }
 {
     cms_key_wrap::unwrap(cipher, wrapped, key)
@@ -169,7 +168,7 @@ pub fn unwrap_cms<C: Relating>(
 pub fn wrap_tkw<C: Relating>(cipher: &C, key: &[[u8; 4]], wrapped: &mut [[u8; 4]])
     requires some { 2 ≤ length key.now }
     requires few { length key.now < 2 ^ 28 }
-    requires room { length wrapped.old ≡ length key.now + 1 }
+    requires capacity { length wrapped.old ≡ length key.now + 1 }
     ensures { (protection : List ℕ) → C.is_made_from cipher.now protection
         → TkwUnder (C.relation protection) key.now wrapped.new }
 {
@@ -184,7 +183,7 @@ pub fn unwrap_tkw<C: Relating>(
 ) -> Result<(), UnwrapError>
     requires some { 2 ≤ length key.old }
     requires few { length key.old < 2 ^ 28 }
-    requires room { length wrapped.now ≡ length key.old + 1 }
+    requires capacity { length wrapped.now ≡ length key.old + 1 }
     ensures unwrapped { (protection : List ℕ) → C.is_made_from cipher.now protection
         → OnOk result (TkwUnder (C.relation protection) key.new wrapped.now) }
     ensures accepted { (protection : List ℕ) (other : List (List ℕ))

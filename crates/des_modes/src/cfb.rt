@@ -1,9 +1,9 @@
 //! Cipher feedback over any block cipher (FIPS 81, cipher feedback mode; NIST SP 800-38A, 6.3), with
 //! segments of one to eight bytes: eight for the feedback of 64 bits, one for that of 8.
 
-ghost use Rattle.std.specs.Prelude.{◌≡◌, ◌<◌, ◌≤◌, ◌+◌, ◌-◌, ◌*◌, ◌/◌, ◌%◌, ℕ, List, [], ◌++◌, length, take, drop, slice_index_or, nat_eq, if◌then◌else◌};
+ghost use Rattle.std.specs.Prelude.{◌≡◌, ◌<◌, ◌≤◌, ◌+◌, ◌-◌, ◌*◌, ◌/◌, ◌%◌, ℕ, List, [], ◌++◌, length, take, drop, slice_index_or, nat_eq, if◌then◌else◌, bit_xor};
 ghost use Rattle.std.specs.List.{All};
-ghost use Rattle.des_modes.specs.Streams.{XorsFrom};
+ghost use Rattle.des_modes.specs.Streams.{Xors};
 ghost use Rattle.des_modes.specs.Cfb.{Cfb, cfb_stream, input_block};
 ghost use Rattle.des_modes.specs.Directions.{plaintext, ciphertext};
 
@@ -161,7 +161,8 @@ impl Register {
     #[inline]
     fn advance(&mut self, output: &[u8; 8], bytes: &[u8])
         requires { self.old.used + length bytes.now ≤ self.old.segment }
-        ensures { (s : ℕ) (encryption : List ℕ → List ℕ) (iv c : List ℕ)
+        ensures segment { self.new.segment ≡ self.old.segment }
+        ensures after { (s : ℕ) (encryption : List ℕ → List ℕ) (iv c : List ℕ)
             → IsCfbAt s encryption iv c self.old
             → output.now ≡ encryption (input_block s iv c (length c / s))
             → IsCfbAt s encryption iv (c ++ bytes.now) self.new }
@@ -180,11 +181,12 @@ impl Register {
         bytes: &mut [u8],
     )
         requires { self.old.used + length bytes.old ≤ self.old.segment }
+        ensures segment { self.new.segment ≡ self.old.segment }
         ensures after { (s : ℕ) (iv c : List ℕ) → IsCfbAt s (C.encrypted cipher.now) iv c self.old
             → IsCfbAt s (C.encrypted cipher.now) iv
             (c ++ ciphertext direction bytes.old bytes.new) self.new }
         ensures xored { (s : ℕ) (iv c : List ℕ) → IsCfbAt s (C.encrypted cipher.now) iv c self.old
-            → XorsFrom (length c)
+            → Xors bit_xor 0 (length c)
             (cfb_stream s (C.encrypted cipher.now) iv (c ++ ciphertext direction bytes.old bytes.new))
             bytes.old bytes.new }
     {
@@ -206,11 +208,12 @@ impl Register {
     fn decrypt_segments<C: BlockCipherEncrypt>(&mut self, cipher: &C, bytes: &mut [u8])
         requires between { self.old.used ≡ 0 }
         requires few { length bytes.old ≤ self.old.segment * 256 }
+        ensures segment { self.new.segment ≡ self.old.segment }
         ensures after { (s : ℕ) (iv c : List ℕ) → IsCfbAt s (C.encrypted cipher.now) iv c self.old
             → IsCfbAt s (C.encrypted cipher.now) iv (c ++ bytes.old) self.new }
         ensures decrypted { (s : ℕ) (iv c : List ℕ)
             → IsCfbAt s (C.encrypted cipher.now) iv c self.old
-            → XorsFrom (length c) (cfb_stream s (C.encrypted cipher.now) iv (c ++ bytes.old))
+            → Xors bit_xor 0 (length c) (cfb_stream s (C.encrypted cipher.now) iv (c ++ bytes.old))
             bytes.old bytes.new }
     {
         let count = bytes.len();
@@ -234,11 +237,12 @@ impl Register {
         cipher: &C,
         bytes: &mut [u8],
     )
+        ensures segment { self.new.segment ≡ self.old.segment }
         ensures after { (s : ℕ) (iv c : List ℕ) → IsCfbAt s (C.encrypted cipher.now) iv c self.old
             → IsCfbAt s (C.encrypted cipher.now) iv
             (c ++ ciphertext direction bytes.old bytes.new) self.new }
         ensures xored { (s : ℕ) (iv c : List ℕ) → IsCfbAt s (C.encrypted cipher.now) iv c self.old
-            → XorsFrom (length c)
+            → Xors bit_xor 0 (length c)
             (cfb_stream s (C.encrypted cipher.now) iv (c ++ ciphertext direction bytes.old bytes.new))
             (plaintext direction bytes.old bytes.new) (ciphertext direction bytes.old bytes.new) }
         ensures whole { (s : ℕ) (iv c p : List ℕ) → IsCfbAt s (C.encrypted cipher.now) iv c self.old
@@ -256,6 +260,8 @@ impl<C: BlockCipherEncrypt> TakesParts<C> for Register {
     ghost is_at = { λ encryption s iv c register. IsCfbAt s encryption iv c register };
 
     ghost key_stream = { λ encryption s iv c. cfb_stream s encryption iv c };
+
+    ghost segment = { λ register. register.segment };
 
     // What is left of a segment, or of ciphertext, if none has begun, 256 segments.
     ghost limit = { λ direction register. plaintext direction (register.segment - register.used)

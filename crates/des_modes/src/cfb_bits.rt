@@ -1,11 +1,12 @@
 //! Cipher feedback of one bit over any block cipher (FIPS 81, cipher feedback mode; NIST SP 800-38A,
 //! 6.3): CFB-1. Lengths are in bits, of which the first is the most significant of the first byte.
 
-ghost use Rattle.std.specs.Prelude.{◌≡◌, ◌<◌, ◌≤◌, ◌*◌, ◌++◌, ℕ, Bool, List, [], ◌∷◌, length, drop, slice_set};
+ghost use Rattle.std.specs.Prelude.{◌≡◌, ◌<◌, ◌≤◌, ◌*◌, ◌++◌, ℕ, Bool, false, List, [], ◌∷◌, length, drop, slice_set};
 ghost use Rattle.des.specs.Bits.{bits_of_bytes, xor};
 ghost use Rattle.des.specs.Blocks.{block_of_bits};
-ghost use Rattle.des_modes.specs.Cfb.{Cfb1, XorsBitsFrom, block_bit, cfb_bits, first_bits};
+ghost use Rattle.des_modes.specs.Cfb.{CfbBits, block_bit, cfb_bits, first_bits};
 ghost use Rattle.des_modes.specs.Directions.{plaintext, ciphertext};
+ghost use Rattle.des_modes.specs.Streams.{Xors};
 
 use crate::direction::Direction;
 use des::cipher::{BlockCipherEncrypt, are_bytes};
@@ -35,14 +36,14 @@ pub struct BitRegister {
 }
 
 impl BitRegister {
-    ghost use Rattle.des_modes.specs.States.{IsCfbBitsAt};
+    ghost use Rattle.des_modes.specs.States.{HoldsLastBits};
 
     /// The place after these 64 bits of ciphertext, or at the beginning of the initialization vector. To
     /// decrypt a part, no others are needed.
     pub fn new(before: &[u8; 8]) -> BitRegister
         ensures { (iv : List ℕ) (c : List Bool)
             → bits_of_bytes before.now ≡ drop (length c) (bits_of_bytes iv ++ c)
-            → IsCfbBitsAt iv c result }
+            → HoldsLastBits iv c result.register }
     {
         BitRegister { register: *before }
     }
@@ -69,8 +70,9 @@ impl BitRegister {
         self.register = ((word << 1) | u64::from(bit)).to_be_bytes();
     }
 
-    /// As `apply`, of so many bits that a `usize` may not count them.
-    pub(crate) fn apply_many<C: BlockCipherEncrypt>(
+    /// Encrypts or decrypts the next bits of the stream in place, the first `bits` bits of the bytes. The
+    /// others stay as they are. However a text is cut into pieces, they become what the whole becomes.
+    pub fn apply<C: BlockCipherEncrypt>(
         &mut self,
         direction: Direction,
         cipher: &C,
@@ -78,15 +80,15 @@ impl BitRegister {
         bits: u128,
     )
         requires { bits ≤ 8 * length bytes.old }
-        ensures after { (iv : List ℕ) (c : List Bool) → IsCfbBitsAt iv c self.old → IsCfbBitsAt iv
-            (c ++ first_bits bits (ciphertext direction bytes.old bytes.new)) self.new }
-        ensures xored { (iv : List ℕ) (c : List Bool) → IsCfbBitsAt iv c self.old
-            → XorsBitsFrom (length c) (cfb_bits 1 (C.encrypted cipher.now) iv
+        ensures after { (iv : List ℕ) (c : List Bool) → HoldsLastBits iv c self.old.register → HoldsLastBits iv
+            (c ++ first_bits bits (ciphertext direction bytes.old bytes.new)) self.new.register }
+        ensures xored { (iv : List ℕ) (c : List Bool) → HoldsLastBits iv c self.old.register
+            → Xors xor false (length c) (cfb_bits 1 (C.encrypted cipher.now) iv
             (c ++ first_bits bits (ciphertext direction bytes.old bytes.new)))
             (first_bits bits (plaintext direction bytes.old bytes.new))
             (first_bits bits (ciphertext direction bytes.old bytes.new)) }
-        ensures whole { (iv : List ℕ) (p c : List Bool) → IsCfbBitsAt iv c self.old
-            → Cfb1 (C.encrypted cipher.now) iv p c → Cfb1 (C.encrypted cipher.now) iv
+        ensures whole { (iv : List ℕ) (p c : List Bool) → HoldsLastBits iv c self.old.register
+            → CfbBits 1 (C.encrypted cipher.now) iv p c → CfbBits 1 (C.encrypted cipher.now) iv
             (p ++ first_bits bits (plaintext direction bytes.old bytes.new))
             (c ++ first_bits bits (ciphertext direction bytes.old bytes.new)) }
         ensures rest { drop bits (bits_of_bytes bytes.new) ≡ drop bits (bits_of_bytes bytes.old) }
@@ -97,32 +99,6 @@ impl BitRegister {
             self.advance(direction.ciphertext(old, bit_at(bytes, place)));
         }
     }
-
-    /// Encrypts or decrypts the next bits of the stream in place, the first `bits` bits of the bytes. The
-    /// others stay as they are. However a text is cut into pieces, they become what the whole becomes.
-    pub fn apply<C: BlockCipherEncrypt>(
-        &mut self,
-        direction: Direction,
-        cipher: &C,
-        bytes: &mut [u8],
-        bits: usize,
-    )
-        requires { bits ≤ 8 * length bytes.old }
-        ensures after { (iv : List ℕ) (c : List Bool) → IsCfbBitsAt iv c self.old → IsCfbBitsAt iv
-            (c ++ first_bits bits (ciphertext direction bytes.old bytes.new)) self.new }
-        ensures xored { (iv : List ℕ) (c : List Bool) → IsCfbBitsAt iv c self.old
-            → XorsBitsFrom (length c) (cfb_bits 1 (C.encrypted cipher.now) iv
-            (c ++ first_bits bits (ciphertext direction bytes.old bytes.new)))
-            (first_bits bits (plaintext direction bytes.old bytes.new))
-            (first_bits bits (ciphertext direction bytes.old bytes.new)) }
-        ensures whole { (iv : List ℕ) (p c : List Bool) → IsCfbBitsAt iv c self.old
-            → Cfb1 (C.encrypted cipher.now) iv p c → Cfb1 (C.encrypted cipher.now) iv
-            (p ++ first_bits bits (plaintext direction bytes.old bytes.new))
-            (c ++ first_bits bits (ciphertext direction bytes.old bytes.new)) }
-        ensures rest { drop bits (bits_of_bytes bytes.new) ≡ drop bits (bits_of_bytes bytes.old) }
-    {
-        self.apply_many(direction, cipher, bytes, bits as u128);
-    }
 }
 
 /// Encrypts the first `bits` bits of the bytes in place by cipher feedback of one bit. The others stay
@@ -131,23 +107,23 @@ impl BitRegister {
 /// C(j) = P(j) ^ the first bit of E(I(j)).
 pub fn encrypt<C: BlockCipherEncrypt>(cipher: &C, iv: &[u8; 8], bytes: &mut [u8], bits: usize)
     requires { bits ≤ 8 * length bytes.old }
-    ensures encrypted { Cfb1 (C.encrypted cipher.now) iv.now
+    ensures encrypted { CfbBits 1 (C.encrypted cipher.now) iv.now
         (first_bits bits bytes.old) (first_bits bits bytes.new) }
     ensures rest { drop bits (bits_of_bytes bytes.new) ≡ drop bits (bits_of_bytes bytes.old) }
 {
-    BitRegister::new(iv).apply(Direction::Encrypt, cipher, bytes, bits);
+    BitRegister::new(iv).apply(Direction::Encrypt, cipher, bytes, bits as u128);
 }
 
 /// Decrypts in place what `encrypt` makes with the same vector, the first `bits` bits of the bytes. The
 /// others stay as they are: P(j) = C(j) ^ the first bit of E(I(j)).
 pub fn decrypt<C: BlockCipherEncrypt>(cipher: &C, iv: &[u8; 8], bytes: &mut [u8], bits: usize)
     requires { bits ≤ 8 * length bytes.old }
-    ensures decrypted { Cfb1 (C.encrypted cipher.now) iv.now
+    ensures decrypted { CfbBits 1 (C.encrypted cipher.now) iv.now
         (first_bits bits bytes.new) (first_bits bits bytes.old) }
     ensures undone { (text : List Bool)
-        → Cfb1 (C.encrypted cipher.now) iv.now text (first_bits bits bytes.old)
+        → CfbBits 1 (C.encrypted cipher.now) iv.now text (first_bits bits bytes.old)
         → first_bits bits bytes.new ≡ text }
     ensures rest { drop bits (bits_of_bytes bytes.new) ≡ drop bits (bits_of_bytes bytes.old) }
 {
-    BitRegister::new(iv).apply(Direction::Decrypt, cipher, bytes, bits);
+    BitRegister::new(iv).apply(Direction::Decrypt, cipher, bytes, bits as u128);
 }

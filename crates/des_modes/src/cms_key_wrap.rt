@@ -114,7 +114,8 @@ pub fn wrap<C: BlockCipherEncrypt>(
     wrapped: &mut [[u8; 8]],
 )
     requires { length wrapped.old ≡ length key.now + 2 }
-    ensures { Wraps (C.encrypted cipher.now) iv.now key.now wrapped.new }
+    ensures { Wraps (λ block answer. answer ≡ C.encrypted cipher.now block) iv.now
+        key.now wrapped.new }
 {
     write_checked(&mut wrapped[1..], key);
     enclose(cipher, iv, wrapped);
@@ -129,9 +130,10 @@ pub fn unwrap<C: BlockCipher>(
 ) -> Result<(), UnwrapError>
     requires { length wrapped.now ≡ length key.old + 2 }
     ensures unwrapped { OnOk result ((iv : List ℕ) × IsBlock iv
-        × Wraps (C.encrypted cipher.now) iv key.new wrapped.now) }
+        × Wraps (λ block answer. answer ≡ C.encrypted cipher.now block) iv key.new wrapped.now) }
     ensures accepted { (iv : List ℕ) (other : List (List ℕ)) → IsBlock iv
-        → Wraps (C.encrypted cipher.now) iv other wrapped.now → IsOk result × (key.new ≡ other) }
+        → Wraps (λ block answer. answer ≡ C.encrypted cipher.now block) iv other wrapped.now
+        → IsOk result × (key.new ≡ other) }
     ensures none { OnErr result (key.new ≡ replicate (length key.old) (replicate 8 0)) }
 {
     let (_, last) = open(cipher, wrapped, key);

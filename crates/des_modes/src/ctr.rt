@@ -5,7 +5,7 @@ ghost use Rattle.std.specs.Prelude.{◌≡◌, ◌<◌, ◌≤◌, ◌+◌, ◌-
 ghost use Rattle.std.specs.List.{All};
 ghost use Rattle.std.specs.Int.{w64, to_be_bytes, from_be_bytes};
 ghost use Rattle.des_modes.specs.Ctr.{Ctr, ctr_stream};
-ghost use Rattle.des_modes.specs.Streams.{XorsFrom};
+ghost use Rattle.des_modes.specs.Streams.{Xors};
 
 use crate::direction::Direction;
 use crate::parts::{TakesParts, apply_parts};
@@ -102,7 +102,7 @@ impl Counter {
         ensures after { (t : List ℕ) (n : ℕ) → IsCtrAt t n self.old
             → IsCtrAt t (n + length bytes.old) self.new }
         ensures applied { (t : List ℕ) (n : ℕ) → IsCtrAt t n self.old
-            → XorsFrom n (ctr_stream (C.encrypted cipher.now) t) bytes.old bytes.new }
+            → Xors bit_xor 0 n (ctr_stream (C.encrypted cipher.now) t) bytes.old bytes.new }
         ensures whole { (t p c : List ℕ) → IsCtrAt t (length p) self.old
             → Ctr (C.encrypted cipher.now) t p c
             → Ctr (C.encrypted cipher.now) t (p ++ bytes.old) (c ++ bytes.new) }
@@ -117,6 +117,8 @@ impl<C: BlockCipherEncrypt> TakesParts<C> for Counter {
     ghost is_at = { λ encryption s t c counter. IsCtrAt t (length c) counter };
 
     ghost key_stream = { λ encryption s t c. ctr_stream encryption t };
+
+    ghost segment = { λ counter. 8 };
 
     ghost limit = { λ direction counter. 2048 - counter.used };
 

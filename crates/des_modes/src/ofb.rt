@@ -1,8 +1,8 @@
 //! Output feedback of 64 bits over any block cipher (FIPS 81, output feedback mode; NIST SP 800-38A,
 //! 6.4).
 
-ghost use Rattle.std.specs.Prelude.{◌≡◌, ◌<◌, ◌≤◌, ◌+◌, ◌-◌, ◌/◌, ◌++◌, ℕ, List, length};
-ghost use Rattle.des_modes.specs.Streams.{XorsFrom};
+ghost use Rattle.std.specs.Prelude.{◌≡◌, ◌<◌, ◌≤◌, ◌+◌, ◌-◌, ◌/◌, ◌++◌, ℕ, List, length, bit_xor};
+ghost use Rattle.des_modes.specs.Streams.{Xors};
 ghost use Rattle.des_modes.specs.Ofb.{Ofb, ofb_stream, output_block};
 
 use crate::direction::Direction;
@@ -52,7 +52,7 @@ impl Feedback {
         ensures after { (iv : List ℕ) (n : ℕ) → IsOfbAt (C.encrypted cipher.now) iv n self.old
             → IsOfbAt (C.encrypted cipher.now) iv (n + length bytes.old) self.new }
         ensures applied { (iv : List ℕ) (n : ℕ) → IsOfbAt (C.encrypted cipher.now) iv n self.old
-            → XorsFrom n (ofb_stream (C.encrypted cipher.now) iv) bytes.old bytes.new }
+            → Xors bit_xor 0 n (ofb_stream (C.encrypted cipher.now) iv) bytes.old bytes.new }
     {
         let block = self.current(cipher);
         xor_from(bytes, &block, self.used);
@@ -66,7 +66,7 @@ impl Feedback {
         ensures after { (iv : List ℕ) (n : ℕ) → IsOfbAt (C.encrypted cipher.now) iv n self.old
             → IsOfbAt (C.encrypted cipher.now) iv (n + length bytes.old) self.new }
         ensures applied { (iv : List ℕ) (n : ℕ) → IsOfbAt (C.encrypted cipher.now) iv n self.old
-            → XorsFrom n (ofb_stream (C.encrypted cipher.now) iv) bytes.old bytes.new }
+            → Xors bit_xor 0 n (ofb_stream (C.encrypted cipher.now) iv) bytes.old bytes.new }
         ensures whole { (iv p c : List ℕ) → IsOfbAt (C.encrypted cipher.now) iv (length p) self.old
             → Ofb (C.encrypted cipher.now) iv p c
             → Ofb (C.encrypted cipher.now) iv (p ++ bytes.old) (c ++ bytes.new) }
@@ -81,6 +81,8 @@ impl<C: BlockCipherEncrypt> TakesParts<C> for Feedback {
     ghost is_at = { λ encryption s iv c feedback. IsOfbAt encryption iv (length c) feedback };
 
     ghost key_stream = { λ encryption s iv c. ofb_stream encryption iv };
+
+    ghost segment = { λ feedback. 8 };
 
     ghost limit = { λ direction feedback. 8 - feedback.used };
 

@@ -1,8 +1,8 @@
 //! Texts of any length, by states that take so many bytes at a time.
 
-ghost use Rattle.std.specs.Prelude.{◌≡◌, ◌<◌, ◌≤◌, ◌++◌, ℕ, List, length};
+ghost use Rattle.std.specs.Prelude.{◌≡◌, ◌<◌, ◌≤◌, ◌++◌, ℕ, List, length, bit_xor};
 ghost use Rattle.des_modes.specs.Directions.{plaintext, ciphertext};
-ghost use Rattle.des_modes.specs.Streams.{XorsFrom};
+ghost use Rattle.des_modes.specs.Streams.{Xors};
 ghost use Rattle.des_modes.specs.declared.direction.Direction.{Direction as DirectionOf};
 
 use crate::direction::Direction;
@@ -16,6 +16,9 @@ pub(crate) trait TakesParts<C: BlockCipherEncrypt> {
     // The key stream along the ciphertext.
     ghost key_stream: { (List ℕ → List ℕ) → ℕ → List ℕ → List ℕ → ℕ → ℕ };
 
+    // The bytes of a segment, which stay as many.
+    ghost segment: { Self → ℕ };
+
     // The most bytes that may go together.
     ghost limit: { DirectionOf → Self → ℕ };
 
@@ -28,11 +31,12 @@ pub(crate) trait TakesParts<C: BlockCipherEncrypt> {
     fn apply_part(&mut self, direction: Direction, cipher: &C, bytes: &mut [u8])
         requires some { 1 ≤ length bytes.old }
         requires few { length bytes.old ≤ limit direction self.old }
+        ensures segment { segment self.new ≡ segment self.old }
         ensures after { (s : ℕ) (iv c : List ℕ) → is_at (C.encrypted cipher.now) s iv c self.old
             → is_at (C.encrypted cipher.now) s iv
             (c ++ ciphertext direction bytes.old bytes.new) self.new }
         ensures xored { (s : ℕ) (iv c : List ℕ) → is_at (C.encrypted cipher.now) s iv c self.old
-            → XorsFrom (length c)
+            → Xors bit_xor 0 (length c)
             (key_stream (C.encrypted cipher.now) s iv (c ++ ciphertext direction bytes.old bytes.new))
             bytes.old bytes.new }
         ensures front { (s : ℕ) (iv c : List ℕ) → is_at (C.encrypted cipher.now) s iv c self.old
@@ -48,11 +52,12 @@ pub(crate) fn apply_parts<C: BlockCipherEncrypt, P: TakesParts<C>>(
     cipher: &C,
     bytes: &mut [u8],
 )
+    ensures segment { P.segment state.new ≡ P.segment state.old }
     ensures after { (s : ℕ) (iv c : List ℕ) → P.is_at (C.encrypted cipher.now) s iv c state.old
         → P.is_at (C.encrypted cipher.now) s iv
         (c ++ ciphertext direction bytes.old bytes.new) state.new }
     ensures xored { (s : ℕ) (iv c : List ℕ) → P.is_at (C.encrypted cipher.now) s iv c state.old
-        → XorsFrom (length c)
+        → Xors bit_xor 0 (length c)
         (P.key_stream (C.encrypted cipher.now) s iv (c ++ ciphertext direction bytes.old bytes.new))
         (plaintext direction bytes.old bytes.new) (ciphertext direction bytes.old bytes.new) }
 {

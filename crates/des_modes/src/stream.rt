@@ -1,14 +1,14 @@
 //! Streams of any of the modes as plain words, for callers that keep them in memory of their own.
 
-ghost use Rattle.std.specs.Prelude.{◌≡◌, ◌<◌, ◌≤◌, ◌+◌, ◌*◌, ◌++◌, ℕ, Bool, List, [], length, drop, IfNone, IfSome};
+ghost use Rattle.std.specs.Prelude.{◌≡◌, ◌<◌, ◌≤◌, ◌+◌, ◌*◌, ◌%◌, ◌++◌, ℕ, Bool, List, [], length, drop, IfNone, IfSome};
 ghost use Rattle.des.specs.Bits.{bits_of_bytes};
 ghost use Rattle.des.specs.Blocks.{AreBytes, IsBlock};
-ghost use Rattle.des_modes.specs.Cfb.{Cfb, Cfb1, XorsBitsFrom, cfb_bits, first_bits};
+ghost use Rattle.des_modes.specs.Cfb.{Cfb, CfbBits, cfb_bits, first_bits};
 ghost use Rattle.des_modes.specs.Ctr.{Ctr};
 ghost use Rattle.des_modes.specs.Directions.{plaintext, ciphertext};
 ghost use Rattle.des_modes.specs.Modes.{InMode, IsMode};
 ghost use Rattle.des_modes.specs.Ofb.{Ofb};
-ghost use Rattle.des_modes.specs.States.{HasBegun, IsBitStreamAt, IsCfbBitPlace, IsInMode, IsPlace, IsStreamAt, size_of};
+ghost use Rattle.des_modes.specs.States.{HasBegun, HoldsLastBits, IsBitStreamAt, IsInMode, IsPlace, IsStreamAt, size_of};
 ghost use Rattle.des_modes.specs.declared.modes.Mode.TheVariants.{BitFeedback, CipherFeedback, Counter as CounterMode, OutputFeedback};
 ghost use Rattle.des_modes.specs.declared.modes.TheConstants.{CFB1, CTR};
 
@@ -16,7 +16,7 @@ use crate::cfb::Register;
 use crate::cfb_bits::BitRegister;
 use crate::ctr::Counter;
 use crate::direction::Direction;
-use crate::modes::{CTR, Mode};
+use crate::modes::{CFB1, CTR, Mode};
 use crate::ofb::Feedback;
 use crate::parts::apply_parts;
 use des::cipher::{BlockCipherEncrypt, are_bytes};
@@ -58,6 +58,7 @@ impl Place {
     )
         requires short { size_of mode ≤ 8 }
         requires fits { self.old.used < size_of mode }
+        ensures fits { self.new.used < size_of mode }
         ensures after { (iv c : List ℕ) → IsPlace mode (C.encrypted cipher.now) iv c self.old
             → IsPlace mode (C.encrypted cipher.now) iv
             (c ++ ciphertext direction bytes.old bytes.new) self.new }
@@ -66,11 +67,12 @@ impl Place {
             (p ++ plaintext direction bytes.old bytes.new)
             (c ++ ciphertext direction bytes.old bytes.new) }
         ensures after_bits { mode ≡ BitFeedback → (iv : List ℕ) (c : List Bool)
-            → IsCfbBitPlace iv c self.old → IsCfbBitPlace iv
-            (c ++ bits_of_bytes (ciphertext direction bytes.old bytes.new)) self.new }
+            → HoldsLastBits iv c self.old.register → self.old.used ≡ 0 → HoldsLastBits iv
+            (c ++ bits_of_bytes (ciphertext direction bytes.old bytes.new)) self.new.register
+            × (self.new.used ≡ 0) }
         ensures made_bits { mode ≡ BitFeedback → (iv : List ℕ) (p c : List Bool)
-            → IsCfbBitPlace iv c self.old
-            → Cfb1 (C.encrypted cipher.now) iv p c → Cfb1 (C.encrypted cipher.now) iv
+            → HoldsLastBits iv c self.old.register → self.old.used ≡ 0
+            → CfbBits 1 (C.encrypted cipher.now) iv p c → CfbBits 1 (C.encrypted cipher.now) iv
             (p ++ bits_of_bytes (plaintext direction bytes.old bytes.new))
             (c ++ bits_of_bytes (ciphertext direction bytes.old bytes.new)) }
     {
@@ -97,7 +99,7 @@ impl Place {
                 let mut register = BitRegister {
                     register: self.register,
                 };
-                register.apply_many(direction, cipher, bytes, 8 * bytes.len() as u128);
+                register.apply(direction, cipher, bytes, 8 * bytes.len() as u128);
                 self.register = register.register;
             }
             Mode::CipherFeedback(segment) => {
@@ -146,7 +148,8 @@ impl Stream {
     /// The place in the stream of the counter mode whose first counter block is `block` that has
     /// `blocks` blocks behind it: to decrypt a part, no other bytes are needed.
     pub fn ctr_at(block: &[u8; 8], blocks: u64) -> Stream
-        ensures { (encryption : List ℕ → List ℕ) (p c : List ℕ) → length p ≡ 8 * blocks
+        ensures begun { HasBegun result }
+        ensures place { (encryption : List ℕ → List ℕ) (p c : List ℕ) → length p ≡ 8 * blocks
             → AreBytes c → Ctr encryption block.now p c
             → IsStreamAt CTR encryption block.now p c result }
     {
@@ -155,6 +158,24 @@ impl Stream {
         Stream {
             place: Place::new(&counter.to_be_bytes()),
             mode: CTR,
+            mark: MARK,
+        }
+    }
+
+    /// The place in a stream of cipher feedback before a segment of `segment` bytes: `before` is the eight
+    /// bytes of ciphertext before it, or at the beginning the initialization vector. To decrypt a part, no
+    /// others are needed.
+    pub fn cfb_at(before: &[u8; 8], segment: usize) -> Stream
+        requires some { 1 ≤ segment }
+        requires short { segment ≤ 8 }
+        ensures begun { HasBegun result }
+        ensures place { (encryption : List ℕ → List ℕ) (iv p c : List ℕ) → IsBlock iv → AreBytes c
+            → length c % segment ≡ 0 → before.now ≡ drop (length c) (iv ++ c)
+            → Cfb segment encryption iv p c → IsStreamAt (CFB1 + segment) encryption iv p c result }
+    {
+        Stream {
+            place: Place::new(before),
+            mode: CFB1 + segment as u32,
             mark: MARK,
         }
     }
@@ -209,6 +230,7 @@ impl Stream {
         bytes: &mut [u8],
     )
         requires { IsInMode mode self.old }
+        ensures begun { HasBegun self.new }
         ensures bytes { (number : ℕ) (iv p c : List ℕ)
             → IsStreamAt number (C.encrypted cipher.now) iv p c self.old
             → IsStreamAt number (C.encrypted cipher.now) iv
@@ -246,7 +268,7 @@ impl Stream {
         let mut register = BitRegister {
             register: self.place.register,
         };
-        register.apply(direction, cipher, bytes, bits);
+        register.apply(direction, cipher, bytes, bits as u128);
         self.place.register = register.register;
     }
 }

@@ -104,7 +104,7 @@ fn transform_back<C: BlockCipher>(cipher: &C, first: &mut [u8; 4], words: &mut [
 pub fn wrap<C: BlockCipherEncrypt>(cipher: &C, key: &[[u8; 4]], wrapped: &mut [[u8; 4]])
     requires some { 2 ≤ length key.now }
     requires few { length key.now < 2 ^ 28 }
-    requires room { length wrapped.old ≡ length key.now + 1 }
+    requires capacity { length wrapped.old ≡ length key.now + 1 }
     ensures { wrapped.new ≡ tkw (C.encrypted cipher.now) key.now }
 {
     let mut first = CHECK_VALUE;
@@ -122,7 +122,7 @@ pub fn unwrap<C: BlockCipher>(
 ) -> Result<(), UnwrapError>
     requires some { 2 ≤ length key.old }
     requires few { length key.old < 2 ^ 28 }
-    requires room { length wrapped.now ≡ length key.old + 1 }
+    requires capacity { length wrapped.now ≡ length key.old + 1 }
     ensures unwrapped { OnOk result (tkw (C.encrypted cipher.now) key.new ≡ wrapped.now) }
     ensures accepted { (other : List (List ℕ)) → All IsSemiblock other
         → TkwUnder (λ block answer. answer ≡ C.encrypted cipher.now block) other wrapped.now

@@ -1,7 +1,7 @@
 //! The xor of bytes with others.
 
 ghost use Rattle.std.specs.Prelude.{◌≡◌, ◌<◌, ◌≤◌, ◌+◌, ◌*◌, ◌/◌, ◌%◌, ℕ, [], length, slice_index, slice_index_or, bit_xor};
-ghost use Rattle.des_modes.specs.Streams.{XorsFrom};
+ghost use Rattle.des_modes.specs.Streams.{Xors};
 
 /// Each byte of the data becomes its xor with a byte of the key stream, from byte `from` of it on.
 pub(crate) fn xor_from(bytes: &mut [u8], key_stream: &[u8], from: usize)
@@ -29,7 +29,7 @@ pub(crate) fn xor_segments(bytes: &mut [u8], blocks: &[[u8; 8]], segment: usize)
     requires some { 1 ≤ segment }
     requires short { segment ≤ 8 }
     requires enough { length bytes.old ≤ segment * length blocks.now }
-    ensures { XorsFrom 0 (λ i. slice_index (slice_index_or blocks.now (i / segment) []) (i % segment))
+    ensures { Xors bit_xor 0 0 (λ i. slice_index (slice_index_or blocks.now (i / segment) []) (i % segment))
         bytes.old bytes.new }
 {
     if segment == 8 {

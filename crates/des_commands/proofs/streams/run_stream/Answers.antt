@@ -17,14 +17,15 @@ returns-in_err-apply_stream-in-Encrypt-clause-fault g c =
     c.from_residual-in_err-apply_stream-in-Encrypt.ensures.1 in
     let (k, within, written, full) = c.in_ok-write_whole-in-Encrypt.ensures.written in
     let stops : StopsStream c.in_err-apply_stream-in-Encrypt.field-0.0 (g.C.BlockCipherEncrypt.encrypted c.args.cipher.now) c.args.mode
-    c.args.job.now (passage_of (g.R.Read.remaining c.args.reader.now) (g.R.Read.remaining c.apply_stream.new.reader)
+    c.args.job.now c.args.job.now.work (passage_of (g.R.Read.remaining c.args.reader.now) (g.R.Read.remaining c.apply_stream.new.reader)
     (g.W.Write.contents c.args.writer.now) (g.W.Write.contents c.apply_stream.new.writer)) =
     rw c.in-Encrypt.is (inr (
       g.W.Write.contents c.write_whole.new.writer,
-      c.state_of-state.result,
+      c.stream_from-stream.result,
       subst (Appends _ _) (take_all k c.in-Encrypt.front.now (omega (arith, full (refl {a = true})))) written,
-      rw c.vector_in-vector.ensures at c.state_of-state.ensures,
-      (c.in_err-apply_stream-in-Encrypt.ensures.prefix, c.in_err-apply_stream-in-Encrypt.ensures.fault),
+      rw c.vector_in-vector.ensures at c.stream_from-stream.ensures.begins,
+      c.in_err-apply_stream-in-Encrypt.ensures.prefix,
+      c.in_err-apply_stream-in-Encrypt.ensures.fault,
     )) in
     told _ _ _ _ p.1 p.2 stops
 
@@ -33,10 +34,10 @@ returns-in_ok-apply_stream-in-Encrypt-clause-done g c =
     let (k, within, written, full) = c.in_ok-write_whole-in-Encrypt.ensures.written in
     rw c.in-Encrypt.is (
       g.W.Write.contents c.write_whole.new.writer,
-      c.state_of-state.result,
+      c.stream_from-stream.result,
       c.in_ok-apply_stream-in-Encrypt.field-0,
       subst (Appends _ _) (take_all k c.in-Encrypt.front.now (omega (arith, full (refl {a = true})))) written,
-      rw c.vector_in-vector.ensures at c.state_of-state.ensures,
+      rw c.vector_in-vector.ensures at c.stream_from-stream.ensures.begins,
       c.in_ok-apply_stream-in-Encrypt.ensures.done,
     )
 
@@ -46,43 +47,41 @@ returns-in_err-count-in-Decrypt-clause-fault g c =
     c.from_residual-in_err-count-in-Decrypt.ensures.1 in
     let most : c.extent_of-from.result.1 ≡ bytes_at_most c.in-Decrypt.part = ap (λ extent. extent.1) c.extent_of-from.ensures in
     let stops : StopsStream c.in_err-count-in-Decrypt.field-0.0 (g.C.BlockCipherEncrypt.encrypted c.args.cipher.now) c.args.mode
-    c.args.job.now (passage_of (g.R.Read.remaining c.args.reader.now) (g.R.Read.remaining c.apply_stream-in-Decrypt.new.reader)
+    c.args.job.now c.args.job.now.work (passage_of (g.R.Read.remaining c.args.reader.now) (g.R.Read.remaining c.apply_stream-in-Decrypt.new.reader)
     (g.W.Write.contents c.args.writer.now) (g.W.Write.contents c.apply_stream-in-Decrypt.new.writer)) =
-    rw c.in-Decrypt.is (inr (inr (inl (
+    rw c.in-Decrypt.is (inr (inr (
       g.R.Read.remaining c.skip_blocks-in-Decrypt.new.reader,
-      c.state_of-state-in-Decrypt.result,
+      c.stream_from-stream-in-Decrypt.result,
       Reaches-skipped _ _ _ c.min-vectors.result _ _ _ _ _ _ _ _ _ _ c.min-vectors.ensures
           (ap (λ extent. extent.0) c.extent_of-from.ensures) c.vector_in.ensures c.vector_in-in-Decrypt.ensures
-          c.in_ok-first-in-Decrypt.ensures.skips c.in_ok-last-in-Decrypt.ensures.skips c.state_of-state-in-Decrypt.ensures,
-      (rw most at c.in_err-count-in-Decrypt.ensures.prefix, c.in_err-count-in-Decrypt.ensures.fault),
-    )))) in
+          c.in_ok-first-in-Decrypt.ensures.skips c.in_ok-last-in-Decrypt.ensures.skips c.stream_from-stream-in-Decrypt.ensures.begins,
+      inl (rw most at c.in_err-count-in-Decrypt.ensures.prefix, c.in_err-count-in-Decrypt.ensures.fault),
+    ))) in
     told _ _ _ _ p.1 p.2 stops
 
 pub returns-then-is_some-clause-fault : goal.returns-then-is_some-clause-fault
 returns-then-is_some-clause-fault g c =
     let most : c.extent_of-from.result.1 ≡ bytes_at_most c.in-Decrypt.part = ap (λ extent. extent.1) c.extent_of-from.ensures in
     let none : c.in_ok-count-in-Decrypt.count ≡ 0 = omega (arith, c.if-count-eq0.true) in
-    rw c.in-Decrypt.is (inr (inr (inr (
+    rw c.in-Decrypt.is (inr (inr (
       g.R.Read.remaining c.skip_blocks-in-Decrypt.new.reader,
-      c.state_of-state-in-Decrypt.result,
+      c.stream_from-stream-in-Decrypt.result,
       Reaches-skipped _ _ _ c.min-vectors.result _ _ _ _ _ _ _ _ _ _ c.min-vectors.ensures
           (ap (λ extent. extent.0) c.extent_of-from.ensures) c.vector_in.ensures c.vector_in-in-Decrypt.ensures
-          c.in_ok-first-in-Decrypt.ensures.skips c.in_ok-last-in-Decrypt.ensures.skips c.state_of-state-in-Decrypt.ensures,
-      rw (most, none) at c.in_ok-count-in-Decrypt.ensures.done,
-      search rules,
-      refl,
-    ))))
+          c.in_ok-first-in-Decrypt.ensures.skips c.in_ok-last-in-Decrypt.ensures.skips c.stream_from-stream-in-Decrypt.ensures.begins,
+      inr (rw (most, none) at c.in_ok-count-in-Decrypt.ensures.done, search rules, refl),
+    )))
 
 pub returns-else-count-eq0-clause-done : goal.returns-else-count-eq0-clause-done
 returns-else-count-eq0-clause-done g c =
     let most : c.extent_of-from.result.1 ≡ bytes_at_most c.in-Decrypt.part = ap (λ extent. extent.1) c.extent_of-from.ensures in
     rw c.in-Decrypt.is (
       g.R.Read.remaining c.skip_blocks-in-Decrypt.new.reader,
-      c.state_of-state-in-Decrypt.result,
+      c.stream_from-stream-in-Decrypt.result,
       c.in_ok-count-in-Decrypt.count,
       Reaches-skipped _ _ _ c.min-vectors.result _ _ _ _ _ _ _ _ _ _ c.min-vectors.ensures
           (ap (λ extent. extent.0) c.extent_of-from.ensures) c.vector_in.ensures c.vector_in-in-Decrypt.ensures
-          c.in_ok-first-in-Decrypt.ensures.skips c.in_ok-last-in-Decrypt.ensures.skips c.state_of-state-in-Decrypt.ensures,
+          c.in_ok-first-in-Decrypt.ensures.skips c.in_ok-last-in-Decrypt.ensures.skips c.stream_from-stream-in-Decrypt.ensures.begins,
       rw most at c.in_ok-count-in-Decrypt.ensures.done,
       elim c.else-count-eq0.branch [
         | else-count-eq0-via-then-count-eq0+else-is_some w ↦ inl (search rules)

@@ -5,7 +5,7 @@ use Rattle.des_io.proofs.AppliedPieces.{AppliesAll-none, AppliesAll-more, Applie
 use Rattle.des_io.proofs.stream_cipher.apply_stream.Goals as goal
 
 pub loop-init : goal.loop-init
-loop-init g c = record { capacity = refl; within = omega arith; so_far = AppliesAll-none _ _ _ _ }
+loop-init g c = record { capacity = refl; begun = c.requires.begun; within = omega arith; so_far = AppliesAll-none _ _ _ _ _ }
 
 pub returns-in_err-n-clause-prefix : goal.returns-in_err-n-clause-prefix
 returns-in_err-n-clause-prefix g c =
@@ -17,7 +17,7 @@ returns-in_err-write_whole-clause-prefix g c =
     let (k, within, written, full) = c.write_whole.ensures.written in
     let bytes : List ℕ = take c.in_ok-n.n c.fill_prefix.new.buffer in
     let long : length bytes ≡ c.in_ok-n.n = length-take-le _ _ (search rules) in
-    AppliesPrefix-more bytes [] k c.loop.invariant.so_far (rw append-nil c.in_ok-n.ensures.read) c.apply.ensures written
+    AppliesPrefix-more bytes [] k c.loop.invariant.so_far (rw append-nil c.in_ok-n.ensures.read) c.apply_piece.ensures.became written
     (omega (arith, c.min-most.ensures, c.in_ok-n.ensures.within, long))
 
 pub returns-then-n-capacity : goal.returns-then-n-capacity
@@ -25,7 +25,7 @@ returns-then-n-capacity g c =
     let (k, within, written, full) = c.in_ok-write_whole.ensures.written in
     let most : c.loop.count + c.in_ok-n.n ≤ c.args.limit = omega (arith, c.min-most.ensures, c.in_ok-n.ensures.within) in
     let all = AppliesAll-more _ _ _ c.in_ok-n.n k c.loop.invariant.so_far c.in_ok-n.ensures.read
-    (length-take-le _ _ (search rules)) c.apply.ensures written (full (refl {a = true})) in
+    (length-take-le _ _ (search rules)) c.apply_piece.ensures.became written (full (refl {a = true})) in
     let prefix = AppliesPrefix-read [] all (Consumes-nil _) most in
     record {
       done = record {
@@ -46,9 +46,10 @@ loop-preserved g c =
     let (k, within, written, full) = c.in_ok-write_whole.ensures.written in
     record {
       capacity = search rules;
+      begun = c.apply_piece.ensures.begun;
       within = omega (arith, c.min-most.ensures, c.in_ok-n.ensures.within);
       so_far = AppliesAll-more _ _ _ c.in_ok-n.n k c.loop.invariant.so_far c.in_ok-n.ensures.read
-          (length-take-le _ _ (search rules)) c.apply.ensures written (full (refl {a = true}));
+          (length-take-le _ _ (search rules)) c.apply_piece.ensures.became written (full (refl {a = true}));
     }
 
 pub returns-clause-prefix : goal.returns-clause-prefix

@@ -15,4 +15,5 @@ returns g c key made =
     (g.met.C.BlockCipher.encrypted_is_block c.args.cipher.now) is_iv
     (ciphertext-is AreBytes c.args.direction c.args.bytes.now c.apply.new.bytes c.are_bytes-2.ensures c.are_bytes-3.ensures)
     (rw c.new-cipher.ensures at (c.apply.ensures.made iv [] []
-    (IsPlace-begin c.args.mode _ iv c.new.result is_iv c.new.ensures.register c.new.ensures.used) (InMode-none c.args.mode _ iv)))
+    (IsPlace-begin c.args.mode _ iv c.new.result (c.requires.some, c.requires.short) is_iv
+    c.new.ensures.register c.new.ensures.used) (InMode-none c.args.mode _ iv)))

@@ -1,8 +1,8 @@
-use Rattle.des_modes.proofs.RelatedStreams.{CfbBits-from_bits}
+use Rattle.des_modes.proofs.RelatedStreams.{Under-from}
 use Rattle.des_modes.proofs.by_key.encrypt_cfb_bits.Goals as goal
 
 pub returns : goal.returns
 returns g c = λ key made.
-    CfbBits-from_bits _ (g.C.BlockCipherEncrypt.encrypted c.args.cipher.now) 1 c.args.iv.now _ _
+    Under-from (g.C.BlockCipherEncrypt.encrypted c.args.cipher.now)
     (g.met.C.Relating.encrypts_by_relation c.args.cipher.now key made)
     (rw c.new.ensures at c.encrypt.ensures.encrypted)

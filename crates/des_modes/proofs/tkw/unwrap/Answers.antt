@@ -14,7 +14,7 @@ returns-then-are_equal-clause-accepted g c = λ other too wraps. (
   refl,
   ap (drop 1)
       (unwrapped-one (laws g c.args.cipher.now) _ _ other _ (omega arith, c.are_bytes.ensures) c.are_semiblocks.ensures too
-      (omega (arith, c.requires.room)) c.copy_from_slice.ensures.after c.transform_back.ensures wraps),
+      (omega (arith, c.requires.capacity)) c.copy_from_slice.ensures.after c.transform_back.ensures wraps),
 )
 
 -- what wraps a key has its check value
@@ -22,6 +22,6 @@ pub returns-clause-accepted : goal.returns-clause-accepted
 returns-clause-accepted g c = λ other too wraps.
     let same =
     unwrapped-one (laws g c.args.cipher.now) _ _ other _ (omega arith, c.are_bytes.ensures) c.are_semiblocks.ensures too
-    (omega (arith, c.requires.room)) c.copy_from_slice.ensures.after c.transform_back.ensures wraps in
+    (omega (arith, c.requires.capacity)) c.copy_from_slice.ensures.after c.transform_back.ensures wraps in
     let found : c.are_equal.result ≡ true = c.are_equal.ensures.1 (ap (λ (xs : List (List ℕ)). get_or xs 0 []) same) in
     let bad : false ≡ true = sym c.if-are_equal.false ∙ found in cc bad

@@ -1,10 +1,13 @@
 use Rattle.std.proofs.Common.{◌≡◌, ℕ, ◌+◌, ◌*◌, ◌/◌, ◌%◌, ◌<◌, List, length, get_or, bit_xor, ap, ◌∙◌, arith, zero, suc, ◌-◌, [], ◌∷◌}
 use Rattle.std.proofs.Math.ListN.{get_or-append}
 use Rattle.std.proofs.lemmas.List.{get_or-append_right}
-use Rattle.des_modes.specs.CmsKeyWrap.{joined}
+use Rattle.std.specs.List.{flat_map}
 use Rattle.des_modes.proofs.xored.xor_blocks_from.Goals as goal
 
--- byte 8 j + r of them is byte r of block j
+abbrev joined : List (List ℕ) → List ℕ
+joined blocks = flat_map (λ block. block) blocks
+
+-- byte 8 j + r of blocks is byte r of block j
 get_or-joined : (blocks : List (List ℕ)) → ((k : ℕ) → k < length blocks → length (get_or blocks k []) ≡ 8)
     → (j r n : ℕ) → n ≡ 8 * j + r → j < length blocks → r < 8
     → get_or (joined blocks) n 0 ≡ get_or (get_or blocks j []) r 0

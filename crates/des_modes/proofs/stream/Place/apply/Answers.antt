@@ -1,4 +1,4 @@
-use Rattle.std.proofs.Common.{◌<◌, ◌^◌, length, ap, ◌∙◌, arith}
+use Rattle.std.proofs.Common.{◌<◌, ◌^◌, length, ap, refl, ◌∙◌, arith}
 use Rattle.std.specs.Int.{w64, from_be_bytes}
 use Rattle.std.proofs.lemmas.Nat.{from_be_bytes-to_be_bytes_8}
 use Rattle.des.specs.Bits.{bits_of_bytes}
@@ -7,52 +7,96 @@ use Rattle.des_modes.proofs.BitPlaces.{bits-append, first_bits-all}
 use Rattle.des_modes.proofs.Pieces.{Xors-append}
 use Rattle.des_modes.proofs.stream.Place.apply.Goals as goal
 
+pub returns-in-Counter-clause-fits : goal.returns-in-Counter-clause-fits
+returns-in-Counter-clause-fits g c = rw c.in-Counter.is c.apply_parts.new.state.fits
+
+pub returns-in-OutputFeedback-clause-fits : goal.returns-in-OutputFeedback-clause-fits
+returns-in-OutputFeedback-clause-fits g c = rw c.in-OutputFeedback.is c.apply_parts-in-OutputFeedback.new.state.fits
+
+pub returns-in-CipherFeedback-clause-fits : goal.returns-in-CipherFeedback-clause-fits
+returns-in-CipherFeedback-clause-fits g c =
+    rw (c.in-CipherFeedback.is, ← c.apply-in-CipherFeedback.ensures.segment) c.apply-in-CipherFeedback.new.self.fits
+
 pub returns-in-Counter-clause-after : goal.returns-in-Counter-clause-after
 returns-in-Counter-clause-after g c =
-    rw c.in-Counter.is (λ iv d at.
-    let is = c.apply_parts.ensures.after 0 iv d (record { counter = c.from_be_bytes.ensures ∙ at.counter; used = at.used }) in
-    let fits : c.apply_parts.new.state.counter < 2 ^ 64 = omega (arith, is.counter) in record {
-      counter = ap (from_be_bytes w64) c.to_be_bytes-self.ensures ∙ from_be_bytes-to_be_bytes_8 _ fits ∙ is.counter;
-      used = is.used;
-    })
+    rw c.in-Counter.is (λ iv d (at, is, register, used).
+    let after = c.apply_parts.ensures.after 0 iv d
+    (record { counter = c.from_be_bytes.ensures ∙ register ∙ is.counter; used = used ∙ is.used }) in
+    let fits : c.apply_parts.new.state.counter < 2 ^ 64 = omega (arith, after.counter) in (
+      c.apply_parts.new.state,
+      after,
+      ap (from_be_bytes w64) c.to_be_bytes-self.ensures ∙ from_be_bytes-to_be_bytes_8 _ fits,
+      refl,
+    ))
 
 pub returns-in-Counter-clause-made : goal.returns-in-Counter-clause-made
 returns-in-Counter-clause-made g c =
-    rw c.in-Counter.is (λ iv p d at made.
+    rw c.in-Counter.is (λ iv p d (at, is, register, used) made.
     Xors-append 0 (length d) _ p d _ _ (omega (arith, made.count)) made
-    (c.apply_parts.ensures.xored 0 iv d (record { counter = c.from_be_bytes.ensures ∙ at.counter; used = at.used })))
+    (c.apply_parts.ensures.xored 0 iv d
+    (record { counter = c.from_be_bytes.ensures ∙ register ∙ is.counter; used = used ∙ is.used })))
 
 pub returns-in-OutputFeedback-clause-after : goal.returns-in-OutputFeedback-clause-after
-returns-in-OutputFeedback-clause-after g c = rw c.in-OutputFeedback.is (c.apply_parts-in-OutputFeedback.ensures.after 0)
+returns-in-OutputFeedback-clause-after g c =
+    rw c.in-OutputFeedback.is (λ iv d (at, is, register, used). (
+      c.apply_parts-in-OutputFeedback.new.state,
+      c.apply_parts-in-OutputFeedback.ensures.after 0 iv d (record { block = register ∙ is.block; used = used ∙ is.used }),
+      refl,
+      refl,
+    ))
 
 pub returns-in-OutputFeedback-clause-made : goal.returns-in-OutputFeedback-clause-made
 returns-in-OutputFeedback-clause-made g c =
-    rw c.in-OutputFeedback.is (λ iv p d at made.
+    rw c.in-OutputFeedback.is (λ iv p d (at, is, register, used) made.
     Xors-append 0 (length d) _ p d _ _ (omega (arith, made.count)) made
-    (c.apply_parts-in-OutputFeedback.ensures.xored 0 iv d at))
+    (c.apply_parts-in-OutputFeedback.ensures.xored 0 iv d (record { block = register ∙ is.block; used = used ∙ is.used })))
+
+pub returns-in-CipherFeedback-clause-after : goal.returns-in-CipherFeedback-clause-after
+returns-in-CipherFeedback-clause-after g c =
+    rw c.in-CipherFeedback.is (λ iv d (at, is, register, output, used). (
+      c.apply-in-CipherFeedback.new.self,
+      c.apply-in-CipherFeedback.ensures.after _ iv d (record {
+        segment = refl;
+        register = register ∙ is.register;
+        used = used ∙ is.used;
+        output = λ more. output ∙ is.output (omega (arith, used, more));
+      }),
+      refl,
+      refl,
+      refl,
+    ))
+
+pub returns-in-CipherFeedback-clause-made : goal.returns-in-CipherFeedback-clause-made
+returns-in-CipherFeedback-clause-made g c =
+    rw c.in-CipherFeedback.is (λ iv p d (at, is, register, output, used) made.
+    c.apply-in-CipherFeedback.ensures.whole _ iv d p (record {
+      segment = refl;
+      register = register ∙ is.register;
+      used = used ∙ is.used;
+      output = λ more. output ∙ is.output (omega (arith, used, more));
+    }) made)
 
 pub returns-in-BitFeedback-clause-after_bits : goal.returns-in-BitFeedback-clause-after_bits
-returns-in-BitFeedback-clause-after_bits g c same iv d at = (
-  rw (first_bits-all c.args.direction c.args.bytes.now c.apply_many.new.bytes c.apply_many.auto.bytes).1
-      at (c.apply_many.ensures.after iv d at.0),
-  at.1,
+returns-in-BitFeedback-clause-after_bits g c same iv d at unused = (
+  rw (first_bits-all c.args.direction c.args.bytes.now c.apply.new.bytes c.apply.auto.bytes).1 at (c.apply.ensures.after iv d at),
+  unused,
 )
 
 pub returns-in-BitFeedback-clause-made_bits : goal.returns-in-BitFeedback-clause-made_bits
-returns-in-BitFeedback-clause-made_bits g c same iv p d at made =
-    let all = first_bits-all c.args.direction c.args.bytes.now c.apply_many.new.bytes c.apply_many.auto.bytes in
-    rw (all.0, all.1) at (c.apply_many.ensures.whole iv p d at.0 made)
+returns-in-BitFeedback-clause-made_bits g c same iv p d at unused made =
+    let all = first_bits-all c.args.direction c.args.bytes.now c.apply.new.bytes c.apply.auto.bytes in
+    rw (all.0, all.1) at (c.apply.ensures.whole iv p d at made)
 
 pub returns-in-BitFeedback-clause-after : goal.returns-in-BitFeedback-clause-after
 returns-in-BitFeedback-clause-after g c =
     rw c.in-BitFeedback.is (λ iv d at.
-    rw (bits-append d (ciphertext c.args.direction c.args.bytes.now c.apply_many.new.bytes))
-    (returns-in-BitFeedback-clause-after_bits g c c.in-BitFeedback.is iv (bits_of_bytes d) at))
+    rw (bits-append d (ciphertext c.args.direction c.args.bytes.now c.apply.new.bytes))
+    (returns-in-BitFeedback-clause-after_bits g c c.in-BitFeedback.is iv (bits_of_bytes d) at.0 at.1))
 
 pub returns-in-BitFeedback-clause-made : goal.returns-in-BitFeedback-clause-made
 returns-in-BitFeedback-clause-made g c =
     let old = c.args.bytes.now in
-    let new = c.apply_many.new.bytes in
+    let new = c.apply.new.bytes in
     rw c.in-BitFeedback.is (λ iv p d at made.
     rw (bits-append p (plaintext c.args.direction old new), bits-append d (ciphertext c.args.direction old new))
-    (returns-in-BitFeedback-clause-made_bits g c c.in-BitFeedback.is iv (bits_of_bytes p) (bits_of_bytes d) at made))
+    (returns-in-BitFeedback-clause-made_bits g c c.in-BitFeedback.is iv (bits_of_bytes p) (bits_of_bytes d) at.0 at.1 made))

@@ -1,21 +1,24 @@
-use Rattle.std.proofs.Common.{◌≡◌, ◌<◌, ap, ◌∙◌, arith}
+use Rattle.std.proofs.Common.{◌≡◌, ◌<◌, ap, ◌∙◌}
 use Rattle.std.proofs.lemmas.List.Elements.{All-append}
 use Rattle.des.specs.Blocks.{AreBytes}
 use Rattle.des_modes.specs.Modes.{mode_by}
 use Rattle.des_modes.specs.declared.modes.Mode.TheVariants.{BitFeedback}
 use Rattle.des_modes.proofs.Pieces.{ciphertext-is}
-use Rattle.des_modes.proofs.StreamPlaces.{size_of-mode_by, used-fits}
+use Rattle.des_modes.proofs.StreamPlaces.{size_of-mode_by}
 use Rattle.des_modes.proofs.stream.Stream.apply.Goals as goal
 
 pub apply-requires-clause-short : goal.apply-requires-clause-short
 apply-requires-clause-short g c = rw c.requires.2 (size_of-mode_by c.args.self.now.mode c.requires.1).1
+
+pub returns-clause-begun : goal.returns-clause-begun
+returns-clause-begun g c = (c.requires.0, c.requires.1, rw (← c.requires.2) c.apply.ensures.fits)
 
 pub returns-clause-bytes : goal.returns-clause-bytes
 returns-clause-bytes g c number iv p d is =
     let same : c.args.mode ≡ mode_by number = c.requires.2 ∙ ap mode_by is.is_mode in
     let place = rw (← same) at is.place in
     let after = c.apply.ensures.after iv d place in record {
-      begun = (c.requires.0, c.requires.1, rw (← c.requires.2) (used-fits c.args.mode _ iv _ _ (omega (arith, c.requires)) after));
+      begun = returns-clause-begun g c;
       is_mode = is.is_mode;
       is_block = is.is_block;
       are_bytes =
@@ -28,9 +31,9 @@ returns-clause-bytes g c number iv p d is =
 pub returns-clause-bits : goal.returns-clause-bits
 returns-clause-bits g c iv p d is =
     let same : c.args.mode ≡ BitFeedback = c.requires.2 ∙ ap mode_by is.is_mode in
-    let at = c.apply.ensures.after_bits same iv d is.place in record {
-      begun = (c.requires.0, c.requires.1, rw is.is_mode (omega (arith, at.1)));
+    let at = c.apply.ensures.after_bits same iv d is.place.0 is.place.1 in record {
+      begun = returns-clause-begun g c;
       is_mode = is.is_mode;
       place = at;
-      made = c.apply.ensures.made_bits same iv p d is.place is.made;
+      made = c.apply.ensures.made_bits same iv p d is.place.0 is.place.1 is.made;
     }

@@ -7,10 +7,10 @@ use Rattle.des_modes.specs.Cfb.{first_bits}
 use Rattle.des_modes.specs.Directions.{ciphertext}
 use Rattle.des_modes.proofs.Pieces.{ByText-begun, ByText-directed, texts-map, InPlace-set, Xors-whole}
 use Rattle.des_modes.proofs.CfbPlaces.{ByText-bit, cfb_bits-front}
-use Rattle.des_modes.proofs.cfb_bits.BitRegister.apply_many.Goals as goal
+use Rattle.des_modes.proofs.cfb_bits.BitRegister.apply.Goals as goal
 
 pub bits-init : goal.bits-init
-bits-init g c iv = record { done = ByText-begun c.args.direction c.args.self.now; rest = refl }
+bits-init g c iv = record { done = ByText-begun c.args.direction c.args.self.now.register; rest = refl }
 
 pub bits-preserved : goal.bits-preserved
 bits-preserved g c iv =
@@ -24,7 +24,7 @@ bits-preserved g c iv =
     c.ciphertext.ensures ∙ ap₂ (ciphertext c.args.direction) c.bit_at-old.ensures written in
     InPlace-set _ false c.xor_bit.ensures within
     (λ done. ByText-directed c.args.direction _ _ _ _ (λ t at. cfb_bits-front E iv t c.bits.self.register c.key_bit.ensures.wide at) done
-    (ByText-bit E iv c.bits.self c.advance.new.self c.args.direction _ _ c.key_bit.ensures.wide (rw bit at c.advance.ensures)
+    (ByText-bit E iv c.bits.self.register c.advance.new.self.register c.args.direction _ _ c.key_bit.ensures.wide (rw bit at c.advance.ensures)
     (ap (xor (get_or now place false)) c.key_bit.ensures.bit))) (c.bits.invariant iv)
 
 pub returns : goal.returns
