@@ -170,6 +170,7 @@ impl<K: ValueKeys> Reader<K> {
         requires some { 1 ≤ length lengths.now }
         requires whole { sum lengths.now ≡ length values.now }
         requires buffer { 1 ≤ length buffer.old }
+        requires few { length buffer.old ≤ K.MOST_BLOCKS }
         requires texts { length texts.old ≡ length values.now }
         requires text_lengths { length text_lengths.old ≡ length lengths.now }
         requires statuses { length statuses.old ≡ length lengths.now }
@@ -237,7 +238,7 @@ impl<K: ValueKeys> Reader<K> {
             let taken = self.read_next::<S>(
                 &values[start..],
                 &lengths[from..],
-                &mut buffer,
+                &mut buffer[..K::MOST_BLOCKS],
                 &mut texts[start..],
                 &mut text_lengths[from..],
                 &mut statuses[from..],

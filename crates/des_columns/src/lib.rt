@@ -13,7 +13,6 @@ pub mod column;
 pub mod form;
 pub mod jasypt;
 pub mod java;
-mod kept_keys;
 pub mod key_file;
 pub mod mysql;
 pub mod one_key;

@@ -34,7 +34,6 @@ pub groups-init : goal.groups-init
 groups-init g c = record {
   within = omega arith;
   start = refl;
-  buffer = search rules;
   read = column-none (ReadsAs c.args.self.now.form c.args.self.now.mode (g.K.ValueKeys.has_key c.args.self.now.keys)
       (g.K.ValueKeys.decryption c.args.self.now.keys));
 }
@@ -63,7 +62,6 @@ groups-preserved g c =
     record {
       within = in_values;
       start = end;
-      buffer = omega (arith, c.read_next-taken.ensures.buffer, c.groups.invariant.buffer);
       read =
           values-more (ReadsAs c.args.self.now.form c.args.self.now.mode (g.K.ValueKeys.has_key c.args.self.now.keys)
           (g.K.ValueKeys.decryption c.args.self.now.keys)) vs c.groups.texts c.groups.text_lengths c.groups.statuses m count start

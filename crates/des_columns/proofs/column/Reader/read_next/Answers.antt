@@ -34,8 +34,8 @@ returns-then-taken-eq0-clause-read g c =
     (to_z-of_z w32 c.read_long-reading.result.status fits ∙ c.read_long-reading.ensures.status, refl)
     (column-none reads)
 
-pub decrypt_values-requires : goal.decrypt_values-requires
-decrypt_values-requires g c =
+pub decrypt_values-requires-clause-blocks : goal.decrypt_values-requires-clause-blocks
+decrypt_values-requires-clause-blocks g c =
     c.gather-taken.ensures.gathered
     ∙ ap (flat_map (blocks_of c.args.self.now.form))
     (sym (take-pieces c.args.lengths.now c.args.values.now c.gather-taken.result.count c.gather-taken.result.bytes
