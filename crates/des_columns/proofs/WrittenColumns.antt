@@ -53,18 +53,6 @@ module _ (size_of : ℕ → ℕ) (Writes : List ℕ → List ℕ → Type 0) whe
         ∙ sym (flat_map-append (λ block. block) column.written (value ∷ []));
   }
 
--- a column is written by what follows for values of their sizes
-pub IsColumnWritten-weaker : (size_of : ℕ → ℕ) (P Q : List ℕ → List ℕ → Type 0) (texts : List (List ℕ)) (values : List ℕ)
-    → ((text value : List ℕ) → length value ≡ size_of (length text) → P text value → Q text value)
-    → IsColumnWritten size_of P texts values → IsColumnWritten size_of Q texts values
-IsColumnWritten-weaker size_of P Q texts values weaker column = record {
-  written = column.written;
-  count = column.count;
-  sizes = column.sizes;
-  writes = λ k below. weaker _ _ (column.sizes k below) (column.writes k below);
-  places = column.places;
-}
-
 -- ---- the texts of a column
 
 -- a text is as long as it is said to be
