@@ -1,17 +1,19 @@
 -- Columns that are read: of one value, of some and others behind them, and of the first values.
-use Rattle.std.proofs.Common.{◌≡◌, ℕ, ℤ, ◌+◌, ◌-◌, ◌≤◌, ◌<◌, List, [], ◌∷◌, ◌++◌, length, take, drop, get_or, refl, ap, ap₂, sym, ◌∙◌, subst, arith, take-add, inl, inr}
+use Rattle.std.proofs.Common.{◌≡◌, ℕ, ℤ, ◌+◌, ◌-◌, ◌≤◌, ◌<◌, List, [], ◌∷◌, ◌++◌, length, take, drop, get_or, refl, ap, ap₂, sym, ◌∙◌, subst, arith, sum, take-add, inl, inr}
 use Rattle.std.specs.Simd.Lanes.{zip2}
 use Rattle.std.proofs.Math.ListN.{set}
 use Rattle.std.proofs.lemmas.Bool.{cases_lt}
-use Rattle.std.proofs.lemmas.List.{append-nil, get_or_append_left, get_or-append_right, length-append, map-append, take_all, take_more, take_more_set}
+use Rattle.std.proofs.lemmas.List.{append-nil, get_or_append_left, get_or-append_right, length-append, map-append, length-drop, length-take-le, take_all, take_more, take_more_set}
 use Rattle.std.proofs.lemmas.List.Concat.{flat_map-append}
+use Rattle.std.proofs.lemmas.List.Sums.{sum_by_more, sum_by_more_le}
 use Rattle.std.proofs.lemmas.Slice.{take-put_mid}
 use Rattle.des_fast.proofs.SliceBits.{zip2-append}
 use Rattle.des_columns.specs.EncryptedBytes.{joined}
 use Rattle.des_columns.specs.Forms.{filled_to}
 use Rattle.des_columns.specs.Readings.{IsColumnRead}
 use Rattle.des_columns.specs.declared.status.TheConstants.{OK}
-use Rattle.des_columns.proofs.Pieces.{take-rest}
+use Rattle.des_columns.specs.Columns.{pieces}
+use Rattle.des_columns.proofs.Pieces.{length-pieces, take-rest, value-at}
 use borrow.Rule.Slice.PartMut.{put_mid}
 
 -- by what follows for each value
@@ -84,29 +86,11 @@ module _ (Reads : List ℕ → ℤ → List ℕ → Type 0) where
 
   module _ (vs : List (List ℕ)) (texts text_lengths : List ℕ) (statuses : List ℤ) where
     -- the first values are all
-    pub column-whole : (k n : ℕ) → length vs ≤ k → length texts ≤ n → length text_lengths ≤ k → length statuses ≤ k
+    column-whole : (k n : ℕ) → length vs ≤ k → length texts ≤ n → length text_lengths ≤ k → length statuses ≤ k
         → IsColumnRead Reads (take k vs) (take n texts) (take k text_lengths) (take k statuses)
         → IsColumnRead Reads vs texts text_lengths statuses
     column-whole k n all t l s read =
         rw (take_all k vs all, take_all n texts t, take_all k text_lengths l, take_all k statuses s) at read
-
-    -- one more, at the place k
-    pub value-more : (k start size end count : ℕ) (status : ℤ) (value place text : List ℕ) → k < length vs
-        → k < length text_lengths → k < length statuses → start ≤ length texts → end ≡ start + length place
-        → value ≡ get_or vs k [] → count ≡ length text → place ≡ filled_to (length value) text → Reads value status text
-        → IsColumnRead Reads (take k vs) (take start texts) (take k text_lengths) (take k statuses)
-        → IsColumnRead Reads (take (k + 1) vs) (take end (put_mid start size texts place)) (take (k + 1) (set text_lengths k count))
-        (take (k + 1) (set statuses k status))
-    value-more k start size end count status value place text below l s from to same long is reads column =
-        rw (
-          take_more vs k [] below,
-          sym same,
-          take-put_mid start size texts place end to from,
-          take_more_set text_lengths k count l,
-          long,
-          take_more_set statuses k status s,
-        ) (columns-joined (take k vs) (value ∷ []) (take start texts) place (take k text_lengths) (length text ∷ [])
-        (take k statuses) (status ∷ []) column (column-one value place text status reads is))
 
     -- some more, from the place k on
     pub values-more : (k count start size a b c : ℕ) (more more_lengths : List ℕ) (more_statuses : List ℤ)
@@ -126,3 +110,40 @@ module _ (Reads : List ℕ → ℤ → List ℕ → Type 0) where
           take-rest k c count statuses more_statuses s as_statuses,
         ) (columns-joined (take k vs) (take count (drop k vs)) (take start texts) (take size more) (take k text_lengths)
         (take count more_lengths) (take k statuses) (take count more_statuses) first rest)
+
+  -- the values before k, by their lengths: with one more, and if they are all
+  module _ (lengths bytes texts text_lengths : List ℕ) (statuses : List ℤ) (k start : ℕ) (whole : sum lengths ≡ length bytes)
+      (t : length texts ≡ length bytes) (l : length text_lengths ≡ length lengths) (s : length statuses ≡ length lengths)
+      (at : start ≡ sum (take k lengths))
+      (column : IsColumnRead Reads (take k (pieces lengths bytes)) (take start texts) (take k text_lengths) (take k statuses)) where
+    pub column-next : (size end count : ℕ) (status : ℤ) (place text : List ℕ) → k < length lengths → size ≡ get_or lengths k 0
+        → end ≡ start + get_or lengths k 0 → length place ≡ length (take size (drop start texts)) → count ≡ length text
+        → place ≡ filled_to (length (take size (drop start bytes))) text → Reads (take size (drop start bytes)) status text
+        → (end ≡ sum (take (k + 1) lengths))
+        × IsColumnRead Reads (take (k + 1) (pieces lengths bytes)) (take end (put_mid start size texts place))
+        (take (k + 1) (set text_lengths k count)) (take (k + 1) (set statuses k status))
+    column-next size end count status place text below is to as_long long filled reads =
+        let vs : List (List ℕ) = pieces lengths bytes in
+        let value : List ℕ = take size (drop start bytes) in
+        let within : start + get_or lengths k 0 ≤ length texts =
+        omega (arith, sum_by_more_le (λ n. n) lengths k 0 below, whole, t, at) in
+        let placed : length place ≡ size =
+        as_long ∙ length-take-le size (drop start texts) (omega (arith, length-drop start texts, within, is)) in (
+          to ∙ ap (λ n. n + get_or lengths k 0) at ∙ sym (sum_by_more (λ n. n) lengths k 0 below),
+          rw (
+            take_more vs k [] (omega (arith, length-pieces lengths bytes, below)),
+            sym (value-at lengths bytes k start size below at is),
+            take-put_mid start size texts place end (omega (arith, to, placed, is)) (omega (arith, within)),
+            take_more_set text_lengths k count (omega (arith, below, l)),
+            long,
+            take_more_set statuses k status (omega (arith, below, s)),
+          ) (columns-joined (take k vs) (value ∷ []) (take start texts) place (take k text_lengths) (length text ∷ [])
+              (take k statuses) (status ∷ []) column (column-one value place text status reads filled)),
+        )
+
+    pub column-end : length lengths ≤ k → IsColumnRead Reads (pieces lengths bytes) texts text_lengths statuses
+    column-end all =
+        let end : start ≡ length bytes = at ∙ ap sum (take_all k lengths all) ∙ whole in
+        column-whole (pieces lengths bytes) texts text_lengths statuses k start
+        (omega (arith, length-pieces lengths bytes, all)) (omega (arith, end, t)) (omega (arith, l, all)) (omega (arith, s, all))
+        column

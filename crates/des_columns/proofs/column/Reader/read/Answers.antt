@@ -1,10 +1,10 @@
 -- Some values more.
-use Rattle.std.proofs.Common.{◌≡◌, ℕ, ◌+◌, ◌-◌, ◌≤◌, List, length, take, drop, sum, refl, ap, ap₂, sym, ◌∙◌, arith, rules, take-add}
-use Rattle.std.proofs.lemmas.List.{length-drop, take_all, take_rest}
+use Rattle.std.proofs.Common.{◌≡◌, ℕ, ◌+◌, ◌-◌, ◌≤◌, List, length, take, drop, sum, refl, ap, ap₂, sym, ◌∙◌, arith, take-add}
+use Rattle.std.proofs.lemmas.List.{length-drop, take_rest}
 use Rattle.std.proofs.lemmas.List.Sums.{sum_by-append, sum_by-take-le}
 use Rattle.des_columns.specs.Columns.{ReadsAs, pieces}
-use Rattle.des_columns.proofs.Pieces.{length-pieces, pieces-rest, sum-rest}
-use Rattle.des_columns.proofs.ReadColumns.{column-none, column-whole, values-more}
+use Rattle.des_columns.proofs.Pieces.{pieces-rest, sum-rest}
+use Rattle.des_columns.proofs.ReadColumns.{column-none, column-end, values-more}
 use Rattle.des_columns.proofs.column.Reader.read.Goals as goal
 
 -- where the values end that were read
@@ -75,13 +75,8 @@ groups-preserved g c =
 
 pub returns-clause-read : goal.returns-clause-read
 returns-clause-read g c =
-    let lengths : List ℕ = c.args.lengths.now in
-    let all : take c.groups.from lengths ≡ lengths = take_all c.groups.from lengths (omega (arith, c.groups-test.false)) in
-    let end : c.groups.start ≡ length c.args.values.now = c.groups.invariant.start ∙ ap sum all ∙ c.requires.whole in
-    column-whole (ReadsAs c.args.self.now.form c.args.self.now.mode (g.K.ValueKeys.has_key c.args.self.now.keys)
-    (g.K.ValueKeys.decryption c.args.self.now.keys))
-    (pieces lengths c.args.values.now) c.groups.texts c.groups.text_lengths c.groups.statuses c.groups.from c.groups.start
-    (omega (arith, length-pieces lengths c.args.values.now, c.groups-test.false))
-    (omega (arith, end, c.requires.texts, c.groups.auto.texts))
-    (omega (arith, c.groups-test.false, c.requires.text_lengths, c.groups.auto.text_lengths))
-    (omega (arith, c.groups-test.false, c.requires.statuses, c.groups.auto.statuses)) c.groups.invariant.read
+    column-end (ReadsAs c.args.self.now.form c.args.self.now.mode (g.K.ValueKeys.has_key c.args.self.now.keys)
+    (g.K.ValueKeys.decryption c.args.self.now.keys)) c.args.lengths.now c.args.values.now c.groups.texts c.groups.text_lengths
+    c.groups.statuses c.groups.from c.groups.start c.requires.whole (c.groups.auto.texts ∙ c.requires.texts)
+    (c.groups.auto.text_lengths ∙ c.requires.text_lengths) (c.groups.auto.statuses ∙ c.requires.statuses)
+    c.groups.invariant.start c.groups.invariant.read c.groups-test.false

@@ -1,13 +1,13 @@
-use Rattle.std.proofs.Common.{rules, w32, SFits, Bool, ℕ, ◌≤◌, ◌<◌, List, length, take, get_or, refl, ap, sym, ◌∙◌, arith}
+use Rattle.std.proofs.Common.{rules, w32, SFits, Bool, ℕ, ◌≤◌, List, length, take, get_or, refl, ap, sym, ◌∙◌, arith}
 use Rattle.std.specs.List.{flat_map}
 use Rattle.std.proofs.lemmas.List.{length-take-le, take_at}
-use Rattle.std.proofs.lemmas.List.Sums.{sum_by-take-le, sum_by_more_le}
+use Rattle.std.proofs.lemmas.List.Sums.{sum_by-take-le}
 use Rattle.std.proofs.lemmas.Int.{to_z-of_z}
 use Rattle.des_columns.specs.Forms.{blocks_of}
-use Rattle.des_columns.specs.Columns.{ReadsAs, pieces, text_as}
+use Rattle.des_columns.specs.Columns.{ReadsAs, text_as}
 use Rattle.des_columns.specs.declared.form.Form.{Form}
-use Rattle.des_columns.proofs.Pieces.{length-pieces, take-pieces, value-at}
-use Rattle.des_columns.proofs.ReadColumns.{column-none, value-more}
+use Rattle.des_columns.proofs.Pieces.{take-pieces}
+use Rattle.des_columns.proofs.ReadColumns.{column-next, column-none}
 use Rattle.des_columns.proofs.column.Reader.read_next.Goals as goal
 
 pub returns-then-taken-eq0-clause-read : goal.returns-then-taken-eq0-clause-read
@@ -16,23 +16,14 @@ returns-then-taken-eq0-clause-read g c =
     let f : List ℕ → List ℕ → List ℕ = g.K.ValueKeys.decryption c.args.self.now.keys in
     let has : List ℕ → Bool = g.K.ValueKeys.has_key c.args.self.now.keys in
     let reads = ReadsAs form c.args.self.now.mode has f in
-    let lengths : List ℕ = c.args.lengths.now in
-    let vs : List (List ℕ) = pieces lengths c.args.values.now in
-    let bytes : ℕ = get_or lengths 0 0 in
-    let some : 0 < length lengths = omega (arith, c.requires.some) in
-    let within : bytes ≤ length c.args.texts.now =
-    omega (arith, sum_by_more_le (λ n. n) lengths 0 0 some, c.requires.whole, c.requires.texts) in
+    let bytes : ℕ = get_or c.args.lengths.now 0 0 in
     let fits : SFits w32 c.read_long-reading.result.status = search rules in
-    value-more reads vs c.args.texts.now c.args.text_lengths.now c.args.statuses.now 0 0 bytes bytes
-    c.read_long-reading.result.length _ (take bytes c.args.values.now) c.read_long-reading.new.place
-    (text_as form c.args.self.now.mode has f (take bytes c.args.values.now))
-    (omega (arith, some, length-pieces lengths c.args.values.now)) (omega (arith, some, c.requires.text_lengths))
-    (omega (arith, some, c.requires.statuses)) (omega arith)
-    (omega (arith, c.read_long-reading.auto.place, length-take-le bytes c.args.texts.now within))
-    (value-at lengths c.args.values.now 0 0 bytes some refl refl) c.read_long-reading.ensures.length
-    c.read_long-reading.ensures.text
-    (to_z-of_z w32 c.read_long-reading.result.status fits ∙ c.read_long-reading.ensures.status, refl)
-    (column-none reads)
+    (column-next reads c.args.lengths.now c.args.values.now c.args.texts.now c.args.text_lengths.now c.args.statuses.now 0 0
+    c.requires.whole c.requires.texts c.requires.text_lengths c.requires.statuses refl (column-none reads) bytes bytes
+    c.read_long-reading.result.length _ c.read_long-reading.new.place
+    (text_as form c.args.self.now.mode has f (take bytes c.args.values.now)) (omega (arith, c.requires.some)) refl (omega arith)
+    c.read_long-reading.auto.place c.read_long-reading.ensures.length c.read_long-reading.ensures.text
+    (to_z-of_z w32 c.read_long-reading.result.status fits ∙ c.read_long-reading.ensures.status, refl)).1
 
 pub decrypt_values-requires-clause-blocks : goal.decrypt_values-requires-clause-blocks
 decrypt_values-requires-clause-blocks g c =

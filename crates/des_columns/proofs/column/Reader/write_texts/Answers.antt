@@ -1,18 +1,18 @@
 -- A value more.
 use Rattle.std.proofs.Common.{rules, w32, SFits, ◌≡◌, ℕ, ℤ, Option, ◌+◌, ◌-◌, ◌/◌, ◌≤◌, ◌<◌, List, [], length, take, drop, get_or, sum, refl, ap, ap₂, sym, ◌∙◌, arith}
 use Rattle.std.specs.List.{flat_map}
-use Rattle.std.proofs.lemmas.List.{length-append, length-map, take_all, drop-drop}
+use Rattle.std.proofs.lemmas.List.{length-append, length-map, drop-drop}
 use Rattle.std.proofs.lemmas.List.Folds.{length-flat_map-take}
 use Rattle.std.proofs.lemmas.Int.{to_z-of_z}
-use Rattle.std.proofs.lemmas.List.Sums.{sum_by_more, sum_by_more_le}
+use Rattle.std.proofs.lemmas.List.Sums.{sum_by_more_le}
 use Rattle.std.proofs.lemmas.Slice.{drop-put_mid}
 use Rattle.des_columns.specs.EncryptedBytes.{joined}
 use Rattle.des_columns.specs.Forms.{blocks_of, filled_to, part_of, size_in, status_after, text_after, xored}
-use Rattle.des_columns.specs.Columns.{ReadsAs, decrypted, fault_under, pieces, plain_of, text_as}
+use Rattle.des_columns.specs.Columns.{ReadsAs, decrypted, pieces, plain_of, text_as}
 use Rattle.des_columns.specs.declared.form.BlockMode.{BlockMode}
 use Rattle.des_columns.specs.declared.form.Form.{Form}
 use Rattle.des_columns.proofs.Pieces.{value-at, length-blocks, length-pieces, flat_map-at, flat_map-more}
-use Rattle.des_columns.proofs.ReadColumns.{column-whole, value-more}
+use Rattle.des_columns.proofs.ReadColumns.{column-end, column-next}
 use Rattle.des_columns.proofs.column.Reader.write_texts.Goals as goal
 
 module _ (form : Form) (f : List ℕ → List ℕ → List ℕ) (lengths bytes part : List ℕ) (k start size : ℕ) (below : k < length lengths)
@@ -92,32 +92,35 @@ values-preserved g c =
     let count : ℕ = first + length part / 8 - first in
     let blocks : length part / 8 ≡ length (decrypted form f (get_or vs k [])) =
     blocks-at form f lengths bytes part k start size c.values-test.true c.values.invariant.start is c.part_of.ensures.part in
-    let same : take size (drop start bytes) ≡ get_or vs k [] =
-    value-at lengths bytes k start size c.values-test.true c.values.invariant.start is in
-    let within : start + get_or lengths k 0 ≤ length c.args.texts.now =
-    omega (
-      arith,
-      sum_by_more_le (λ x. x) lengths k 0 c.values-test.true,
-      c.requires.whole,
-      c.requires.texts,
-      c.values.invariant.start,
-    ) in
+    let value : List ℕ = take size (drop start bytes) in
     let bound =
     within-all form f lengths bytes part k start size c.values-test.true c.values.invariant.start is c.part_of.ensures.part
     first (length c.values.answers) c.values.invariant.first (c.values.invariant.count ∙ ap length c.requires.answers) in
-    let here : take count (drop first c.values.answers) ≡ decrypted form f (get_or vs k []) =
+    let here : take count (drop first c.values.answers) ≡ decrypted form f value =
     ap₂ take (omega (arith, blocks)) (c.values.invariant.rest ∙ ap (drop first) c.requires.answers)
-    ∙ flat_map-at (decrypted form f) vs k first inside c.values.invariant.first in
+    ∙ flat_map-at (decrypted form f) vs k first inside c.values.invariant.first
+    ∙ ap (decrypted form f) (sym (value-at lengths bytes k start size c.values-test.true c.values.invariant.start is)) in
     let mode : BlockMode = c.args.self.now.mode in
-    let fault : c.fault_of-fault.result ≡ fault_under (has (get_or vs k [])) form (get_or vs k []) =
-    c.fault_of-fault.ensures ∙ ap (λ (value : List ℕ). fault_under (has value) form value) same in
-    let plain : joined (xored mode (blocks_of form (take size (drop start bytes))) (take count (drop first c.values.answers)))
-    ≡ plain_of form mode f (get_or vs k []) =
-    ap₂ (λ (value : List ℕ) (l : List (List ℕ)). joined (xored mode (blocks_of form value) l)) same here in
-    let text = ap₂ (λ (e : Option ℤ) (p : List ℕ). text_after e (size_in form p) p) fault plain in
+    let plain : joined (xored mode (blocks_of form value) (take count (drop first c.values.answers))) ≡ plain_of form mode f value =
+    ap (λ (l : List (List ℕ)). joined (xored mode (blocks_of form value) l)) here in
+    let text =
+    ap₂ (λ (e : Option ℤ) (p : List ℕ). text_after e (size_in form p) p) c.fault_of-fault.ensures plain in
     let fits : SFits w32 c.write_text-reading.result.status = search rules in
+    let next =
+    column-next (ReadsAs form mode has f) lengths bytes c.values.texts c.values.text_lengths c.values.statuses k start
+    c.requires.whole (c.values.auto.texts ∙ c.requires.texts) (c.values.auto.text_lengths ∙ c.requires.text_lengths)
+    (c.values.auto.statuses ∙ c.requires.statuses) c.values.invariant.start c.values.invariant.read size
+    (start + get_or lengths k 0) c.write_text-reading.result.length _ c.write_text-reading.new.place
+    (text_as form mode has f value) c.values-test.true is (omega arith) c.write_text-reading.auto.place
+    (c.write_text-reading.ensures.length ∙ ap length text)
+    (c.write_text-reading.ensures.text ∙ ap (filled_to (length value)) text) (
+      to_z-of_z w32 c.write_text-reading.result.status fits
+          ∙ c.write_text-reading.ensures.status
+          ∙ ap₂ (λ (e : Option ℤ) (p : List ℕ). status_after e (size_in form p)) c.fault_of-fault.ensures plain,
+      refl,
+    ) in
     record {
-      start = ap (λ n. n + get_or lengths k 0) c.values.invariant.start ∙ sym (sum_by_more (λ x. x) lengths k 0 c.values-test.true);
+      start = next.0;
       first =
           ap₂ ◌+◌ c.values.invariant.first blocks ∙ sym (length-append (flat_map (decrypted form f) (take k vs)) _)
           ∙ sym (ap length (flat_map-more (decrypted form f) vs k inside));
@@ -128,31 +131,13 @@ values-preserved g c =
           ∙ sym (drop-drop (length part / 8) first c.values.answers)
           ∙ ap (drop (length part / 8)) c.values.invariant.rest
           ∙ drop-drop (length part / 8) first c.args.answers.now;
-      read =
-          value-more (ReadsAs form mode has f) vs c.values.texts c.values.text_lengths c.values.statuses k start size
-          (start + get_or lengths k 0) c.write_text-reading.result.length _ (get_or vs k []) c.write_text-reading.new.place
-          (text_as form mode has f (get_or vs k [])) inside
-          (omega (arith, c.values-test.true, c.values.auto.text_lengths, c.requires.text_lengths))
-          (omega (arith, c.values-test.true, c.values.auto.statuses, c.requires.statuses))
-          (omega (arith, within, c.values.auto.texts)) (omega (arith, c.write_text-reading.auto.place, is, within)) refl
-          (c.write_text-reading.ensures.length ∙ ap length text)
-          (c.write_text-reading.ensures.text ∙ ap₂ (λ (value t : List ℕ). filled_to (length value) t) same text) (
-            to_z-of_z w32 c.write_text-reading.result.status fits
-                ∙ c.write_text-reading.ensures.status
-                ∙ ap₂ (λ (e : Option ℤ) (p : List ℕ). status_after e (size_in form p)) fault plain,
-            refl,
-          )
-          c.values.invariant.read;
+      read = next.1;
     }
 
 pub returns : goal.returns
 returns g c =
-    let lengths : List ℕ = c.args.lengths.now in
-    let all : take c.values.k lengths ≡ lengths = take_all c.values.k lengths (omega (arith, c.values-test.false)) in
-    let end : c.values.start ≡ length c.args.values.now = c.values.invariant.start ∙ ap sum all ∙ c.requires.whole in
-    column-whole (ReadsAs c.args.self.now.form c.args.self.now.mode (g.K.ValueKeys.has_key c.args.self.now.keys)
-    (g.K.ValueKeys.decryption c.args.self.now.keys)) (pieces lengths c.args.values.now) c.values.texts c.values.text_lengths
-    c.values.statuses c.values.k c.values.start (omega (arith, length-pieces lengths c.args.values.now, c.values-test.false))
-    (omega (arith, end, c.requires.texts, c.values.auto.texts))
-    (omega (arith, c.requires.text_lengths, c.values.auto.text_lengths, c.values-test.false))
-    (omega (arith, c.requires.statuses, c.values.auto.statuses, c.values-test.false)) c.values.invariant.read
+    column-end (ReadsAs c.args.self.now.form c.args.self.now.mode (g.K.ValueKeys.has_key c.args.self.now.keys)
+    (g.K.ValueKeys.decryption c.args.self.now.keys)) c.args.lengths.now c.args.values.now c.values.texts c.values.text_lengths
+    c.values.statuses c.values.k c.values.start c.requires.whole (c.values.auto.texts ∙ c.requires.texts)
+    (c.values.auto.text_lengths ∙ c.requires.text_lengths) (c.values.auto.statuses ∙ c.requires.statuses)
+    c.values.invariant.start c.values.invariant.read c.values-test.false
