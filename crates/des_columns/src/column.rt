@@ -29,7 +29,6 @@ fn gather(form: Form, values: &[u8], lengths: &[usize], buffer: &mut [[u8; 8]]) 
     ensures count { result.count ≤ length lengths.now }
     ensures bytes { result.bytes ≡ sum (take result.count lengths.now) }
     ensures blocks { result.blocks ≤ length buffer.old }
-    ensures buffer { length buffer.new ≡ length buffer.old }
     ensures gathered { take result.blocks buffer.new
         ≡ flat_map (blocks_of form) (take result.count (pieces lengths.now values.now)) }
 {
@@ -118,8 +117,7 @@ impl<K: ValueKeys> Reader<K> {
     pub(crate) fn decipher<S: Slice>(&self, value: &[u8], bytes: &mut [u8], buffer: &mut [[u8; 8]])
         requires whole { length bytes.old % 8 ≡ 0 }
         requires buffer { 1 ≤ length buffer.old }
-        ensures buffer { length buffer.new ≡ length buffer.old }
-        ensures deciphered { bytes.new ≡ deciphered self.now.mode
+        ensures { bytes.new ≡ deciphered self.now.mode
             (K.decryption self.now.keys value.now) bytes.old }
     {
         let mut mode = self.mode;
@@ -141,7 +139,6 @@ impl<K: ValueKeys> Reader<K> {
     fn read_long<S: Slice>(&self, value: &[u8], buffer: &mut [[u8; 8]], place: &mut [u8]) -> Reading
         requires buffer { 1 ≤ length buffer.old }
         requires place { length place.old ≡ length value.now }
-        ensures buffer { length buffer.new ≡ length buffer.old }
         ensures status { result.status ≡ status_as self.now.form self.now.mode
             (K.has_key self.now.keys) (K.decryption self.now.keys) value.now }
         ensures length { result.length ≡ length (text_as self.now.form self.now.mode
@@ -177,7 +174,6 @@ impl<K: ValueKeys> Reader<K> {
         ensures some { 1 ≤ result.count }
         ensures within { result.count ≤ length lengths.now }
         ensures bytes { result.bytes ≡ sum (take result.count lengths.now) }
-        ensures buffer { length buffer.new ≡ length buffer.old }
         ensures read { IsColumnRead (ReadsAs self.now.form self.now.mode (K.has_key self.now.keys)
             (K.decryption self.now.keys)) (take result.count (pieces lengths.now values.now))
             (take result.bytes texts.new) (take result.count text_lengths.new)

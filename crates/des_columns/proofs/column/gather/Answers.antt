@@ -34,7 +34,6 @@ values-preserved c =
       bytes =
           ap₂ ◌+◌ c.values.invariant.bytes long ∙ sym (sum_by_more (λ x. x) lengths k 0 c.values-test.true);
       blocks = omega (arith, c.values.invariant.blocks, c.if-more-buffer.false, c.copy_from_slice.auto.self);
-      buffer = omega (arith, c.values.invariant.buffer, c.values.invariant.blocks, c.if-more-buffer.false, c.copy_from_slice.auto.self);
       gathered =
           take-put_mid c.values.blocks _ c.values.buffer c.copy_from_slice.new.self _
           (omega (arith, c.copy_from_slice.auto.self)) c.values.invariant.blocks

@@ -10,7 +10,6 @@ invariant-values l = record {
   count : l.count ≤ length l.lengths;
   bytes : l.bytes ≡ sum (take l.count l.lengths);
   blocks : l.blocks ≤ length l.buffer;
-  buffer : length l.buffer ≡ length l.initial.buffer;
   gathered : take l.blocks l.buffer ≡ flat_map (blocks_of l.form) (take l.count (pieces l.lengths l.values));
 }
 

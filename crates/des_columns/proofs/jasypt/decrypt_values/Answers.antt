@@ -27,7 +27,6 @@ values-preserved c =
     (sym (to_z-of_z w32 c.read_value-reading.result.status fits)) c.read_value-reading.ensures.read) in
     record {
       start = next.0;
-      buffer = c.read_value-reading.ensures.buffer ∙ c.values.invariant.buffer;
       read = next.1;
     }
 

@@ -53,7 +53,7 @@ overflow_add-answers g c =
     within-all c.args.self.now.form (g.K.ValueKeys.decryption c.args.self.now.keys) c.args.lengths.now c.args.values.now
     c.part_of.result.now c.values.k c.values.start _ c.values-test.true c.values.invariant.start (omega arith)
     c.part_of.ensures.part c.values.first (length c.values.answers) c.values.invariant.first
-    (c.values.invariant.count ∙ ap length c.requires.answers) in
+    (c.values.auto.answers ∙ ap length c.requires.answers) in
     omega (arith, bound, c.told-answers)
 
 pub offset_bounds-answers-first : goal.offset_bounds-answers-first
@@ -62,8 +62,8 @@ offset_bounds-answers-first g c =
     within-all c.args.self.now.form (g.K.ValueKeys.decryption c.args.self.now.keys) c.args.lengths.now c.args.values.now
     c.part_of.result.now c.values.k c.values.start _ c.values-test.true c.values.invariant.start (omega arith)
     c.part_of.ensures.part c.values.first (length c.values.answers) c.values.invariant.first
-    (c.values.invariant.count ∙ ap length c.requires.answers) in
-    omega (arith, bound, c.told-answers, c.values.invariant.count)
+    (c.values.auto.answers ∙ ap length c.requires.answers) in
+    omega (arith, bound, c.told-answers)
 
 pub slice_bounds-answers-end : goal.slice_bounds-answers-end
 slice_bounds-answers-end g c =
@@ -71,7 +71,7 @@ slice_bounds-answers-end g c =
     within-all c.args.self.now.form (g.K.ValueKeys.decryption c.args.self.now.keys) c.args.lengths.now c.args.values.now
     c.part_of.result.now c.values.k c.values.start _ c.values-test.true c.values.invariant.start (omega arith)
     c.part_of.ensures.part c.values.first (length c.values.answers) c.values.invariant.first
-    (c.values.invariant.count ∙ ap length c.requires.answers) in
+    (c.values.auto.answers ∙ ap length c.requires.answers) in
     search (rules, bound)
 
 pub values-preserved : goal.values-preserved
@@ -95,7 +95,7 @@ values-preserved g c =
     let value : List ℕ = take size (drop start bytes) in
     let bound =
     within-all form f lengths bytes part k start size c.values-test.true c.values.invariant.start is c.part_of.ensures.part
-    first (length c.values.answers) c.values.invariant.first (c.values.invariant.count ∙ ap length c.requires.answers) in
+    first (length c.values.answers) c.values.invariant.first (c.values.auto.answers ∙ ap length c.requires.answers) in
     let here : take count (drop first c.values.answers) ≡ decrypted form f value =
     ap₂ take (omega (arith, blocks)) (c.values.invariant.rest ∙ ap (drop first) c.requires.answers)
     ∙ flat_map-at (decrypted form f) vs k first inside c.values.invariant.first
@@ -124,7 +124,6 @@ values-preserved g c =
       first =
           ap₂ ◌+◌ c.values.invariant.first blocks ∙ sym (length-append (flat_map (decrypted form f) (take k vs)) _)
           ∙ sym (ap length (flat_map-more (decrypted form f) vs k inside));
-      count = omega (arith, c.values.invariant.count, bound, c.write_text-reading.auto.answers);
       rest =
           drop-put_mid first count c.values.answers c.write_text-reading.new.answers (first + length part / 8) (omega arith)
           (omega (arith, bound)) (omega (arith, c.write_text-reading.auto.answers, bound))

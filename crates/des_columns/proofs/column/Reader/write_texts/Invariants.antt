@@ -11,7 +11,6 @@ invariant-values g l =
     record {
       start : l.start ≡ sum (take l.k l.lengths);
       first : l.first ≡ length (flat_map (decrypted l.self.form (g.K.ValueKeys.decryption l.self.keys)) values);
-      count : length l.answers ≡ length l.initial.answers;
       rest : drop l.first l.answers ≡ drop l.first l.initial.answers;
       read : IsColumnRead (ReadsAs l.self.form l.self.mode (g.K.ValueKeys.has_key l.self.keys)
           (g.K.ValueKeys.decryption l.self.keys)) values (take l.start l.texts) (take l.k l.text_lengths) (take l.k l.statuses);

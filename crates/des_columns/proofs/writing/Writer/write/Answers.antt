@@ -1,5 +1,5 @@
 -- A value more.
-use Rattle.std.proofs.Common.{◌≡◌, ℕ, ◌+◌, ◌-◌, ◌≤◌, ◌<◌, List, [], length, take, drop, get_or, refl, ap, ap₂, sym, ◌∙◌, arith, rules}
+use Rattle.std.proofs.Common.{◌≡◌, ℕ, ◌+◌, ◌-◌, ◌≤◌, ◌<◌, List, [], length, take, drop, get_or, refl, ap, ap₂, sym, ◌∙◌, arith}
 use Rattle.std.specs.List.{sum_by}
 use Rattle.std.proofs.lemmas.List.{length-drop, length-take-le, take_all, take_more}
 use Rattle.std.proofs.lemmas.List.Sums.{sum_by_more, sum_by_more_le}
@@ -15,7 +15,6 @@ pub texts-init : goal.texts-init
 texts-init g c = record {
   from = refl;
   start = refl;
-  buffer = search rules;
   written = λ key made.
       written-none (value_size c.args.self.now.form)
       (IsWriting c.args.self.now.form c.args.self.now.number c.args.self.now.mode (g.C.Relating.relation key));
@@ -54,7 +53,6 @@ texts-preserved g c =
     record {
       from = ap₂ ◌+◌ c.texts.invariant.from long ∙ sym (sum_by_more (λ n. n) lengths k 0 below);
       start = ap₂ ◌+◌ c.texts.invariant.start sized ∙ sym (sum_by_more (value_size form) lengths k 0 below);
-      buffer = c.write_value.ensures.buffer ∙ c.texts.invariant.buffer;
       written = λ key made.
           rw (
             take_more (pieces lengths bytes) k [] (omega (arith, length-pieces lengths bytes, below)),
@@ -64,7 +62,7 @@ texts-preserved g c =
           ) (written-more (value_size form) (IsWriting form c.args.self.now.number c.args.self.now.mode (g.C.Relating.relation key))
           (take k (pieces lengths bytes)) (take start c.texts.values) text c.write_value.new.value
           (c.write_value.auto.value ∙ there ∙ size_is ∙ sized ∙ ap (value_size form) (sym long))
-          (c.write_value.ensures.written key made) (c.texts.invariant.written key made));
+          (c.write_value.ensures key made) (c.texts.invariant.written key made));
     }
 
 pub returns : goal.returns
