@@ -1,5 +1,5 @@
 -- Columns that are read: of one value, of some and others behind them, and of the first values.
-use Rattle.std.proofs.Common.{◌≡◌, ℕ, ℤ, ◌+◌, ◌-◌, ◌≤◌, ◌<◌, List, [], ◌∷◌, ◌++◌, length, take, drop, get_or, refl, ap, ap₂, sym, ◌∙◌, subst, arith, sum, take-add, inl, inr}
+use Rattle.std.proofs.Common.{◌≡◌, ℕ, ℤ, ◌+◌, ◌-◌, ◌≤◌, ◌<◌, List, [], ◌∷◌, ◌++◌, length, take, drop, get_or, refl, ap, ap₂, sym, ◌∙◌, subst, arith, sum, inl, inr}
 use Rattle.std.specs.Simd.Lanes.{zip2}
 use Rattle.std.proofs.Math.ListN.{set}
 use Rattle.std.proofs.lemmas.Bool.{cases_lt}
@@ -13,7 +13,7 @@ use Rattle.des_columns.specs.Forms.{filled_to}
 use Rattle.des_columns.specs.Readings.{IsColumnRead}
 use Rattle.des_columns.specs.declared.status.TheConstants.{OK}
 use Rattle.des_columns.specs.Columns.{pieces}
-use Rattle.des_columns.proofs.Pieces.{length-pieces, take-rest, value-at}
+use Rattle.des_columns.proofs.Pieces.{length-pieces, value-at}
 use borrow.Rule.Slice.PartMut.{put_mid}
 
 -- by what follows for each value
@@ -91,25 +91,6 @@ module _ (Reads : List ℕ → ℤ → List ℕ → Type 0) where
         → IsColumnRead Reads vs texts text_lengths statuses
     column-whole k n all t l s read =
         rw (take_all k vs all, take_all n texts t, take_all k text_lengths l, take_all k statuses s) at read
-
-    -- some more, from the place k on
-    pub values-more : (k count start size a b c : ℕ) (more more_lengths : List ℕ) (more_statuses : List ℤ)
-        → start + size ≤ length texts → k + count ≤ length text_lengths → k + count ≤ length statuses
-        → length more ≡ length (take (length texts - start) (drop start texts))
-        → length more_lengths ≡ length (take (length text_lengths - k) (drop k text_lengths))
-        → length more_statuses ≡ length (take (length statuses - k) (drop k statuses))
-        → IsColumnRead Reads (take k vs) (take start texts) (take k text_lengths) (take k statuses)
-        → IsColumnRead Reads (take count (drop k vs)) (take size more) (take count more_lengths) (take count more_statuses)
-        → IsColumnRead Reads (take (k + count) vs) (take (start + size) (put_mid start a texts more))
-        (take (k + count) (put_mid k b text_lengths more_lengths)) (take (k + count) (put_mid k c statuses more_statuses))
-    values-more k count start size a b c more more_lengths more_statuses t l s as_many as_lengths as_statuses first rest =
-        rw (
-          take-add k count vs,
-          take-rest start a size texts more t as_many,
-          take-rest k b count text_lengths more_lengths l as_lengths,
-          take-rest k c count statuses more_statuses s as_statuses,
-        ) (columns-joined (take k vs) (take count (drop k vs)) (take start texts) (take size more) (take k text_lengths)
-        (take count more_lengths) (take k statuses) (take count more_statuses) first rest)
 
   -- the values before k, by their lengths: with one more, and if they are all
   module _ (lengths bytes texts text_lengths : List ℕ) (statuses : List ℤ) (k start : ℕ) (whole : sum lengths ≡ length bytes)
