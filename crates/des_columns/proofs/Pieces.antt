@@ -2,12 +2,16 @@
 use Rattle.std.proofs.Common.{◌≡◌, ℕ, zero, suc, ◌+◌, ◌-◌, ◌/◌, ◌≤◌, ◌<◌, min, List, [], ◌∷◌, ◌++◌, length, take, drop, get_or, sum, refl, ap, ap₂, sym, ◌∙◌, arith, take-add, append_assoc, take-append-drop}
 use Rattle.std.specs.List.{flat_map}
 use Rattle.std.specs.Simd.{first_chunks}
+use Rattle.std.proofs.Math.Seq.{get_or-append_seam}
 use Rattle.std.proofs.lemmas.List.{drop_more, drop_min, take_min, append-nil, take_more, drop-drop, take_at, drop_at, length-append, drop-take, take-take, drop-append-le, drop_all, length-take}
 use Rattle.std.proofs.lemmas.List.Concat.{flat_map-append}
 use Rattle.std.proofs.lemmas.List.Sums.{sum_by-append, sum_by-cons}
 use Rattle.des_columns.specs.Columns.{pieces}
 use Rattle.des_columns.specs.Forms.{blocks_of, part_of}
 use Rattle.des_columns.specs.declared.form.Form.{Form}
+
+pub last-of : {X : Type 0} (xs : List X) (x d : X) (k : ℕ) → k ≡ length xs → get_or (xs ++ x ∷ []) k d ≡ x
+last-of xs x d k is = ap (λ n. get_or (xs ++ x ∷ []) n d) is ∙ get_or-append_seam xs x [] d
 
 pub length-pieces : (lengths bytes : List ℕ) → length (pieces lengths bytes) ≡ length lengths
 length-pieces [] bytes = refl

@@ -173,69 +173,6 @@ impl<K: ValueKeys> Reader<K> {
         finish(self.form, self.fault_of(value), part.len(), place)
     }
 
-    // Reads values, from value `from` on, which begins at byte `start`: as many as fit into the buffer
-    // together, or else that one alone.
-    fn read_next<S: Slice>(
-        &self,
-        values: &[u8],
-        lengths: &[usize],
-        from: usize,
-        start: usize,
-        buffer: &mut [[u8; 8]],
-        texts: &mut [u8],
-        text_lengths: &mut [usize],
-        statuses: &mut [i32],
-    ) -> Taken
-        requires whole { sum lengths.now ≡ length values.now }
-        requires from { from < length lengths.now }
-        requires start { start ≡ sum (take from lengths.now) }
-        requires buffer { 1 ≤ length buffer.old }
-        requires few { length buffer.old ≤ K.MOST_BLOCKS }
-        requires texts { length texts.old ≡ length values.now }
-        requires text_lengths { length text_lengths.old ≡ length lengths.now }
-        requires statuses { length statuses.old ≡ length lengths.now }
-        requires read { IsColumnRead (ReadsAs self.now.form self.now.mode (K.has_key self.now.keys)
-            (K.decryption self.now.keys)) (take from (pieces lengths.now values.now))
-            (take start texts.old) (take from text_lengths.old) (take from statuses.old) }
-        ensures more { from < result.end }
-        ensures end { result.end ≤ length lengths.now }
-        ensures bytes { result.bytes ≡ sum (take result.end lengths.now) }
-        ensures read { IsColumnRead (ReadsAs self.now.form self.now.mode (K.has_key self.now.keys)
-            (K.decryption self.now.keys)) (take result.end (pieces lengths.now values.now))
-            (take result.bytes texts.new) (take result.end text_lengths.new)
-            (take result.end statuses.new) }
-    {
-        let taken = gather(self.form, values, lengths, from, start, buffer);
-        if taken.end == from {
-            let bytes = start + lengths[from];
-            let place = &mut texts[start..bytes];
-            let reading = self.read_long::<S>(&values[start..bytes], buffer, place);
-            text_lengths[from] = reading.length;
-            statuses[from] = reading.status;
-            return Taken {
-                end: from + 1,
-                bytes,
-                blocks: 0,
-            };
-        }
-        let some = &values[start..taken.bytes];
-        let answers = &mut buffer[..taken.blocks];
-        self.keys
-            .decrypt_values::<S>(self.form, some, &lengths[from..taken.end], answers);
-        self.write_texts(
-            values,
-            lengths,
-            from,
-            start,
-            taken.end,
-            answers,
-            texts,
-            text_lengths,
-            statuses,
-        );
-        taken
-    }
-
     /// Reads the values of a column, one after another, of these lengths. Text k is written where
     /// value k begins, before zeros, and its length; and status k, which is `OK` or why value k has
     /// no text. Returns whether all of them are `OK`.
@@ -260,18 +197,35 @@ impl<K: ValueKeys> Reader<K> {
         let mut from = 0;
         let mut start = 0;
         'groups: while from < lengths.len() {
-            let taken = self.read_next::<S>(
-                values,
-                lengths,
-                from,
-                start,
-                &mut buffer[..K::MOST_BLOCKS],
-                texts,
-                text_lengths,
-                statuses,
-            );
-            from = taken.end;
-            start = taken.bytes;
+            let buffer = &mut buffer[..K::MOST_BLOCKS];
+            let taken = gather(self.form, values, lengths, from, start, buffer);
+            if taken.end == from {
+                let end = start + lengths[from];
+                let place = &mut texts[start..end];
+                let reading = self.read_long::<S>(&values[start..end], buffer, place);
+                text_lengths[from] = reading.length;
+                statuses[from] = reading.status;
+                from += 1;
+                start = end;
+            } else {
+                let some = &values[start..taken.bytes];
+                let answers = &mut buffer[..taken.blocks];
+                self.keys
+                    .decrypt_values::<S>(self.form, some, &lengths[from..taken.end], answers);
+                self.write_texts(
+                    values,
+                    lengths,
+                    from,
+                    start,
+                    taken.end,
+                    answers,
+                    texts,
+                    text_lengths,
+                    statuses,
+                );
+                from = taken.end;
+                start = taken.bytes;
+            }
         }
         are_ok(statuses)
     }
