@@ -112,29 +112,6 @@ impl<C: ManyBlocks + Drop> Writer<C> {
         self.form.write_padded(text, bytes);
         self.encipher::<S>(bytes, buffer);
     }
-
-    // Writes the values of texts of these lengths, one after another.
-    fn write<S: Slice>(&self, texts: &[u8], lengths: &[usize], values: &mut [u8])
-        requires number { self.now.number < 128 }
-        requires whole { sum lengths.now ≡ length texts.now }
-        requires sizes { All (IsTextSize self.now.form) lengths.now }
-        requires values { length values.old ≡ sum_by (value_size self.now.form) lengths.now }
-        ensures { (key : List ℕ) → C.is_made_from self.now.cipher key
-            → IsColumnWritten (value_size self.now.form)
-            (IsWriting self.now.form self.now.number self.now.mode (C.relation key))
-            (pieces lengths.now texts.now) values.new }
-    {
-        let mut buffer = [[0; 8]; BLOCKS];
-        let mut from = 0;
-        let mut start = 0;
-        'texts: for k in 0..lengths.len() {
-            let text = &texts[from..from + lengths[k]];
-            let size = self.form.value_size(text.len());
-            self.write_value::<S>(text, &mut values[start..start + size], &mut buffer);
-            from += text.len();
-            start += size;
-        }
-    }
 }
 
 /// Writes the values of a column under one key, of texts of these lengths, one after another: each
@@ -162,7 +139,16 @@ pub fn write_values<C: ManyBlocks + Drop, S: Slice>(
         number,
         mode,
     };
-    writer.write::<S>(texts, lengths, values);
+    let mut buffer = [[0; 8]; BLOCKS];
+    let mut from = 0;
+    let mut start = 0;
+    'texts: for k in 0..lengths.len() {
+        let text = &texts[from..from + lengths[k]];
+        let size = form.value_size(text.len());
+        writer.write_value::<S>(text, &mut values[start..start + size], &mut buffer);
+        from += text.len();
+        start += size;
+    }
 }
 
 /// Whether the arguments of a call that writes a column fit: the lengths add up to the bytes of the
