@@ -64,7 +64,7 @@ fn gather(
 
 /// How the values of a column are read: under which keys, from which form, and by which mode.
 #[derive(Drop)]
-pub struct Reader<K> {
+pub(crate) struct Reader<K> {
     pub keys: K,
     pub form: Form,
     pub mode: BlockMode,
@@ -176,7 +176,7 @@ impl<K: ValueKeys> Reader<K> {
     /// Reads the values of a column, one after another, of these lengths. Text k is written where
     /// value k begins, before zeros, and its length; and status k, which is `OK` or why value k has
     /// no text. Returns whether all of them are `OK`.
-    pub fn read<S: Slice>(
+    pub(crate) fn read<S: Slice>(
         &self,
         values: &[u8],
         lengths: &[usize],

@@ -19,5 +19,5 @@ pub mod one_key;
 pub mod pbe;
 pub mod pgcrypto;
 pub mod status;
-pub mod value_keys;
+mod value_keys;
 pub mod writing;

@@ -10,7 +10,7 @@ use des_fast::many::{ManyBlocks, Slice};
 
 /// What decrypts the blocks of values. No call reads a table at an index that depends on a key or
 /// a block.
-pub trait ValueKeys {
+pub(crate) trait ValueKeys {
     /// How many blocks of several values go together at most.
     const MOST_BLOCKS: usize;
 
@@ -49,7 +49,7 @@ pub trait ValueKeys {
 
 /// One key for all values: the cipher made from it.
 #[derive(Drop)]
-pub struct OneKey<C> {
+pub(crate) struct OneKey<C> {
     pub cipher: C,
 }
 
