@@ -3,7 +3,7 @@ pub mod Pieces
 pub mod ReadColumns
 pub mod DecryptedBlocks
 pub mod ReadValues
-pub mod KeptBlocks
+pub mod KeysOfBlocks
 pub mod KeyFileLines
 pub mod ValuesByNumber
 pub mod KnownAnswers

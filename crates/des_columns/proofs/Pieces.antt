@@ -1,15 +1,17 @@
 -- The values of a column: each, those before one, those from one on.
-use Rattle.std.proofs.Common.{◌≡◌, ℕ, zero, suc, ◌+◌, ◌-◌, ◌/◌, ◌≤◌, ◌<◌, min, List, [], ◌∷◌, ◌++◌, length, take, drop, get_or, sum, refl, ap, ap₂, sym, ◌∙◌, arith, take-add}
+use Rattle.std.proofs.Common.{◌≡◌, ℕ, zero, suc, ◌+◌, ◌-◌, ◌/◌, ◌≤◌, ◌<◌, min, List, [], ◌∷◌, ◌++◌, length, take, drop, get_or, sum, refl, ap, ap₂, sym, ◌∙◌, arith, take-add, append_assoc, take-append-drop}
 use Rattle.std.specs.List.{flat_map}
 use Rattle.std.specs.Simd.{first_chunks}
-use Rattle.std.proofs.lemmas.List.{drop_more, drop_min, take_min, append-nil, take_more, take_rest, take-append-le, drop-drop, take_at, drop_at, length-append, length-drop, length-take-le, drop-take, take-take}
+use Rattle.std.proofs.Math.Seq.{get_or-append_seam}
+use Rattle.std.proofs.lemmas.List.{drop_more, drop_min, take_min, append-nil, take_more, drop-drop, take_at, drop_at, length-append, drop-take, take-take, drop-append-le, drop_all, length-take}
 use Rattle.std.proofs.lemmas.List.Concat.{flat_map-append}
-use Rattle.std.proofs.lemmas.List.Sums.{sum_by-cons, sum_by-take-drop}
-use Rattle.std.proofs.lemmas.Slice.{take-put_mid_below}
+use Rattle.std.proofs.lemmas.List.Sums.{sum_by-append, sum_by-cons}
 use Rattle.des_columns.specs.Columns.{pieces}
 use Rattle.des_columns.specs.Forms.{blocks_of, part_of}
 use Rattle.des_columns.specs.declared.form.Form.{Form}
-use borrow.Rule.Slice.PartMut.{put_mid}
+
+pub last-of : {X : Type 0} (xs : List X) (x d : X) (k : ℕ) → k ≡ length xs → get_or (xs ++ x ∷ []) k d ≡ x
+last-of xs x d k is = ap (λ n. get_or (xs ++ x ∷ []) n d) is ∙ get_or-append_seam xs x [] d
 
 pub length-pieces : (lengths bytes : List ℕ) → length (pieces lengths bytes) ≡ length lengths
 length-pieces [] bytes = refl
@@ -45,30 +47,60 @@ take-pieces (size ∷ lengths) bytes (suc k) total is =
     ∙ ap (pieces (take k lengths)) (drop-take size rest bytes)
     ∙ take-pieces lengths (drop size bytes) k rest refl)
 
--- what a function makes of values, up to one more
-pub flat_map-more : {X : Type 0} (f : List ℕ → List X) (values : List (List ℕ)) (k : ℕ) → k < length values
-    → flat_map f (take (k + 1) values) ≡ flat_map f (take k values) ++ f (get_or values k [])
-flat_map-more f values k below =
-    ap (flat_map f) (take_more values k [] below)
-    ∙ flat_map-append f (take k values) (get_or values k [] ∷ [])
-    ∙ ap (λ l. flat_map f (take k values) ++ l) (append-nil (f (get_or values k [])))
+-- the values from one on before another
+pub pieces-between : (lengths bytes : List ℕ) (from end start stop : ℕ) → from ≤ end → end ≤ length lengths
+    → start ≡ sum (take from lengths) → stop ≡ sum (take end lengths)
+    → pieces (take (end - from) (drop from lengths)) (take (stop - start) (drop start bytes)) ≡ drop from (take end (pieces lengths bytes))
+pieces-between lengths bytes from end start stop order within at to =
+    let count : ℕ = end - from in
+    let is : from + count ≡ end = omega (arith, order) in
+    let total : stop ≡ start + sum (take count (drop from lengths)) =
+    to ∙ ap (λ n. sum (take n lengths)) (sym is) ∙ ap sum (take-add from count lengths)
+    ∙ sum_by-append (λ n. n) (take from lengths) (take count (drop from lengths))
+    ∙ ap (λ n. n + sum (take count (drop from lengths))) (sym at) in
+    take-pieces (drop from lengths) (drop start bytes) count (stop - start) (omega (arith, total))
+    ∙ ap (λ n. take count (pieces (drop from lengths) (drop n bytes))) at
+    ∙ ap (take count) (sym (drop-pieces lengths bytes from (omega (arith, order, within))))
+    ∙ sym (drop-take from count (pieces lengths bytes))
+    ∙ ap (λ n. drop from (take n (pieces lengths bytes))) is
+
+pub none-between : (from : ℕ) (values : List (List ℕ)) → drop from (take from values) ≡ []
+none-between from values = drop_all from (take from values) (omega (arith, length-take from values))
+
+-- what a function makes of values from one on, up to one more
+pub flat_map-more : {X : Type 0} (f : List ℕ → List X) (values : List (List ℕ)) (from k : ℕ) → from ≤ k → k < length values
+    → flat_map f (drop from (take (k + 1) values)) ≡ flat_map f (drop from (take k values)) ++ f (get_or values k [])
+flat_map-more f values from k order below =
+    ap (λ l. flat_map f (drop from l)) (take_more values k [] below)
+    ∙ ap (flat_map f) (drop-append-le from (take k values) (get_or values k [] ∷ [])
+    (omega (arith, order, below, length-take k values)))
+    ∙ flat_map-append f (drop from (take k values)) (get_or values k [] ∷ [])
+    ∙ ap (λ l. flat_map f (drop from (take k values)) ++ l) (append-nil (f (get_or values k [])))
 
 -- and where it stands
-pub flat_map-at : {X : Type 0} (f : List ℕ → List X) (values : List (List ℕ)) (k n : ℕ) → k < length values
-    → n ≡ length (flat_map f (take k values))
-    → take (length (f (get_or values k []))) (drop n (flat_map f values)) ≡ f (get_or values k [])
-flat_map-at f [] k n below at = absurd (omega arith)
-flat_map-at f (value ∷ values) zero n below at =
-    rw at (take_at (f value) (flat_map f values) _ refl)
-flat_map-at f (value ∷ values) (suc k) n below at =
-    let before = flat_map f (take k values) in
-    let rest = flat_map f values in
-    let there : n ≡ length (f value) + length before = at ∙ length-append (f value) before in
-    ap (take (length (f (get_or values k []))))
-    (ap (λ m. drop m (f value ++ rest)) there
-    ∙ sym (drop-drop (length before) (length (f value)) (f value ++ rest))
-    ∙ ap (drop (length before)) (drop_at (f value) rest _ refl))
-    ∙ flat_map-at f values k (length before) (omega (arith, below)) refl
+pub flat_map-at : {X : Type 0} (f : List ℕ → List X) (values : List (List ℕ)) (from k end n : ℕ) → from ≤ k → k < end
+    → end ≤ length values → n ≡ length (flat_map f (drop from (take k values)))
+    → (take (length (f (get_or values k []))) (drop n (flat_map f (drop from (take end values)))) ≡ f (get_or values k []))
+    × (n + length (f (get_or values k [])) ≤ length (flat_map f (drop from (take end values))))
+flat_map-at f values from k end n order below within at =
+    let before = flat_map f (drop from (take k values)) in
+    let here = f (get_or values k []) in
+    let some : List (List ℕ) = take end values in
+    let rest = flat_map f (drop (k + 1) some) in
+    let front : some ≡ take (k + 1) values ++ drop (k + 1) some =
+    sym (take-append-drop (k + 1) some)
+    ∙ ap (λ l. l ++ drop (k + 1) some) (take-take (k + 1) end values (omega (arith, below))) in
+    let all : flat_map f (drop from some) ≡ before ++ (here ++ rest) =
+    ap (λ l. flat_map f (drop from l)) front
+    ∙ ap (flat_map f) (drop-append-le from (take (k + 1) values) (drop (k + 1) some)
+    (omega (arith, order, below, within, length-take (k + 1) values)))
+    ∙ flat_map-append f (drop from (take (k + 1) values)) (drop (k + 1) some)
+    ∙ ap (λ l. l ++ rest) (flat_map-more f values from k order (omega (arith, below, within)))
+    ∙ append_assoc before here rest in (
+      ap (take (length here)) (ap₂ drop at all ∙ drop_at before (here ++ rest) (length before) refl)
+          ∙ take_at here rest (length here) refl,
+      omega (arith, at, ap length all, length-append before (here ++ rest), length-append here rest),
+    )
 
 -- the bytes at a value's place are the value
 pub value-at : (lengths bytes : List ℕ) (k start size : ℕ) → k < length lengths → start ≡ sum (take k lengths)
@@ -85,32 +117,6 @@ pub length-blocks : (form : Form) (value same part : List ℕ) → value ≡ sam
     → length part / 8 ≡ length (blocks_of form same)
 length-blocks form value same part is of =
     ap (λ (l : List ℕ). length l / 8) (of ∙ ap (part_of form) is) ∙ sym (length-first_chunks 8 _ (part_of form same))
-
--- the values from one on
-pub pieces-rest : (lengths bytes : List ℕ) (k start : ℕ) → k ≤ length lengths → start ≡ sum (take k lengths)
-    → pieces (take (length lengths - k) (drop k lengths)) (take (length bytes - start) (drop start bytes))
-    ≡ drop k (pieces lengths bytes)
-pieces-rest lengths bytes k start within at =
-    ap₂ pieces (take_rest lengths k) (take_rest bytes start)
-    ∙ ap (λ n. pieces (drop k lengths) (drop n bytes)) at
-    ∙ sym (drop-pieces lengths bytes k within)
-
-pub sum-rest : (lengths bytes : List ℕ) (k start : ℕ) → start ≡ sum (take k lengths) → sum lengths ≡ length bytes
-    → sum (take (length lengths - k) (drop k lengths)) ≡ length (take (length bytes - start) (drop start bytes))
-sum-rest lengths bytes k start at whole =
-    ap sum (take_rest lengths k)
-    ∙ omega (arith, sum_by-take-drop (λ n. n) lengths k, at, whole, length-drop start bytes)
-    ∙ sym (ap length (take_rest bytes start))
-
--- the front of a list of which all from one place on was written, up to a place behind that
-pub take-rest : {X : Type 0} (a k b : ℕ) (xs ys : List X) → a + b ≤ length xs
-    → length ys ≡ length (take (length xs - a) (drop a xs)) → take (a + b) (put_mid a k xs ys) ≡ take a xs ++ take b ys
-take-rest a k b xs ys within long =
-    let from : a ≤ length xs = omega (arith, within) in
-    let to : b ≤ length ys = omega (arith, within, long, ap length (take_rest xs a), length-drop a xs) in
-    take-add a b (put_mid a k xs ys)
-    ∙ ap₂ ◌++◌ (take-put_mid_below a k xs ys a (omega arith) from)
-    (ap (take b) (drop_at (take a xs) _ a (length-take-le a xs from)) ∙ take-append-le b ys _ to)
 
 -- the first of the values from one on, and those behind it
 pub pieces-next : (lengths bytes rest : List ℕ) (k mid : ℕ) → k < length lengths → mid ≡ min (get_or lengths k 0) (length rest)

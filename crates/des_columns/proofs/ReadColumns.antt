@@ -1,17 +1,19 @@
 -- Columns that are read: of one value, of some and others behind them, and of the first values.
-use Rattle.std.proofs.Common.{◌≡◌, ℕ, ℤ, ◌+◌, ◌-◌, ◌≤◌, ◌<◌, List, [], ◌∷◌, ◌++◌, length, take, drop, get_or, refl, ap, ap₂, sym, ◌∙◌, subst, arith, take-add, inl, inr}
+use Rattle.std.proofs.Common.{◌≡◌, ℕ, ℤ, ◌+◌, ◌≤◌, ◌<◌, List, [], ◌∷◌, ◌++◌, length, take, drop, get_or, refl, ap, ap₂, sym, ◌∙◌, arith, sum, inl, inr}
 use Rattle.std.specs.Simd.Lanes.{zip2}
 use Rattle.std.proofs.Math.ListN.{set}
 use Rattle.std.proofs.lemmas.Bool.{cases_lt}
-use Rattle.std.proofs.lemmas.List.{append-nil, get_or_append_left, get_or-append_right, length-append, map-append, take_all, take_more, take_more_set}
+use Rattle.std.proofs.lemmas.List.{append-nil, get_or_append_left, length-append, map-append, length-drop, length-take-le, take_all, take_more, take_more_set}
 use Rattle.std.proofs.lemmas.List.Concat.{flat_map-append}
+use Rattle.std.proofs.lemmas.List.Sums.{sum_by_more, sum_by_more_le}
 use Rattle.std.proofs.lemmas.Slice.{take-put_mid}
 use Rattle.des_fast.proofs.SliceBits.{zip2-append}
 use Rattle.des_columns.specs.EncryptedBytes.{joined}
 use Rattle.des_columns.specs.Forms.{filled_to}
 use Rattle.des_columns.specs.Readings.{IsColumnRead}
 use Rattle.des_columns.specs.declared.status.TheConstants.{OK}
-use Rattle.des_columns.proofs.Pieces.{take-rest}
+use Rattle.des_columns.specs.Columns.{pieces}
+use Rattle.des_columns.proofs.Pieces.{last-of, length-pieces, value-at}
 use borrow.Rule.Slice.PartMut.{put_mid}
 
 -- by what follows for each value
@@ -40,89 +42,74 @@ module _ (Reads : List ℕ → ℤ → List ℕ → Type 0) where
     places = refl;
   }
 
-  column-one : (value place text : List ℕ) (status : ℤ) → Reads value status text → place ≡ filled_to (length value) text
-      → IsColumnRead Reads (value ∷ []) place (length text ∷ []) (status ∷ [])
-  column-one value place text status reads is = record {
-    read = text ∷ [];
-    count = refl;
-    statuses_count = refl;
-    reads = λ k below.
-        let first : 0 ≡ k = omega (arith, below) in
-        subst (λ (n : ℕ). Reads (get_or (value ∷ []) n []) (get_or (status ∷ []) n OK) (get_or (text ∷ []) n [])) first reads;
-    lengths = refl;
-    places = is ∙ sym (append-nil (filled_to (length value) text));
-  }
-
-  columns-joined : (vs ws : List (List ℕ)) (ts us ls ms : List ℕ) (ss rs : List ℤ) → IsColumnRead Reads vs ts ls ss
-      → IsColumnRead Reads ws us ms rs → IsColumnRead Reads (vs ++ ws) (ts ++ us) (ls ++ ms) (ss ++ rs)
-  columns-joined vs ws ts us ls ms ss rs a b =
+  column-more : (vs : List (List ℕ)) (ts ls : List ℕ) (ss : List ℤ) (value place text : List ℕ) (status : ℤ)
+      → Reads value status text → place ≡ filled_to (length value) text → IsColumnRead Reads vs ts ls ss
+      → IsColumnRead Reads (vs ++ value ∷ []) (ts ++ place) (ls ++ length text ∷ []) (ss ++ status ∷ [])
+  column-more vs ts ls ss value place text status reads is column =
       let fill : List ℕ → List ℕ → List ℕ = λ value text. filled_to (length value) text in
       record {
-        read = a.read ++ b.read;
-        count = length-append a.read b.read ∙ ap₂ ◌+◌ a.count b.count ∙ sym (length-append vs ws);
-        statuses_count = length-append ss rs ∙ ap₂ ◌+◌ a.statuses_count b.statuses_count ∙ sym (length-append vs ws);
+        read = column.read ++ text ∷ [];
+        count = length-append column.read (text ∷ []) ∙ ap (λ n. n + 1) column.count ∙ sym (length-append vs (value ∷ []));
+        statuses_count =
+            length-append ss (status ∷ []) ∙ ap (λ n. n + 1) column.statuses_count ∙ sym (length-append vs (value ∷ []));
         reads = λ k below. elim (cases_lt k (length vs)) [
           | inl before ↦
               rw (
-                get_or_append_left vs ws [] k before,
-                get_or_append_left ss rs OK k (omega (arith, before, a.statuses_count)),
-                get_or_append_left a.read b.read [] k (omega (arith, before, a.count)),
-              ) (a.reads k before)
+                get_or_append_left vs (value ∷ []) [] k before,
+                get_or_append_left ss (status ∷ []) OK k (omega (arith, before, column.statuses_count)),
+                get_or_append_left column.read (text ∷ []) [] k (omega (arith, before, column.count)),
+              ) (column.reads k before)
           | inr after ↦
+              let here : k ≡ length vs = omega (arith, after, below, length-append vs (value ∷ [])) in
               rw (
-                get_or-append_right vs ws (length vs) k [] refl after,
-                get_or-append_right ss rs (length vs) k OK a.statuses_count after,
-                get_or-append_right a.read b.read (length vs) k [] a.count after,
-              ) (b.reads (k - length vs) (omega (arith, after, below, length-append vs ws)))
+                last-of vs value [] k here,
+                last-of ss status OK k (here ∙ sym column.statuses_count),
+                last-of column.read text [] k (here ∙ sym column.count),
+              ) reads
         ];
-        lengths = ap₂ ◌++◌ a.lengths b.lengths ∙ sym (map-append length a.read b.read);
+        lengths = ap (λ l. l ++ length text ∷ []) column.lengths ∙ sym (map-append length column.read (text ∷ []));
         places =
-            ap₂ ◌++◌ a.places b.places
-            ∙ sym (flat_map-append (λ block. block) (zip2 fill vs a.read) (zip2 fill ws b.read))
-            ∙ ap joined (sym (zip2-append fill vs ws a.read b.read (sym a.count)));
+            ap₂ ◌++◌ column.places (is ∙ sym (append-nil (fill value text)))
+            ∙ sym (flat_map-append (λ block. block) (zip2 fill vs column.read) (fill value text ∷ []))
+            ∙ ap joined (sym (zip2-append fill vs (value ∷ []) column.read (text ∷ []) (sym column.count)));
       }
 
-  module _ (vs : List (List ℕ)) (texts text_lengths : List ℕ) (statuses : List ℤ) where
-    -- the first values are all
-    pub column-whole : (k n : ℕ) → length vs ≤ k → length texts ≤ n → length text_lengths ≤ k → length statuses ≤ k
-        → IsColumnRead Reads (take k vs) (take n texts) (take k text_lengths) (take k statuses)
-        → IsColumnRead Reads vs texts text_lengths statuses
-    column-whole k n all t l s read =
-        rw (take_all k vs all, take_all n texts t, take_all k text_lengths l, take_all k statuses s) at read
+  -- the values before k, by their lengths: with one more, and if they are all
+  module _ (lengths bytes texts text_lengths : List ℕ) (statuses : List ℤ) (k start : ℕ) (whole : sum lengths ≡ length bytes)
+      (t : length texts ≡ length bytes) (l : length text_lengths ≡ length lengths) (s : length statuses ≡ length lengths)
+      (at : start ≡ sum (take k lengths))
+      (column : IsColumnRead Reads (take k (pieces lengths bytes)) (take start texts) (take k text_lengths) (take k statuses)) where
+    pub column-next : (size end count : ℕ) (status : ℤ) (place text : List ℕ) → k < length lengths → size ≡ get_or lengths k 0
+        → end ≡ start + get_or lengths k 0 → length place ≡ length (take size (drop start texts)) → count ≡ length text
+        → place ≡ filled_to (length (take size (drop start bytes))) text → Reads (take size (drop start bytes)) status text
+        → (end ≡ sum (take (k + 1) lengths))
+        × IsColumnRead Reads (take (k + 1) (pieces lengths bytes)) (take end (put_mid start size texts place))
+        (take (k + 1) (set text_lengths k count)) (take (k + 1) (set statuses k status))
+    column-next size end count status place text below is to as_long long filled reads =
+        let vs : List (List ℕ) = pieces lengths bytes in
+        let value : List ℕ = take size (drop start bytes) in
+        let within : start + get_or lengths k 0 ≤ length texts =
+        omega (arith, sum_by_more_le (λ n. n) lengths k 0 below, whole, t, at) in
+        let placed : length place ≡ size =
+        as_long ∙ length-take-le size (drop start texts) (omega (arith, length-drop start texts, within, is)) in (
+          to ∙ ap (λ n. n + get_or lengths k 0) at ∙ sym (sum_by_more (λ n. n) lengths k 0 below),
+          rw (
+            take_more vs k [] (omega (arith, length-pieces lengths bytes, below)),
+            sym (value-at lengths bytes k start size below at is),
+            take-put_mid start size texts place end (omega (arith, to, placed, is)) (omega (arith, within)),
+            take_more_set text_lengths k count (omega (arith, below, l)),
+            long,
+            take_more_set statuses k status (omega (arith, below, s)),
+          ) (column-more (take k vs) (take start texts) (take k text_lengths) (take k statuses) value place text status reads filled
+              column),
+        )
 
-    -- one more, at the place k
-    pub value-more : (k start size end count : ℕ) (status : ℤ) (value place text : List ℕ) → k < length vs
-        → k < length text_lengths → k < length statuses → start ≤ length texts → end ≡ start + length place
-        → value ≡ get_or vs k [] → count ≡ length text → place ≡ filled_to (length value) text → Reads value status text
-        → IsColumnRead Reads (take k vs) (take start texts) (take k text_lengths) (take k statuses)
-        → IsColumnRead Reads (take (k + 1) vs) (take end (put_mid start size texts place)) (take (k + 1) (set text_lengths k count))
-        (take (k + 1) (set statuses k status))
-    value-more k start size end count status value place text below l s from to same long is reads column =
+    pub column-end : length lengths ≤ k → IsColumnRead Reads (pieces lengths bytes) texts text_lengths statuses
+    column-end all =
+        let end : start ≡ length bytes = at ∙ ap sum (take_all k lengths all) ∙ whole in
         rw (
-          take_more vs k [] below,
-          sym same,
-          take-put_mid start size texts place end to from,
-          take_more_set text_lengths k count l,
-          long,
-          take_more_set statuses k status s,
-        ) (columns-joined (take k vs) (value ∷ []) (take start texts) place (take k text_lengths) (length text ∷ [])
-        (take k statuses) (status ∷ []) column (column-one value place text status reads is))
-
-    -- some more, from the place k on
-    pub values-more : (k count start size a b c : ℕ) (more more_lengths : List ℕ) (more_statuses : List ℤ)
-        → start + size ≤ length texts → k + count ≤ length text_lengths → k + count ≤ length statuses
-        → length more ≡ length (take (length texts - start) (drop start texts))
-        → length more_lengths ≡ length (take (length text_lengths - k) (drop k text_lengths))
-        → length more_statuses ≡ length (take (length statuses - k) (drop k statuses))
-        → IsColumnRead Reads (take k vs) (take start texts) (take k text_lengths) (take k statuses)
-        → IsColumnRead Reads (take count (drop k vs)) (take size more) (take count more_lengths) (take count more_statuses)
-        → IsColumnRead Reads (take (k + count) vs) (take (start + size) (put_mid start a texts more))
-        (take (k + count) (put_mid k b text_lengths more_lengths)) (take (k + count) (put_mid k c statuses more_statuses))
-    values-more k count start size a b c more more_lengths more_statuses t l s as_many as_lengths as_statuses first rest =
-        rw (
-          take-add k count vs,
-          take-rest start a size texts more t as_many,
-          take-rest k b count text_lengths more_lengths l as_lengths,
-          take-rest k c count statuses more_statuses s as_statuses,
-        ) (columns-joined (take k vs) (take count (drop k vs)) (take start texts) (take size more) (take k text_lengths)
-        (take count more_lengths) (take k statuses) (take count more_statuses) first rest)
+          take_all k (pieces lengths bytes) (omega (arith, length-pieces lengths bytes, all)),
+          take_all start texts (omega (arith, end, t)),
+          take_all k text_lengths (omega (arith, l, all)),
+          take_all k statuses (omega (arith, s, all)),
+        ) at column

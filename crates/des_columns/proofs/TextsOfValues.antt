@@ -7,7 +7,7 @@ use Rattle.std.proofs.lemmas.Option.{none-some}
 use Rattle.std.proofs.lemmas.List.{drop_at, get_or_at, length-replicate, nil_from_length, replicate_more, take_all, take_at}
 use Rattle.des.specs.Triple.{EnciphersEde3}
 use Rattle.des_columns.specs.Forms.{fault_before, part_after, pkcs7_size, size_in, status_after, text_after}
-use Rattle.des_columns.specs.Mysql.{Enciphered, last_of, padded, tail_after}
+use Rattle.des_columns.specs.Mysql.{last_of, padded, tail_after}
 use Rattle.des_columns.specs.MysqlColumns.{Reads as ReadsMysql, Writes as WritesMysql}
 use Rattle.des_columns.specs.PgcryptoColumns.{Reads as ReadsPgcrypto, Writes as WritesPgcrypto, before_padding, cipher_of, form_of, mode_by, relation_by, scheme_of}
 use Rattle.des_columns.specs.EncryptedBytes.{IsEncrypted}
@@ -20,7 +20,6 @@ use Rattle.des_columns.specs.declared.form.Form.TheVariants.{Mysql, Pkcs7, Unpad
 use Rattle.des_columns.specs.declared.pgcrypto.Cipher.{Cipher}
 use Rattle.des_columns.specs.declared.pgcrypto.Scheme.{Scheme}
 use Rattle.des_columns.specs.declared.status.TheConstants.{OK, ERR_BLOCKS, ERR_NOT_ENCRYPTED}
-use Rattle.des_columns.proofs.EncryptedBlocks.{AreEncrypted-none}
 use Rattle.des_columns.proofs.PaddedTexts.{length-starred, value_size-some}
 
 -- ---- the last byte, which counts the padding
@@ -138,45 +137,10 @@ module _ (mode : BlockMode) (Relates : List ℕ → List ℕ → Type 0) where
 
 -- ---- of MySQL
 
--- the value of a text, by MySQL's definition
-pub mysql-written : (key : List ℕ) (number : ℕ) (text value : List ℕ) → length value ≡ value_size Mysql (length text)
-    → IsWriting Mysql number (Cbc (replicate 8 0)) (EnciphersEde3 key) text value → WritesMysql key number text value
-mysql-written key number [] value size writes = nil_from_length value size
-mysql-written key number (byte ∷ text) value size writes = (
-  ap (λ (l : List ℕ). get_or l 0 0) writes.value_is,
-  subst (λ (l : List ℕ). Enciphered key (padded (byte ∷ text)) l) (sym (ap (drop 1) writes.value_is)) writes.encrypted,
-)
-
-first-rest : (value : List ℕ) → 1 ≤ length value → value ≡ get_or value 0 0 ∷ drop 1 value
-first-rest [] some = absurd (omega (arith, some))
-first-rest (byte ∷ value) some = refl
-
--- and back
-mysql-writing : (key : List ℕ) (number : ℕ) (text value : List ℕ) → length value ≡ value_size Mysql (length text)
-    → WritesMysql key number text value → IsWriting Mysql number (Cbc (replicate 8 0)) (EnciphersEde3 key) text value
-mysql-writing key number [] value size writes = record {
-  blocks = [];
-  value_is = writes;
-  encrypted = record {
-    p_blocks = [];
-    q_blocks = [];
-    of_p = refl;
-    of_q = refl;
-    encrypted = AreEncrypted-none (EnciphersEde3 key) (Cbc (replicate 8 0));
-  };
-}
-mysql-writing key number (byte ∷ text) value size writes = record {
-  blocks = drop 1 value;
-  value_is = first-rest value (omega (arith, size, value_size-some byte text)) ∙ ap (λ (n : ℕ). n ∷ drop 1 value) writes.0;
-  encrypted = writes.1;
-}
-
 -- the server decrypts what it encrypted to the text
 pub mysql-read : (key : List ℕ) (number : ℕ) (text value : List ℕ) → length value ≡ value_size Mysql (length text)
     → WritesMysql key number text value → ReadsMysql key value OK text
-mysql-read key number text value size writes =
-    writing-read (Cbc (replicate 8 0)) (EnciphersEde3 key) Mysql number text value tt size
-    (mysql-writing key number text value size writes)
+mysql-read key number text value = writing-read (Cbc (replicate 8 0)) (EnciphersEde3 key) Mysql number text value tt
 
 -- ---- of pgcrypto
 

@@ -1,7 +1,6 @@
 -- Columns that are written, and the texts that they are written of.
 use Rattle.std.proofs.Common.{◌≡◌, ℕ, ◌+◌, ◌<◌, List, [], ◌∷◌, ◌++◌, length, take, drop, get_or, sum, refl, ap, ap₂, sym, ◌∙◌, subst, arith, inl, inr, length-append, append-nil}
 use Rattle.std.specs.List.{All}
-use Rattle.std.proofs.Math.Seq.{get_or-append_seam}
 use Rattle.std.proofs.lemmas.Bool.{cases_lt}
 use Rattle.std.proofs.lemmas.List.{get_or_append_left, length-drop, length-take-le}
 use Rattle.std.proofs.lemmas.List.Concat.{flat_map-append}
@@ -9,11 +8,7 @@ use Rattle.std.proofs.lemmas.List.Sums.{sum_by_more_le}
 use Rattle.des_columns.specs.Columns.{pieces}
 use Rattle.des_columns.specs.Writings.{IsColumnWritten, IsTextSize}
 use Rattle.des_columns.specs.declared.form.Form.{Form}
-use Rattle.des_columns.proofs.Pieces.{length-pieces, pieces-at}
-
--- the last element
-last-of : {X : Type 0} (xs : List X) (x d : X) (k : ℕ) → k ≡ length xs → get_or (xs ++ x ∷ []) k d ≡ x
-last-of xs x d k is = ap (λ n. get_or (xs ++ x ∷ []) n d) is ∙ get_or-append_seam xs x [] d
+use Rattle.des_columns.proofs.Pieces.{last-of, length-pieces, pieces-at}
 
 -- two lists are related place by place, and so are an element more of each
 each-more : (P : List ℕ → List ℕ → Type 0) (xs ys : List (List ℕ)) (x y : List ℕ) → length ys ≡ length xs
@@ -52,18 +47,6 @@ module _ (size_of : ℕ → ℕ) (Writes : List ℕ → List ℕ → Type 0) whe
         ap₂ ◌++◌ column.places (sym (append-nil value))
         ∙ sym (flat_map-append (λ block. block) column.written (value ∷ []));
   }
-
--- a column is written by what follows for values of their sizes
-pub IsColumnWritten-weaker : (size_of : ℕ → ℕ) (P Q : List ℕ → List ℕ → Type 0) (texts : List (List ℕ)) (values : List ℕ)
-    → ((text value : List ℕ) → length value ≡ size_of (length text) → P text value → Q text value)
-    → IsColumnWritten size_of P texts values → IsColumnWritten size_of Q texts values
-IsColumnWritten-weaker size_of P Q texts values weaker column = record {
-  written = column.written;
-  count = column.count;
-  sizes = column.sizes;
-  writes = λ k below. weaker _ _ (column.sizes k below) (column.writes k below);
-  places = column.places;
-}
 
 -- ---- the texts of a column
 

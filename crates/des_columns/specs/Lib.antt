@@ -1,7 +1,6 @@
 pub mod EncryptedBytes
 pub mod Mysql
 pub mod KeyFile
-pub mod KeptKeys
 pub mod Forms
 pub mod Columns
 pub mod Readings

@@ -1,10 +1,7 @@
 -- The values of `DES_ENCRYPT`, as MySQL up to 5.7 and MariaDB have it (Item_func_des_encrypt, sql/item_strfunc.cc).
-use Rattle.std.specs.Prelude.{◌≡◌, ℕ, ◌+◌, ◌-◌, ◌%◌, ◌==◌, ◌&&◌, Bool, nat_le, List, [], ◌∷◌, ◌++◌, length, drop, replicate, get_or}
+use Rattle.std.specs.Prelude.{ℕ, ◌-◌, ◌%◌, ◌==◌, ◌&&◌, Bool, nat_le, List, [], ◌∷◌, ◌++◌, length, replicate, get_or}
 use Rattle.md5.specs.Md5.{md5}
-use Rattle.des.specs.Triple.{EnciphersEde3}
 use Rattle.des_passwords.specs.BytesToKey.{bytes_to_key}
-use Rattle.des_columns.specs.EncryptedBytes.{IsEncrypted}
-use Rattle.des_columns.specs.declared.form.BlockMode.TheVariants.{Cbc}
 
 -- the key of a key string, as EVP_BytesToKey makes it by MD5, with no salt and one iteration
 abbrev pub key_of : List ℕ → List ℕ
@@ -16,14 +13,6 @@ tail_after past = replicate (7 - past) 42 ++ (8 - past) ∷ []
 
 abbrev pub padded : List ℕ → List ℕ
 padded text = text ++ tail_after (length text % 8)
-
--- triple DES under a key takes padded text to the blocks of a value, chained from zeros
-abbrev pub Enciphered : List ℕ → List ℕ → List ℕ → Type 0
-Enciphered key plain blocks = IsEncrypted (Cbc (replicate 8 0)) (EnciphersEde3 key) plain blocks
-
--- the value of a text that is not empty: 128 and the number of the key, and the encrypted blocks
-abbrev pub IsValueOf : List ℕ → ℕ → List ℕ → List ℕ → Type 0
-IsValueOf key number text value = (get_or value 0 0 ≡ 128 + number) × Enciphered key (padded text) (drop 1 value)
 
 -- bytes that the server takes for encrypted: a byte with the highest bit, and one or more blocks
 abbrev pub has_form : List ℕ → Bool

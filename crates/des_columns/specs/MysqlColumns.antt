@@ -1,8 +1,9 @@
 -- What `DES_DECRYPT` and `DES_ENCRYPT` make of columns, as MySQL up to 5.7 and MariaDB have them (sql/item_strfunc.cc).
 use Rattle.std.specs.Prelude.{◌≡◌, ℕ, ℤ, if◌then◌else◌, List, [], ◌∷◌, Option, Some, None, replicate, get_or}
 use Rattle.des.specs.Triple.{EnciphersEde3}
-use Rattle.des_columns.specs.Mysql.{has_form, IsValueOf, number_of}
+use Rattle.des_columns.specs.Mysql.{has_form, number_of}
 use Rattle.des_columns.specs.Readings.{IsReading}
+use Rattle.des_columns.specs.Writings.{IsWriting}
 use Rattle.des_columns.specs.declared.form.BlockMode.TheVariants.{Cbc}
 use Rattle.des_columns.specs.declared.form.Form.TheVariants.{Mysql}
 use Rattle.des_columns.specs.declared.status.TheConstants.{OK, ERR_KEY_NUMBER, ERR_NOT_ENCRYPTED}
@@ -25,7 +26,6 @@ ReadsUnder None value status text = (status ≡ status_without value) × (text �
 abbrev pub ReadsByNumber : List (Option (List ℕ)) → List ℕ → ℤ → List ℕ → Type 0
 ReadsByNumber keys value status text = ReadsUnder (get_or keys (number_of value) None) value status text
 
--- the value of a text under the key of a number: an empty text has the empty value
+-- the value of a text under the key of a number
 abbrev pub Writes : List ℕ → ℕ → List ℕ → List ℕ → Type 0
-Writes key number [] value = value ≡ []
-Writes key number (byte ∷ text) value = IsValueOf key number (byte ∷ text) value
+Writes key number text value = IsWriting Mysql number (Cbc (replicate 8 0)) (EnciphersEde3 key) text value

@@ -1,7 +1,7 @@
 //! Columns: values, one after another, read together. The blocks of many of them are decrypted as one
 //! list, in a buffer of 1,024 blocks on the stack; a value that is longer goes by itself.
 
-ghost use Rattle.std.specs.Prelude.{◌≡◌, ◌≤◌, ◌*◌, ◌/◌, ◌%◌, ◌++◌, ◌↔◌, ℕ, IsTrue, List, length, take, drop, map, sum};
+ghost use Rattle.std.specs.Prelude.{◌≡◌, ◌≤◌, ◌<◌, ◌*◌, ◌/◌, ◌%◌, ◌++◌, ◌↔◌, ℕ, IsTrue, List, length, take, drop, map, sum};
 ghost use Rattle.std.specs.List.{All, flat_map};
 ghost use Rattle.des_columns.specs.Forms.{blocks_of, filled_to};
 ghost use Rattle.des_columns.specs.Columns.{ReadsAs, deciphered, decrypted, fault_under, pieces, status_as, text_as};
@@ -15,29 +15,41 @@ use des_fast::many::Slice;
 // The blocks that are decrypted together.
 const BLOCKS: usize = 1024;
 
-// How many values were taken from the front of some, and their bytes and encrypted blocks.
+// Where the values end that were taken, in values and in bytes, and how many encrypted blocks they
+// have.
 #[derive(Clone, Copy)]
 struct Taken {
-    count: usize,
+    end: usize,
     bytes: usize,
     blocks: usize,
 }
 
-// Copies the blocks of values into the buffer, from the first value on, as long as they fit.
-fn gather(form: Form, values: &[u8], lengths: &[usize], buffer: &mut [[u8; 8]]) -> Taken
-    requires { sum lengths.now ≡ length values.now }
-    ensures count { result.count ≤ length lengths.now }
-    ensures bytes { result.bytes ≡ sum (take result.count lengths.now) }
+// Copies the blocks of values into the buffer, from value `from` on, which begins at byte `start`, as
+// long as they fit.
+fn gather(
+    form: Form,
+    values: &[u8],
+    lengths: &[usize],
+    from: usize,
+    start: usize,
+    buffer: &mut [[u8; 8]],
+) -> Taken
+    requires whole { sum lengths.now ≡ length values.now }
+    requires from { from ≤ length lengths.now }
+    requires start { start ≡ sum (take from lengths.now) }
+    ensures from { from ≤ result.end }
+    ensures end { result.end ≤ length lengths.now }
+    ensures start { start ≤ result.bytes }
+    ensures bytes { result.bytes ≡ sum (take result.end lengths.now) }
     ensures blocks { result.blocks ≤ length buffer.old }
-    ensures buffer { length buffer.new ≡ length buffer.old }
     ensures gathered { take result.blocks buffer.new
-        ≡ flat_map (blocks_of form) (take result.count (pieces lengths.now values.now)) }
+        ≡ flat_map (blocks_of form) (drop from (take result.end (pieces lengths.now values.now))) }
 {
-    let mut count = 0;
-    let mut bytes = 0;
+    let mut end = from;
+    let mut bytes = start;
     let mut blocks = 0;
-    'values: while count < lengths.len() {
-        let value = &values[bytes..bytes + lengths[count]];
+    'values: while end < lengths.len() {
+        let value = &values[bytes..bytes + lengths[end]];
         let (more, _) = form.part_of(value).as_chunks::<8>();
         if more.len() > buffer.len() - blocks {
             break;
@@ -45,18 +57,14 @@ fn gather(form: Form, values: &[u8], lengths: &[usize], buffer: &mut [[u8; 8]]) 
         buffer[blocks..blocks + more.len()].copy_from_slice(more);
         bytes += value.len();
         blocks += more.len();
-        count += 1;
+        end += 1;
     }
-    Taken {
-        count,
-        bytes,
-        blocks,
-    }
+    Taken { end, bytes, blocks }
 }
 
 /// How the values of a column are read: under which keys, from which form, and by which mode.
 #[derive(Drop)]
-pub struct Reader<K> {
+pub(crate) struct Reader<K> {
     pub keys: K,
     pub form: Form,
     pub mode: BlockMode,
@@ -76,39 +84,50 @@ impl<K: ValueKeys> Reader<K> {
         }
     }
 
-    // Writes what is read of values whose blocks are decrypted.
+    // Writes what is read of values whose blocks are decrypted, from value `from` on, which begins at
+    // byte `start`.
     fn write_texts(
         &self,
         values: &[u8],
         lengths: &[usize],
+        from: usize,
+        start: usize,
+        end: usize,
         answers: &mut [[u8; 8]],
         texts: &mut [u8],
         text_lengths: &mut [usize],
         statuses: &mut [i32],
     )
         requires whole { sum lengths.now ≡ length values.now }
+        requires from { from ≤ end }
+        requires start { start ≡ sum (take from lengths.now) }
+        requires end { end ≤ length lengths.now }
         requires answers { answers.old ≡ flat_map (decrypted self.now.form
-            (K.decryption self.now.keys)) (pieces lengths.now values.now) }
+            (K.decryption self.now.keys)) (drop from (take end (pieces lengths.now values.now))) }
         requires texts { length texts.old ≡ length values.now }
         requires text_lengths { length text_lengths.old ≡ length lengths.now }
         requires statuses { length statuses.old ≡ length lengths.now }
+        requires read { IsColumnRead (ReadsAs self.now.form self.now.mode (K.has_key self.now.keys)
+            (K.decryption self.now.keys)) (take from (pieces lengths.now values.now))
+            (take start texts.old) (take from text_lengths.old) (take from statuses.old) }
         ensures { IsColumnRead (ReadsAs self.now.form self.now.mode (K.has_key self.now.keys)
-            (K.decryption self.now.keys)) (pieces lengths.now values.now)
-            texts.new text_lengths.new statuses.new }
+            (K.decryption self.now.keys)) (take end (pieces lengths.now values.now))
+            (take (sum (take end lengths.now)) texts.new) (take end text_lengths.new)
+            (take end statuses.new) }
     {
-        let mut start = 0;
+        let mut start = start;
         let mut first = 0;
-        'values: for k in 0..lengths.len() {
-            let end = start + lengths[k];
-            let value = &values[start..end];
+        'values: for k in from..end {
+            let next = start + lengths[k];
+            let value = &values[start..next];
             let fault = self.fault_of(value);
             let count = self.form.part_of(value).len() / 8;
             let answers = &mut answers[first..first + count];
-            let place = &mut texts[start..end];
+            let place = &mut texts[start..next];
             let reading = write_text(self.form, self.mode, fault, value, answers, place);
             text_lengths[k] = reading.length;
             statuses[k] = reading.status;
-            start = end;
+            start = next;
             first += count;
         }
     }
@@ -118,8 +137,7 @@ impl<K: ValueKeys> Reader<K> {
     pub(crate) fn decipher<S: Slice>(&self, value: &[u8], bytes: &mut [u8], buffer: &mut [[u8; 8]])
         requires whole { length bytes.old % 8 ≡ 0 }
         requires buffer { 1 ≤ length buffer.old }
-        ensures buffer { length buffer.new ≡ length buffer.old }
-        ensures deciphered { bytes.new ≡ deciphered self.now.mode
+        ensures { bytes.new ≡ deciphered self.now.mode
             (K.decryption self.now.keys value.now) bytes.old }
     {
         let mut mode = self.mode;
@@ -141,7 +159,6 @@ impl<K: ValueKeys> Reader<K> {
     fn read_long<S: Slice>(&self, value: &[u8], buffer: &mut [[u8; 8]], place: &mut [u8]) -> Reading
         requires buffer { 1 ≤ length buffer.old }
         requires place { length place.old ≡ length value.now }
-        ensures buffer { length buffer.new ≡ length buffer.old }
         ensures status { result.status ≡ status_as self.now.form self.now.mode
             (K.has_key self.now.keys) (K.decryption self.now.keys) value.now }
         ensures length { result.length ≡ length (text_as self.now.form self.now.mode
@@ -156,64 +173,10 @@ impl<K: ValueKeys> Reader<K> {
         finish(self.form, self.fault_of(value), part.len(), place)
     }
 
-    // Reads values, from the first one on: as many as fit into the buffer together, or else the first
-    // alone.
-    fn read_next<S: Slice>(
-        &self,
-        values: &[u8],
-        lengths: &[usize],
-        buffer: &mut [[u8; 8]],
-        texts: &mut [u8],
-        text_lengths: &mut [usize],
-        statuses: &mut [i32],
-    ) -> Taken
-        requires some { 1 ≤ length lengths.now }
-        requires whole { sum lengths.now ≡ length values.now }
-        requires buffer { 1 ≤ length buffer.old }
-        requires texts { length texts.old ≡ length values.now }
-        requires text_lengths { length text_lengths.old ≡ length lengths.now }
-        requires statuses { length statuses.old ≡ length lengths.now }
-        ensures some { 1 ≤ result.count }
-        ensures within { result.count ≤ length lengths.now }
-        ensures bytes { result.bytes ≡ sum (take result.count lengths.now) }
-        ensures buffer { length buffer.new ≡ length buffer.old }
-        ensures read { IsColumnRead (ReadsAs self.now.form self.now.mode (K.has_key self.now.keys)
-            (K.decryption self.now.keys)) (take result.count (pieces lengths.now values.now))
-            (take result.bytes texts.new) (take result.count text_lengths.new)
-            (take result.count statuses.new) }
-    {
-        let taken = gather(self.form, values, lengths, buffer);
-        if taken.count == 0 {
-            let bytes = lengths[0];
-            let reading = self.read_long::<S>(&values[..bytes], buffer, &mut texts[..bytes]);
-            text_lengths[0] = reading.length;
-            statuses[0] = reading.status;
-            return Taken {
-                count: 1,
-                bytes,
-                blocks: 0,
-            };
-        }
-        let values = &values[..taken.bytes];
-        let lengths = &lengths[..taken.count];
-        let answers = &mut buffer[..taken.blocks];
-        self.keys
-            .decrypt_values::<S>(self.form, values, lengths, answers);
-        self.write_texts(
-            values,
-            lengths,
-            answers,
-            &mut texts[..taken.bytes],
-            &mut text_lengths[..taken.count],
-            &mut statuses[..taken.count],
-        );
-        taken
-    }
-
     /// Reads the values of a column, one after another, of these lengths. Text k is written where
     /// value k begins, before zeros, and its length; and status k, which is `OK` or why value k has
     /// no text. Returns whether all of them are `OK`.
-    pub fn read<S: Slice>(
+    pub(crate) fn read<S: Slice>(
         &self,
         values: &[u8],
         lengths: &[usize],
@@ -234,16 +197,35 @@ impl<K: ValueKeys> Reader<K> {
         let mut from = 0;
         let mut start = 0;
         'groups: while from < lengths.len() {
-            let taken = self.read_next::<S>(
-                &values[start..],
-                &lengths[from..],
-                &mut buffer,
-                &mut texts[start..],
-                &mut text_lengths[from..],
-                &mut statuses[from..],
-            );
-            from += taken.count;
-            start += taken.bytes;
+            let buffer = &mut buffer[..K::MOST_BLOCKS];
+            let taken = gather(self.form, values, lengths, from, start, buffer);
+            if taken.end == from {
+                let end = start + lengths[from];
+                let place = &mut texts[start..end];
+                let reading = self.read_long::<S>(&values[start..end], buffer, place);
+                text_lengths[from] = reading.length;
+                statuses[from] = reading.status;
+                from += 1;
+                start = end;
+            } else {
+                let some = &values[start..taken.bytes];
+                let answers = &mut buffer[..taken.blocks];
+                self.keys
+                    .decrypt_values::<S>(self.form, some, &lengths[from..taken.end], answers);
+                self.write_texts(
+                    values,
+                    lengths,
+                    from,
+                    start,
+                    taken.end,
+                    answers,
+                    texts,
+                    text_lengths,
+                    statuses,
+                );
+                from = taken.end;
+                start = taken.bytes;
+            }
         }
         are_ok(statuses)
     }

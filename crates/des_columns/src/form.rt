@@ -63,7 +63,6 @@ impl BlockMode {
         requires { length answers.old ≡ length blocks.now }
         ensures xored { answers.new ≡ xored self blocks.now answers.old }
         ensures mode { result ≡ mode_after self blocks.now }
-        ensures count { length answers.new ≡ length answers.old }
     {
         match self {
             BlockMode::Ecb => self,

@@ -58,7 +58,6 @@ fn decrypt<C: ManyBlocks + Drop>(
     buffer: &mut [[u8; 8]],
 ) -> Reading
     requires buffer { 1 ≤ length buffer.old }
-    ensures buffer { length buffer.new ≡ length buffer.old }
     ensures within { result.length ≤ length encrypted.new }
     ensures read { IsReading Pkcs7 (Cbc vector.now) (C.relation (C.Key.bytes_of key.now))
         encrypted.old result.status (take result.length encrypted.new) }
@@ -83,7 +82,6 @@ fn decrypt<C: ManyBlocks + Drop>(
 fn decrypt_by(by: Algorithm, both: &[u8], encrypted: &mut [u8], buffer: &mut [[u8; 8]]) -> Reading
     requires both { length both.now ≡ key_size by + 8 }
     requires buffer { 1 ≤ length buffer.old }
-    ensures buffer { length buffer.new ≡ length buffer.old }
     ensures within { result.length ≤ length encrypted.new }
     ensures read { ReadsBy by both.now encrypted.old result.status (take result.length encrypted.new) }
 {
@@ -114,7 +112,6 @@ fn open(
     requires iterations { iterations ≢ 0 }
     requires salt { 8 ≤ length bytes.old }
     requires buffer { 1 ≤ length buffer.old }
-    ensures buffer { length buffer.new ≡ length buffer.old }
     ensures within { result.length ≤ length bytes.new }
     ensures read { ReadsBy by (derived_by by password.now (take 8 bytes.old) iterations)
         (drop 8 bytes.old) result.status (take result.length bytes.new) }
@@ -140,7 +137,6 @@ fn read_value(
     requires iterations { iterations ≢ 0 }
     requires place { length place.old ≡ length value.now }
     requires buffer { 1 ≤ length buffer.old }
-    ensures buffer { length buffer.new ≡ length buffer.old }
     ensures within { result.length ≤ length place.new }
     ensures read { Reads by iterations password.now value.now result.status
         (take result.length place.new) }

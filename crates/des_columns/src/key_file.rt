@@ -1,19 +1,20 @@
 //! The server's file of keys of MySQL and MariaDB (`des-key-file`), and columns of values whose first
 //! bytes name them.
 
-ghost use Rattle.std.specs.Prelude.{◌≡◌, ◌==◌, ◌<◌, ℕ, List, Some, None, not, drop, get_or, replicate};
+ghost use Rattle.std.specs.Prelude.{◌≡◌, ◌==◌, ◌<◌, ℕ, List, Some, None, not, length, drop, map, get_or, replicate};
 ghost use Rattle.std.specs.List.{before_first, position_or_len};
 ghost use Rattle.std.specs.Option.{option_map, option_or, unwrap_or};
+ghost use Rattle.std.specs.Simd.Lanes.{zip2};
 ghost use Rattle.des.specs.Blocks.{IsKey};
 ghost use Rattle.des.specs.TripleCiphers.{ede3_decryption};
 ghost use Rattle.des_columns.specs.KeyFile.{has_key, is_line, is_shown, is_space, keys_in, string_at, string_of, until_shown};
 ghost use Rattle.des_columns.specs.Mysql.{key_of, number_of};
 
 use crate::form::Form;
-use crate::kept_keys::{KEPT, Progress, decrypt_kept, decrypt_under, take_blocks};
 use crate::value_keys::ValueKeys;
-use des::cipher::KeyBytes;
-use des_fast::many::Slice;
+use des::cipher::{KeyBytes, KeyInit};
+use des_fast::TdesEde3;
+use des_fast::many::{KeyForEach, ManyBlocks, Slice};
 use des_passwords::Derivation;
 
 // The most bytes that the server reads of a line.
@@ -154,8 +155,39 @@ impl KeyFile {
     }
 }
 
+// Makes each of some keys this one.
+fn fill_with(key: &[u8; 24], keys: &mut [[u8; 24]])
+    ensures { keys.new ≡ replicate (length keys.old) key.now }
+{
+    keys.fill(*key);
+}
+
+// Decrypts each block under the key at its place.
+fn decrypt_each<S: Slice>(keys: &[[u8; 24]], blocks: &mut [[u8; 8]])
+    requires { length keys.now ≡ length blocks.old }
+    ensures { blocks.new ≡ zip2 ede3_decryption keys.now blocks.old }
+{
+    TdesEde3::decrypt_each_by::<S>(keys, blocks).unwrap();
+}
+
+// Decrypts blocks under one key.
+fn decrypt_by<C: ManyBlocks + Drop, S: Slice>(key: &C::Key, blocks: &mut [[u8; 8]])
+    ensures { blocks.new ≡ map (C.decryption (C.Key.bytes_of key.now)) blocks.old }
+{
+    key.as_bytes();
+    C::new(key).decrypt_list_by::<S>(true, blocks);
+}
+
 // A value without a key is decrypted under zeros, and then it has no text.
 impl ValueKeys for KeyFile {
+    ghost use Rattle.std.proofs.Common.{lit≤};
+
+    const MOST_BLOCKS: usize = 256;
+
+    ghost MOST_BLOCKS = { 256 };
+
+    ghost fit_buffer = { (lit≤ tt, lit≤ tt) };
+
     ghost has_key = { λ file value. has_key file.keys value };
 
     ghost decryption = { λ file value. ede3_decryption
@@ -172,20 +204,21 @@ impl ValueKeys for KeyFile {
         lengths: &[usize],
         blocks: &mut [[u8; 8]],
     ) {
-        let mut keys = [[0; 24]; KEPT];
-        let mut progress = Progress { done: 0, kept: 0 };
+        let mut keys = [[0; 24]; 256];
+        let mut filled = 0;
         let mut rest = values;
         'values: for k in 0..lengths.len() {
             let (value, others) = rest.split_at(lengths[k].min(rest.len()));
             let count = form.part_of(value).len() / 8;
             let key = self.key_for(value).unwrap_or([0; 24]);
-            progress = take_blocks::<S>(&key, count, progress, &mut keys, blocks);
+            fill_with(&key, &mut keys[filled..filled + count]);
+            filled += count;
             rest = others;
         }
-        decrypt_kept::<S>(progress, &keys, blocks);
+        decrypt_each::<S>(&keys[..filled], blocks);
     }
 
     fn decrypt_part<S: Slice>(&self, value: &[u8], blocks: &mut [[u8; 8]]) {
-        decrypt_under::<S>(&self.key_for(value).unwrap_or([0; 24]), blocks);
+        decrypt_by::<TdesEde3, S>(&self.key_for(value).unwrap_or([0; 24]), blocks);
     }
 }

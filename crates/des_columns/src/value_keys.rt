@@ -1,6 +1,6 @@
 //! The keys of the values of a column.
 
-ghost use Rattle.std.specs.Prelude.{◌≡◌, ℕ, Bool, true, List, map};
+ghost use Rattle.std.specs.Prelude.{◌≡◌, ◌≤◌, ℕ, Bool, true, List, length, map};
 ghost use Rattle.std.specs.List.{flat_map};
 ghost use Rattle.des_columns.specs.Forms.{blocks_of};
 ghost use Rattle.des_columns.specs.Columns.{decrypted, pieces};
@@ -10,7 +10,15 @@ use des_fast::many::{ManyBlocks, Slice};
 
 /// What decrypts the blocks of values. No call reads a table at an index that depends on a key or
 /// a block.
-pub trait ValueKeys {
+pub(crate) trait ValueKeys {
+    /// How many blocks of several values go together at most.
+    const MOST_BLOCKS: usize;
+
+    ghost MOST_BLOCKS: { ℕ };
+
+    // There are some, and the buffer of a column takes them.
+    ghost fit_buffer: { (1 ≤ MOST_BLOCKS) × (MOST_BLOCKS ≤ 1024) };
+
     // Whether there is a key for a value.
     ghost has_key: { Self → List ℕ → Bool };
 
@@ -29,7 +37,8 @@ pub trait ValueKeys {
         lengths: &[usize],
         blocks: &mut [[u8; 8]],
     )
-        requires { blocks.old ≡ flat_map (blocks_of form) (pieces lengths.now values.now) }
+        requires few { length blocks.old ≤ MOST_BLOCKS }
+        requires blocks { blocks.old ≡ flat_map (blocks_of form) (pieces lengths.now values.now) }
         ensures { blocks.new
             ≡ flat_map (decrypted form (decryption self.now)) (pieces lengths.now values.now) };
 
@@ -40,11 +49,19 @@ pub trait ValueKeys {
 
 /// One key for all values: the cipher made from it.
 #[derive(Drop)]
-pub struct OneKey<C> {
+pub(crate) struct OneKey<C> {
     pub cipher: C,
 }
 
 impl<C: ManyBlocks + Drop> ValueKeys for OneKey<C> {
+    ghost use Rattle.std.proofs.Common.{lit≤};
+
+    const MOST_BLOCKS: usize = 1024;
+
+    ghost MOST_BLOCKS = { 1024 };
+
+    ghost fit_buffer = { (lit≤ tt, lit≤ tt) };
+
     ghost has_key = { λ keys value. true };
 
     ghost decryption = { λ keys value. C.decrypted keys.cipher };

@@ -33,8 +33,7 @@ impl Form {
     fn write_padded(self, text: &[u8], bytes: &mut [u8])
         requires size { IsTextSize self (length text.now) }
         requires count { length bytes.old ≡ value_size self (length text.now) / 8 * 8 }
-        ensures padded { bytes.new ≡ padded_by self text.now }
-        ensures count { length bytes.new ≡ length bytes.old }
+        ensures { bytes.new ≡ padded_by self text.now }
     {
         let count = 8 - (text.len() % 8) as u8;
         let filler = match self {
@@ -65,7 +64,6 @@ impl<C: ManyBlocks + Drop> Writer<C> {
         ensures encrypted { (key : List ℕ) → C.is_made_from self.now.cipher key
             → AreEncrypted mode (C.relation key) blocks.old blocks.new }
         ensures mode { result ≡ mode_after mode blocks.new }
-        ensures count { length blocks.new ≡ length blocks.old }
     {
         match mode {
             BlockMode::Ecb => {
@@ -83,8 +81,7 @@ impl<C: ManyBlocks + Drop> Writer<C> {
     fn encipher<S: Slice>(&self, bytes: &mut [u8], buffer: &mut [[u8; 8]])
         requires whole { length bytes.old % 8 ≡ 0 }
         requires buffer { 1 ≤ length buffer.old }
-        ensures buffer { length buffer.new ≡ length buffer.old }
-        ensures encrypted { (key : List ℕ) → C.is_made_from self.now.cipher key
+        ensures { (key : List ℕ) → C.is_made_from self.now.cipher key
             → IsEncrypted self.now.mode (C.relation key) bytes.old bytes.new }
     {
         let mut mode = self.mode;
@@ -107,37 +104,13 @@ impl<C: ManyBlocks + Drop> Writer<C> {
         requires size { IsTextSize self.now.form (length text.now) }
         requires value { length value.old ≡ value_size self.now.form (length text.now) }
         requires buffer { 1 ≤ length buffer.old }
-        ensures buffer { length buffer.new ≡ length buffer.old }
-        ensures written { (key : List ℕ) → C.is_made_from self.now.cipher key
+        ensures { (key : List ℕ) → C.is_made_from self.now.cipher key
             → IsWriting self.now.form self.now.number self.now.mode (C.relation key) text.now value.new }
     {
         let (head, bytes) = value.split_at_mut(value.len() % 8);
         head.fill(128 + self.number);
         self.form.write_padded(text, bytes);
         self.encipher::<S>(bytes, buffer);
-    }
-
-    // Writes the values of texts of these lengths, one after another.
-    fn write<S: Slice>(&self, texts: &[u8], lengths: &[usize], values: &mut [u8])
-        requires number { self.now.number < 128 }
-        requires whole { sum lengths.now ≡ length texts.now }
-        requires sizes { All (IsTextSize self.now.form) lengths.now }
-        requires values { length values.old ≡ sum_by (value_size self.now.form) lengths.now }
-        ensures { (key : List ℕ) → C.is_made_from self.now.cipher key
-            → IsColumnWritten (value_size self.now.form)
-            (IsWriting self.now.form self.now.number self.now.mode (C.relation key))
-            (pieces lengths.now texts.now) values.new }
-    {
-        let mut buffer = [[0; 8]; BLOCKS];
-        let mut from = 0;
-        let mut start = 0;
-        'texts: for k in 0..lengths.len() {
-            let text = &texts[from..from + lengths[k]];
-            let size = self.form.value_size(text.len());
-            self.write_value::<S>(text, &mut values[start..start + size], &mut buffer);
-            from += text.len();
-            start += size;
-        }
     }
 }
 
@@ -166,7 +139,16 @@ pub fn write_values<C: ManyBlocks + Drop, S: Slice>(
         number,
         mode,
     };
-    writer.write::<S>(texts, lengths, values);
+    let mut buffer = [[0; 8]; BLOCKS];
+    let mut from = 0;
+    let mut start = 0;
+    'texts: for k in 0..lengths.len() {
+        let text = &texts[from..from + lengths[k]];
+        let size = form.value_size(text.len());
+        writer.write_value::<S>(text, &mut values[start..start + size], &mut buffer);
+        from += text.len();
+        start += size;
+    }
 }
 
 /// Whether the arguments of a call that writes a column fit: the lengths add up to the bytes of the

@@ -1,6 +1,6 @@
 -- A group more.
-use Rattle.std.proofs.Common.{◌≡◌, ℕ, ◌+◌, ◌*◌, ◌/◌, ◌<◌, ◌≤◌, ◌++◌, List, length, take, drop, refl, ap, ap₂, sym, ◌∙◌, arith, take-append-drop}
-use Rattle.std.proofs.lemmas.List.{drop-drop, length-append, length-drop, length-take-le, take_all}
+use Rattle.std.proofs.Common.{◌≡◌, ℕ, ◌+◌, ◌*◌, ◌/◌, ◌<◌, ◌≤◌, ◌++◌, List, length, take, drop, refl, ap, ap₂, sym, ◌∙◌, arith}
+use Rattle.std.proofs.lemmas.List.{drop-drop, length-take-le, take_all}
 use Rattle.std.proofs.lemmas.Slice.{drop-put_mid, take-put_mid}
 use Rattle.base64.specs.Engines.{standard}
 use Rattle.base64.specs.GeneralPurpose.{encode_of}
@@ -8,32 +8,11 @@ use Rattle.base64.proofs.EngineFacts.{encode_of-nil}
 use Rattle.des_columns.proofs.Base64Groups.{group-more, group-whole, length-encoded, no-failure}
 use Rattle.des_columns.proofs.base64_in_place.decode.Goals.{else-count-lt3-via-then-count-lt3+else-group-groups, else-count-lt3-via-else-count-lt3}
 use Rattle.des_columns.proofs.base64_in_place.decode.Goals as goal
-use borrow.Rule.Slice.PartMut.{put_mid}
 
 -- a group is as it was
 group-at : (g size : ℕ) (characters initial : List ℕ) → size ≡ 4 → drop (4 * g) characters ≡ drop (4 * g) initial
     → take size (drop (4 * g) characters) ≡ take 4 (drop (4 * g) initial)
 group-at g size characters initial is rest = ap₂ take is rest
-
--- what was written into has as many elements
-length-written : (from size : ℕ) (xs ys : List ℕ) → from + size ≤ length xs → length ys ≡ size
-    → length (put_mid from size xs ys) ≡ length xs
-length-written from size xs ys within long =
-    let end : ℕ = from + size in
-    let written : List ℕ = put_mid from size xs ys in
-    ap length (sym (take-append-drop end written))
-    ∙ length-append (take end written) (drop end written)
-    ∙ ap₂ (λ (front back : List ℕ). length front + length back)
-    (take-put_mid from size xs ys end (omega (arith, long)) (omega (arith, within)))
-    (drop-put_mid from size xs ys end (omega arith) (omega (arith, within)) long)
-    ∙ omega (
-      arith,
-      long,
-      within,
-      length-append (take from xs) ys,
-      length-take-le from xs (omega (arith, within)),
-      length-drop end xs,
-    )
 
 pub returns-then-characters-ne0-clause-none : goal.returns-then-characters-ne0-clause-none
 returns-then-characters-ne0-clause-none c = λ _ bytes encodes.
@@ -96,7 +75,7 @@ groups-preserved c =
     ap length c.copy_from_slice-in-groups.ensures.after
     ∙ length-take-le count output (omega (arith, few, c.decode_slice_unchecked.auto.output)) in
     record {
-      long = length-written size _ characters new (omega (arith, inside_all)) (omega (arith, long)) ∙ c.groups.invariant.long;
+      long = omega (arith, c.groups.invariant.long, inside_all, long);
       size = omega (arith, c.groups.invariant.size, few);
       full = λ more. omega (arith, full, three more);
       encoded =

@@ -52,5 +52,5 @@ returns-clause-read g c =
     c.fault_before-fault.ensures
     (take_at c.decipher.new.bytes _ count
     (c.decipher.auto.bytes ∙ length-take-le count value c.part_of-count.ensures.within)
-    ∙ c.decipher.ensures.deciphered ∙ ap (deciphered mode f) (part-front (fault_before Pkcs7 value) value count long))
+    ∙ c.decipher.ensures ∙ ap (deciphered mode f) (part-front (fault_before Pkcs7 value) value count long))
     c.finish.ensures.status c.finish.ensures.length c.finish.ensures.text

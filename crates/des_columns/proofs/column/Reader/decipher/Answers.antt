@@ -42,15 +42,6 @@ parts-preserved g c =
     let new_long : length new ≡ size = c.copy_from_slice-in-parts.auto.self ∙ long in
     let inside : m * 8 ≤ length c.parts.bytes = omega (arith, within, c.parts.auto.bytes) in record {
       within = within;
-      buffer =
-          omega (
-            arith,
-            c.parts.invariant.buffer,
-            c.xor_previous-mode.auto.answers,
-            c.decrypt_part.auto.blocks,
-            c.copy_from_slice.auto.self,
-            c.min-count.ensures,
-          );
       mode =
           c.xor_previous-mode.ensures.mode
           ∙ ap₂ mode_after c.parts.invariant.mode blocks
@@ -74,8 +65,8 @@ parts-preserved g c =
           ∙ ap (λ n. drop n bytes) whole;
     }
 
-pub returns-clause-deciphered : goal.returns-clause-deciphered
-returns-clause-deciphered g c =
+pub returns : goal.returns
+returns g c =
     let bytes : List ℕ = c.args.bytes.now in
     let all : List (List ℕ) = first_chunks 8 (length bytes / 8) bytes in
     let f = g.K.ValueKeys.decryption c.args.self.now.keys c.args.value.now in

@@ -10,7 +10,6 @@ invariant-parts g l =
     let blocks = first_chunks 8 (length l.initial.bytes / 8) l.initial.bytes in
     record {
       within : l.from ≤ length l.initial.bytes / 8;
-      buffer : length l.buffer ≡ length l.initial.buffer;
       mode : l.mode ≡ mode_after l.self.mode (take l.from blocks);
       plain : take (l.from * 8) l.bytes
           ≡ joined (xored l.self.mode (take l.from blocks)

@@ -1,89 +1,66 @@
--- Some values more.
-use Rattle.std.proofs.Common.{◌≡◌, ℕ, ◌+◌, ◌-◌, ◌≤◌, List, length, take, drop, sum, refl, ap, ap₂, sym, ◌∙◌, arith, rules, take-add}
-use Rattle.std.proofs.lemmas.List.{length-drop, take_all, take_rest}
-use Rattle.std.proofs.lemmas.List.Sums.{sum_by-append, sum_by-take-le}
-use Rattle.des_columns.specs.Columns.{ReadsAs, pieces}
-use Rattle.des_columns.proofs.Pieces.{length-pieces, pieces-rest, sum-rest}
-use Rattle.des_columns.proofs.ReadColumns.{column-none, column-whole, values-more}
+-- A value that is longer than the buffer, or some that fit together.
+use Rattle.std.proofs.Common.{rules, w32, SFits, Bool, ℕ, ◌+◌, ◌-◌, List, take, drop, get_or, refl, ap, sym, ◌∙◌, arith}
+use Rattle.std.specs.List.{flat_map}
+use Rattle.std.proofs.lemmas.Int.{to_z-of_z}
+use Rattle.des_columns.specs.Forms.{blocks_of}
+use Rattle.des_columns.specs.Columns.{ReadsAs, decrypted, text_as}
+use Rattle.des_columns.specs.declared.form.Form.{Form}
+use Rattle.des_columns.proofs.Pieces.{pieces-between}
+use Rattle.des_columns.proofs.ReadColumns.{column-end, column-next, column-none}
 use Rattle.des_columns.proofs.column.Reader.read.Goals as goal
-
--- where the values end that were read
-ends : (lengths : List ℕ) (m count start bytes : ℕ) → start ≡ sum (take m lengths)
-    → bytes ≡ sum (take count (take (length lengths - m) (drop m lengths)))
-    → start + bytes ≡ sum (take (m + count) lengths)
-ends lengths m count start bytes at is =
-    ap₂ ◌+◌ at (is ∙ ap (λ l. sum (take count l)) (take_rest lengths m))
-    ∙ sym (sum_by-append (λ n. n) (take m lengths) (take count (drop m lengths)))
-    ∙ sym (ap sum (take-add m count lengths))
-
-pub read_next-taken-requires-clause-whole : goal.read_next-taken-requires-clause-whole
-read_next-taken-requires-clause-whole g c =
-    sum-rest c.args.lengths.now c.args.values.now c.groups.from c.groups.start c.groups.invariant.start c.requires.whole
-
-pub overflow_add-start : goal.overflow_add-start
-overflow_add-start g c =
-    omega (
-      arith,
-      ends c.args.lengths.now c.groups.from c.read_next-taken.result.count c.groups.start c.read_next-taken.result.bytes
-          c.groups.invariant.start c.read_next-taken.ensures.bytes,
-      sum_by-take-le (λ n. n) c.args.lengths.now (c.groups.from + c.read_next-taken.result.count),
-      c.requires.whole,
-    )
 
 pub groups-init : goal.groups-init
 groups-init g c = record {
   within = omega arith;
   start = refl;
-  buffer = search rules;
   read = column-none (ReadsAs c.args.self.now.form c.args.self.now.mode (g.K.ValueKeys.has_key c.args.self.now.keys)
       (g.K.ValueKeys.decryption c.args.self.now.keys));
 }
 
-pub groups-preserved : goal.groups-preserved
-groups-preserved g c =
-    let m : ℕ = c.groups.from in
-    let count : ℕ = c.read_next-taken.result.count in
+pub groups-preserved-then-taken-from : goal.groups-preserved-then-taken-from
+groups-preserved-then-taken-from g c =
+    let form : Form = c.args.self.now.form in
+    let f : List ℕ → List ℕ → List ℕ = g.K.ValueKeys.decryption c.args.self.now.keys in
+    let has : List ℕ → Bool = g.K.ValueKeys.has_key c.args.self.now.keys in
     let start : ℕ = c.groups.start in
-    let bytes : ℕ = c.read_next-taken.result.bytes in
-    let lengths : List ℕ = c.args.lengths.now in
-    let vs : List (List ℕ) = pieces lengths c.args.values.now in
-    let rest = pieces-rest lengths c.args.values.now m start c.groups.invariant.within c.groups.invariant.start in
-    let end : start + bytes ≡ sum (take (m + count) lengths) =
-    ends lengths m count start bytes c.groups.invariant.start c.read_next-taken.ensures.bytes in
-    let in_all : start + bytes ≤ length c.args.values.now =
-    omega (arith, end, sum_by-take-le (λ n. n) lengths (m + count), c.requires.whole) in
-    let in_values : m + count ≤ length lengths =
-    omega (
-      arith,
-      c.read_next-taken.ensures.within,
-      ap length (take_rest lengths m),
-      length-drop m lengths,
-      c.groups.invariant.within,
-    ) in
+    let end : ℕ = start + get_or c.args.lengths.now c.groups.from 0 in
+    let fits : SFits w32 c.read_long-reading.result.status = search rules in
+    let next =
+    column-next (ReadsAs form c.args.self.now.mode has f) c.args.lengths.now c.args.values.now c.groups.texts
+    c.groups.text_lengths c.groups.statuses c.groups.from start c.requires.whole (c.groups.auto.texts ∙ c.requires.texts)
+    (c.groups.auto.text_lengths ∙ c.requires.text_lengths) (c.groups.auto.statuses ∙ c.requires.statuses)
+    c.groups.invariant.start c.groups.invariant.read (end - start) end c.read_long-reading.result.length _
+    c.read_long-reading.new.place
+    (text_as form c.args.self.now.mode has f (take (end - start) (drop start c.args.values.now))) c.groups-test.true
+    (omega arith) (omega arith) c.read_long-reading.auto.place c.read_long-reading.ensures.length
+    c.read_long-reading.ensures.text
+    (to_z-of_z w32 c.read_long-reading.result.status fits ∙ c.read_long-reading.ensures.status, refl) in
     record {
-      within = in_values;
-      start = end;
-      buffer = omega (arith, c.read_next-taken.ensures.buffer, c.groups.invariant.buffer);
-      read =
-          values-more (ReadsAs c.args.self.now.form c.args.self.now.mode (g.K.ValueKeys.has_key c.args.self.now.keys)
-          (g.K.ValueKeys.decryption c.args.self.now.keys)) vs c.groups.texts c.groups.text_lengths c.groups.statuses m count start
-          bytes _ _ _ c.read_next-taken.new.texts c.read_next-taken.new.text_lengths c.read_next-taken.new.statuses
-          (omega (arith, in_all, c.requires.texts, c.groups.auto.texts))
-          (omega (arith, in_values, c.requires.text_lengths, c.groups.auto.text_lengths))
-          (omega (arith, in_values, c.requires.statuses, c.groups.auto.statuses)) c.read_next-taken.auto.texts
-          c.read_next-taken.auto.text_lengths c.read_next-taken.auto.statuses c.groups.invariant.read
-          (rw rest at c.read_next-taken.ensures.read);
+      within = omega (arith, c.groups-test.true);
+      start = next.0;
+      read = next.1;
     }
+
+pub decrypt_values-requires-clause-blocks : goal.decrypt_values-requires-clause-blocks
+decrypt_values-requires-clause-blocks g c =
+    c.gather-taken.ensures.gathered
+    ∙ ap (flat_map (blocks_of c.args.self.now.form))
+    (sym (pieces-between c.args.lengths.now c.args.values.now c.groups.from c.gather-taken.result.end c.groups.start
+    c.gather-taken.result.bytes c.gather-taken.ensures.from c.gather-taken.ensures.end c.groups.invariant.start
+    c.gather-taken.ensures.bytes))
+
+pub write_texts-requires-clause-answers : goal.write_texts-requires-clause-answers
+write_texts-requires-clause-answers g c =
+    c.decrypt_values.ensures
+    ∙ ap (flat_map (decrypted c.args.self.now.form (g.K.ValueKeys.decryption c.args.self.now.keys)))
+    (pieces-between c.args.lengths.now c.args.values.now c.groups.from c.gather-taken.result.end c.groups.start
+    c.gather-taken.result.bytes c.gather-taken.ensures.from c.gather-taken.ensures.end c.groups.invariant.start
+    c.gather-taken.ensures.bytes)
 
 pub returns-clause-read : goal.returns-clause-read
 returns-clause-read g c =
-    let lengths : List ℕ = c.args.lengths.now in
-    let all : take c.groups.from lengths ≡ lengths = take_all c.groups.from lengths (omega (arith, c.groups-test.false)) in
-    let end : c.groups.start ≡ length c.args.values.now = c.groups.invariant.start ∙ ap sum all ∙ c.requires.whole in
-    column-whole (ReadsAs c.args.self.now.form c.args.self.now.mode (g.K.ValueKeys.has_key c.args.self.now.keys)
-    (g.K.ValueKeys.decryption c.args.self.now.keys))
-    (pieces lengths c.args.values.now) c.groups.texts c.groups.text_lengths c.groups.statuses c.groups.from c.groups.start
-    (omega (arith, length-pieces lengths c.args.values.now, c.groups-test.false))
-    (omega (arith, end, c.requires.texts, c.groups.auto.texts))
-    (omega (arith, c.groups-test.false, c.requires.text_lengths, c.groups.auto.text_lengths))
-    (omega (arith, c.groups-test.false, c.requires.statuses, c.groups.auto.statuses)) c.groups.invariant.read
+    column-end (ReadsAs c.args.self.now.form c.args.self.now.mode (g.K.ValueKeys.has_key c.args.self.now.keys)
+    (g.K.ValueKeys.decryption c.args.self.now.keys)) c.args.lengths.now c.args.values.now c.groups.texts c.groups.text_lengths
+    c.groups.statuses c.groups.from c.groups.start c.requires.whole (c.groups.auto.texts ∙ c.requires.texts)
+    (c.groups.auto.text_lengths ∙ c.requires.text_lengths) (c.groups.auto.statuses ∙ c.requires.statuses)
+    c.groups.invariant.start c.groups.invariant.read c.groups-test.false

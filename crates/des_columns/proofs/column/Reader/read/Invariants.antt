@@ -8,7 +8,6 @@ abbrev pub invariant-groups : goal.invariant-groups
 invariant-groups g l = record {
   within : l.from ≤ length l.lengths;
   start : l.start ≡ sum (take l.from l.lengths);
-  buffer : length l.buffer ≡ 1024;
   read : IsColumnRead (ReadsAs l.self.form l.self.mode (g.K.ValueKeys.has_key l.self.keys) (g.K.ValueKeys.decryption l.self.keys))
       (take l.from (pieces l.lengths l.values)) (take l.start l.texts) (take l.from l.text_lengths) (take l.from l.statuses);
 }

@@ -1,18 +1,18 @@
 -- A value more.
-use Rattle.std.proofs.Common.{rules, w32, SFits, ◌≡◌, ℕ, ℤ, Option, ◌+◌, ◌-◌, ◌/◌, ◌≤◌, ◌<◌, List, [], length, take, drop, get_or, sum, refl, ap, ap₂, sym, ◌∙◌, arith}
+use Rattle.std.proofs.Common.{rules, w32, SFits, ◌≡◌, ℕ, ℤ, Option, ◌+◌, ◌-◌, ◌/◌, ◌≤◌, ◌<◌, List, [], length, take, drop, get_or, sum, refl, ap, ap₂, sym, ◌∙◌, subst, arith}
 use Rattle.std.specs.List.{flat_map}
-use Rattle.std.proofs.lemmas.List.{length-append, length-map, take_all, drop-drop}
-use Rattle.std.proofs.lemmas.List.Folds.{length-flat_map-take}
+use Rattle.std.proofs.lemmas.List.{length-append, length-map, drop-drop}
 use Rattle.std.proofs.lemmas.Int.{to_z-of_z}
-use Rattle.std.proofs.lemmas.List.Sums.{sum_by_more, sum_by_more_le}
+use Rattle.std.proofs.lemmas.List.Sums.{sum_by_more_le}
 use Rattle.std.proofs.lemmas.Slice.{drop-put_mid}
 use Rattle.des_columns.specs.EncryptedBytes.{joined}
 use Rattle.des_columns.specs.Forms.{blocks_of, filled_to, part_of, size_in, status_after, text_after, xored}
-use Rattle.des_columns.specs.Columns.{ReadsAs, decrypted, fault_under, pieces, plain_of, text_as}
+use Rattle.des_columns.specs.Columns.{ReadsAs, decrypted, pieces, plain_of, text_as}
+use Rattle.des_columns.specs.Readings.{IsColumnRead}
 use Rattle.des_columns.specs.declared.form.BlockMode.{BlockMode}
 use Rattle.des_columns.specs.declared.form.Form.{Form}
-use Rattle.des_columns.proofs.Pieces.{value-at, length-blocks, length-pieces, flat_map-at, flat_map-more}
-use Rattle.des_columns.proofs.ReadColumns.{column-whole, value-more}
+use Rattle.des_columns.proofs.Pieces.{value-at, length-blocks, length-pieces, flat_map-at, flat_map-more, none-between}
+use Rattle.des_columns.proofs.ReadColumns.{column-next}
 use Rattle.des_columns.proofs.column.Reader.write_texts.Goals as goal
 
 module _ (form : Form) (f : List ℕ → List ℕ → List ℕ) (lengths bytes part : List ℕ) (k start size : ℕ) (below : k < length lengths)
@@ -24,24 +24,22 @@ module _ (form : Form) (f : List ℕ → List ℕ → List ℕ) (lengths bytes p
       length-blocks form (take size (drop start bytes)) value part (value-at lengths bytes k start size below at is) of
       ∙ sym (length-map (blocks_of form value) (f value))
 
-  -- they are within those of all values
-  within-all : (first all : ℕ) → first ≡ length (flat_map (decrypted form f) (take k (pieces lengths bytes)))
-      → all ≡ length (flat_map (decrypted form f) (pieces lengths bytes)) → first + length part / 8 ≤ all
-  within-all first all from whole =
-      omega (
-        arith,
-        blocks-at,
-        from,
-        whole,
-        length-flat_map-take (decrypted form f) (pieces lengths bytes) k [] (omega (arith, length-pieces lengths bytes, below)),
-      )
+  -- they are within those of the values that were taken
+  within-all : (from end first all : ℕ) → from ≤ k → k < end → end ≤ length lengths
+      → first ≡ length (flat_map (decrypted form f) (drop from (take k (pieces lengths bytes))))
+      → all ≡ length (flat_map (decrypted form f) (drop from (take end (pieces lengths bytes)))) → first + length part / 8 ≤ all
+  within-all from end first all order before within here whole =
+      let bound =
+      flat_map-at (decrypted form f) (pieces lengths bytes) from k end first order before
+      (omega (arith, length-pieces lengths bytes, within)) here in
+      omega (arith, blocks-at, whole, bound.1)
 
 pub slice_bounds-value-end : goal.slice_bounds-value-end
 slice_bounds-value-end g c =
     let bound : c.values.start + get_or c.args.lengths.now c.values.k 0 ≤ length c.args.values.now =
     omega (
       arith,
-      sum_by_more_le (λ x. x) c.args.lengths.now c.values.k 0 c.values-test.true,
+      sum_by_more_le (λ x. x) c.args.lengths.now c.values.k 0 (omega (arith, c.values-test.true, c.requires.end)),
       c.requires.whole,
       c.values.invariant.start,
     ) in
@@ -51,28 +49,42 @@ pub overflow_add-answers : goal.overflow_add-answers
 overflow_add-answers g c =
     let bound =
     within-all c.args.self.now.form (g.K.ValueKeys.decryption c.args.self.now.keys) c.args.lengths.now c.args.values.now
-    c.part_of.result.now c.values.k c.values.start _ c.values-test.true c.values.invariant.start (omega arith)
-    c.part_of.ensures.part c.values.first (length c.values.answers) c.values.invariant.first
-    (c.values.invariant.count ∙ ap length c.requires.answers) in
+    c.part_of.result.now c.values.k c.values.start _ (omega (arith, c.values-test.true, c.requires.end))
+    c.values.invariant.start (omega arith) c.part_of.ensures.part c.args.from c.args.end c.values.first
+    (length c.values.answers) c.values.auto.k c.values-test.true c.requires.end c.values.invariant.first
+    (c.values.auto.answers ∙ ap length c.requires.answers) in
     omega (arith, bound, c.told-answers)
 
 pub offset_bounds-answers-first : goal.offset_bounds-answers-first
 offset_bounds-answers-first g c =
     let bound =
     within-all c.args.self.now.form (g.K.ValueKeys.decryption c.args.self.now.keys) c.args.lengths.now c.args.values.now
-    c.part_of.result.now c.values.k c.values.start _ c.values-test.true c.values.invariant.start (omega arith)
-    c.part_of.ensures.part c.values.first (length c.values.answers) c.values.invariant.first
-    (c.values.invariant.count ∙ ap length c.requires.answers) in
-    omega (arith, bound, c.told-answers, c.values.invariant.count)
+    c.part_of.result.now c.values.k c.values.start _ (omega (arith, c.values-test.true, c.requires.end))
+    c.values.invariant.start (omega arith) c.part_of.ensures.part c.args.from c.args.end c.values.first
+    (length c.values.answers) c.values.auto.k c.values-test.true c.requires.end c.values.invariant.first
+    (c.values.auto.answers ∙ ap length c.requires.answers) in
+    omega (arith, bound, c.told-answers)
 
 pub slice_bounds-answers-end : goal.slice_bounds-answers-end
 slice_bounds-answers-end g c =
     let bound =
     within-all c.args.self.now.form (g.K.ValueKeys.decryption c.args.self.now.keys) c.args.lengths.now c.args.values.now
-    c.part_of.result.now c.values.k c.values.start _ c.values-test.true c.values.invariant.start (omega arith)
-    c.part_of.ensures.part c.values.first (length c.values.answers) c.values.invariant.first
-    (c.values.invariant.count ∙ ap length c.requires.answers) in
+    c.part_of.result.now c.values.k c.values.start _ (omega (arith, c.values-test.true, c.requires.end))
+    c.values.invariant.start (omega arith) c.part_of.ensures.part c.args.from c.args.end c.values.first
+    (length c.values.answers) c.values.auto.k c.values-test.true c.requires.end c.values.invariant.first
+    (c.values.auto.answers ∙ ap length c.requires.answers) in
     search (rules, bound)
+
+pub values-init : goal.values-init
+values-init g c = record {
+  start = c.requires.start;
+  first =
+      sym (ap (λ (l : List (List ℕ)). length (flat_map (decrypted c.args.self.now.form
+      (g.K.ValueKeys.decryption c.args.self.now.keys)) l))
+      (none-between c.args.from (pieces c.args.lengths.now c.args.values.now)));
+  rest = refl;
+  read = c.requires.read;
+}
 
 pub values-preserved : goal.values-preserved
 values-preserved g c =
@@ -87,72 +99,64 @@ values-preserved g c =
     let vs : List (List ℕ) = pieces lengths bytes in
     let size : ℕ = start + get_or lengths k 0 - start in
     let is : size ≡ get_or lengths k 0 = omega arith in
-    let inside : k < length vs = omega (arith, length-pieces lengths bytes, c.values-test.true) in
+    let below : k < length lengths = omega (arith, c.values-test.true, c.requires.end) in
+    let inside : k < length vs = omega (arith, length-pieces lengths bytes, below) in
     let part : List ℕ = c.part_of.result.now in
     let count : ℕ = first + length part / 8 - first in
     let blocks : length part / 8 ≡ length (decrypted form f (get_or vs k [])) =
-    blocks-at form f lengths bytes part k start size c.values-test.true c.values.invariant.start is c.part_of.ensures.part in
-    let same : take size (drop start bytes) ≡ get_or vs k [] =
-    value-at lengths bytes k start size c.values-test.true c.values.invariant.start is in
-    let within : start + get_or lengths k 0 ≤ length c.args.texts.now =
-    omega (
-      arith,
-      sum_by_more_le (λ x. x) lengths k 0 c.values-test.true,
-      c.requires.whole,
-      c.requires.texts,
-      c.values.invariant.start,
-    ) in
+    blocks-at form f lengths bytes part k start size below c.values.invariant.start is c.part_of.ensures.part in
+    let value : List ℕ = take size (drop start bytes) in
     let bound =
-    within-all form f lengths bytes part k start size c.values-test.true c.values.invariant.start is c.part_of.ensures.part
-    first (length c.values.answers) c.values.invariant.first (c.values.invariant.count ∙ ap length c.requires.answers) in
-    let here : take count (drop first c.values.answers) ≡ decrypted form f (get_or vs k []) =
+    within-all form f lengths bytes part k start size below c.values.invariant.start is c.part_of.ensures.part c.args.from
+    c.args.end first (length c.values.answers) c.values.auto.k c.values-test.true c.requires.end c.values.invariant.first
+    (c.values.auto.answers ∙ ap length c.requires.answers) in
+    let here : take count (drop first c.values.answers) ≡ decrypted form f value =
     ap₂ take (omega (arith, blocks)) (c.values.invariant.rest ∙ ap (drop first) c.requires.answers)
-    ∙ flat_map-at (decrypted form f) vs k first inside c.values.invariant.first in
+    ∙ (flat_map-at (decrypted form f) vs c.args.from k c.args.end first c.values.auto.k c.values-test.true
+    (omega (arith, length-pieces lengths bytes, c.requires.end)) c.values.invariant.first).0
+    ∙ ap (decrypted form f) (sym (value-at lengths bytes k start size below c.values.invariant.start is)) in
     let mode : BlockMode = c.args.self.now.mode in
-    let fault : c.fault_of-fault.result ≡ fault_under (has (get_or vs k [])) form (get_or vs k []) =
-    c.fault_of-fault.ensures ∙ ap (λ (value : List ℕ). fault_under (has value) form value) same in
-    let plain : joined (xored mode (blocks_of form (take size (drop start bytes))) (take count (drop first c.values.answers)))
-    ≡ plain_of form mode f (get_or vs k []) =
-    ap₂ (λ (value : List ℕ) (l : List (List ℕ)). joined (xored mode (blocks_of form value) l)) same here in
-    let text = ap₂ (λ (e : Option ℤ) (p : List ℕ). text_after e (size_in form p) p) fault plain in
+    let plain : joined (xored mode (blocks_of form value) (take count (drop first c.values.answers))) ≡ plain_of form mode f value =
+    ap (λ (l : List (List ℕ)). joined (xored mode (blocks_of form value) l)) here in
+    let text =
+    ap₂ (λ (e : Option ℤ) (p : List ℕ). text_after e (size_in form p) p) c.fault_of-fault.ensures plain in
     let fits : SFits w32 c.write_text-reading.result.status = search rules in
+    let next =
+    column-next (ReadsAs form mode has f) lengths bytes c.values.texts c.values.text_lengths c.values.statuses k start
+    c.requires.whole (c.values.auto.texts ∙ c.requires.texts) (c.values.auto.text_lengths ∙ c.requires.text_lengths)
+    (c.values.auto.statuses ∙ c.requires.statuses) c.values.invariant.start c.values.invariant.read size
+    (start + get_or lengths k 0) c.write_text-reading.result.length _ c.write_text-reading.new.place
+    (text_as form mode has f value) below is (omega arith) c.write_text-reading.auto.place
+    (c.write_text-reading.ensures.length ∙ ap length text)
+    (c.write_text-reading.ensures.text ∙ ap (filled_to (length value)) text) (
+      to_z-of_z w32 c.write_text-reading.result.status fits
+          ∙ c.write_text-reading.ensures.status
+          ∙ ap₂ (λ (e : Option ℤ) (p : List ℕ). status_after e (size_in form p)) c.fault_of-fault.ensures plain,
+      refl,
+    ) in
     record {
-      start = ap (λ n. n + get_or lengths k 0) c.values.invariant.start ∙ sym (sum_by_more (λ x. x) lengths k 0 c.values-test.true);
+      start = next.0;
       first =
-          ap₂ ◌+◌ c.values.invariant.first blocks ∙ sym (length-append (flat_map (decrypted form f) (take k vs)) _)
-          ∙ sym (ap length (flat_map-more (decrypted form f) vs k inside));
-      count = omega (arith, c.values.invariant.count, bound, c.write_text-reading.auto.answers);
+          ap₂ ◌+◌ c.values.invariant.first blocks
+          ∙ sym (length-append (flat_map (decrypted form f) (drop c.args.from (take k vs))) _)
+          ∙ sym (ap length (flat_map-more (decrypted form f) vs c.args.from k c.values.auto.k inside));
       rest =
           drop-put_mid first count c.values.answers c.write_text-reading.new.answers (first + length part / 8) (omega arith)
           (omega (arith, bound)) (omega (arith, c.write_text-reading.auto.answers, bound))
           ∙ sym (drop-drop (length part / 8) first c.values.answers)
           ∙ ap (drop (length part / 8)) c.values.invariant.rest
           ∙ drop-drop (length part / 8) first c.args.answers.now;
-      read =
-          value-more (ReadsAs form mode has f) vs c.values.texts c.values.text_lengths c.values.statuses k start size
-          (start + get_or lengths k 0) c.write_text-reading.result.length _ (get_or vs k []) c.write_text-reading.new.place
-          (text_as form mode has f (get_or vs k [])) inside
-          (omega (arith, c.values-test.true, c.values.auto.text_lengths, c.requires.text_lengths))
-          (omega (arith, c.values-test.true, c.values.auto.statuses, c.requires.statuses))
-          (omega (arith, within, c.values.auto.texts)) (omega (arith, c.write_text-reading.auto.place, is, within)) refl
-          (c.write_text-reading.ensures.length ∙ ap length text)
-          (c.write_text-reading.ensures.text ∙ ap₂ (λ (value t : List ℕ). filled_to (length value) t) same text) (
-            to_z-of_z w32 c.write_text-reading.result.status fits
-                ∙ c.write_text-reading.ensures.status
-                ∙ ap₂ (λ (e : Option ℤ) (p : List ℕ). status_after e (size_in form p)) fault plain,
-            refl,
-          )
-          c.values.invariant.read;
+      read = next.1;
     }
 
 pub returns : goal.returns
 returns g c =
-    let lengths : List ℕ = c.args.lengths.now in
-    let all : take c.values.k lengths ≡ lengths = take_all c.values.k lengths (omega (arith, c.values-test.false)) in
-    let end : c.values.start ≡ length c.args.values.now = c.values.invariant.start ∙ ap sum all ∙ c.requires.whole in
-    column-whole (ReadsAs c.args.self.now.form c.args.self.now.mode (g.K.ValueKeys.has_key c.args.self.now.keys)
-    (g.K.ValueKeys.decryption c.args.self.now.keys)) (pieces lengths c.args.values.now) c.values.texts c.values.text_lengths
-    c.values.statuses c.values.k c.values.start (omega (arith, length-pieces lengths c.args.values.now, c.values-test.false))
-    (omega (arith, end, c.requires.texts, c.values.auto.texts))
-    (omega (arith, c.requires.text_lengths, c.values.auto.text_lengths, c.values-test.false))
-    (omega (arith, c.requires.statuses, c.values.auto.statuses, c.values-test.false)) c.values.invariant.read
+    let R =
+    ReadsAs c.args.self.now.form c.args.self.now.mode (g.K.ValueKeys.has_key c.args.self.now.keys)
+    (g.K.ValueKeys.decryption c.args.self.now.keys) in
+    let vs : List (List ℕ) = pieces c.args.lengths.now c.args.values.now in
+    let all : c.values.k ≡ c.args.end = omega (arith, c.values-test.false, c.values.auto.k-end c.requires.from) in
+    subst (λ (k : ℕ). IsColumnRead R (take k vs) (take (sum (take k c.args.lengths.now)) c.values.texts)
+    (take k c.values.text_lengths) (take k c.values.statuses)) all
+    (subst (λ (n : ℕ). IsColumnRead R (take c.values.k vs) (take n c.values.texts) (take c.values.k c.values.text_lengths)
+    (take c.values.k c.values.statuses)) c.values.invariant.start c.values.invariant.read)

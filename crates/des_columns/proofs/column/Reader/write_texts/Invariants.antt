@@ -7,12 +7,11 @@ use Rattle.des_columns.proofs.column.Reader.write_texts.Given as goal
 
 abbrev pub invariant-values : goal.invariant-values
 invariant-values g l =
-    let values = take l.k (pieces l.lengths l.values) in
+    let values = pieces l.lengths l.values in
     record {
       start : l.start ≡ sum (take l.k l.lengths);
-      first : l.first ≡ length (flat_map (decrypted l.self.form (g.K.ValueKeys.decryption l.self.keys)) values);
-      count : length l.answers ≡ length l.initial.answers;
+      first : l.first ≡ length (flat_map (decrypted l.self.form (g.K.ValueKeys.decryption l.self.keys)) (drop l.from (take l.k values)));
       rest : drop l.first l.answers ≡ drop l.first l.initial.answers;
       read : IsColumnRead (ReadsAs l.self.form l.self.mode (g.K.ValueKeys.has_key l.self.keys)
-          (g.K.ValueKeys.decryption l.self.keys)) values (take l.start l.texts) (take l.k l.text_lengths) (take l.k l.statuses);
+          (g.K.ValueKeys.decryption l.self.keys)) (take l.k values) (take l.start l.texts) (take l.k l.text_lengths) (take l.k l.statuses);
     }

@@ -1,100 +1,124 @@
--- A value more.
-use Rattle.std.proofs.Common.{◌≡◌, ℕ, ◌+◌, ◌≤◌, ◌<◌, ◌/◌, List, [], replicate, ◌++◌, length, take, drop, map, get_or, ap, ap₂, sym, ◌∙◌, arith, append-nil}
+-- The keys of a value more.
+use Rattle.std.proofs.Common.{rules, ◌≡◌, ℕ, ◌+◌, ◌-◌, ◌≤◌, ◌<◌, ◌/◌, min, List, [], ◌++◌, length, take, drop, get_or, replicate, ap, ap₂, sym, ◌∙◌, arith}
 use Rattle.std.specs.List.{flat_map}
 use Rattle.std.specs.Option.{unwrap_or}
-use Rattle.std.proofs.lemmas.List.{length-append, take_all}
+use Rattle.std.proofs.lemmas.List.{length-append, length-drop, length-take-le, take_all}
 use Rattle.std.proofs.lemmas.List.Folds.{length-flat_map-take}
+use Rattle.std.proofs.lemmas.Slice.{take-put_mid}
+use Rattle.std.specs.Simd.Lanes.{zip2}
 use Rattle.des.specs.TripleCiphers.{ede3_decryption}
-use Rattle.des_columns.specs.Forms.{blocks_of}
-use Rattle.des_columns.specs.Columns.{decrypted, pieces}
-use Rattle.des_columns.specs.KeptKeys.{decrypted_by}
+use Rattle.des_columns.specs.Forms.{blocks_of, part_of}
+use Rattle.des_columns.specs.Columns.{pieces}
 use Rattle.des_columns.specs.declared.form.Form.{Form}
-use Rattle.des_columns.proofs.KeptBlocks.{drop-further}
-use Rattle.des_columns.proofs.Pieces.{flat_map-at, flat_map-more, length-blocks, length-pieces, pieces-next}
+use Rattle.des_columns.proofs.KeysOfBlocks.{keys_of, zip2-keys}
+use Rattle.des_columns.proofs.Pieces.{flat_map-more, length-blocks, length-pieces, pieces-next}
 use Rattle.des_columns.proofs.ValuesByNumber.{key_for}
 use Rattle.des_columns.proofs.key_file.KeyFileValueKeys.decrypt_values.Goals as goal
 
-pub take_blocks-progress-requires-clause-blocks : goal.take_blocks-progress-requires-clause-blocks
-take_blocks-progress-requires-clause-blocks g c =
-    let form : Form = c.args.form in
-    let lengths : List ℕ = c.args.lengths.now in
-    let k : ℕ = c.values.k in
-    let vs : List (List ℕ) = pieces lengths c.args.values.now in
-    let inside : k < length vs = omega (arith, length-pieces lengths c.args.values.now, c.values-test.true) in
-    let next =
-    pieces-next lengths c.args.values.now c.values.rest.now k c.min.result c.values-test.true c.min.ensures
-    c.values.invariant.rest in
-    omega (
-      arith,
-      c.values.invariant.place,
-      length-blocks form c.split_at.result.0.now (get_or vs k []) c.part_of.result.now (c.split_at.ensures.front ∙ next.0)
-          c.part_of.ensures.part,
-      length-flat_map-take (blocks_of form) vs k [] inside,
-      ap length c.requires,
-      c.values.auto.blocks,
-    )
+-- the next value, its blocks, and that their keys fit
+next : (form : Form) (lengths bytes rest value part : List ℕ) (k mid filled : ℕ) → k < length lengths
+    → mid ≡ min (get_or lengths k 0) (length rest) → pieces (drop k lengths) rest ≡ drop k (pieces lengths bytes)
+    → value ≡ take mid rest → part ≡ part_of form value
+    → filled ≡ length (flat_map (blocks_of form) (take k (pieces lengths bytes)))
+    → length (flat_map (blocks_of form) (pieces lengths bytes)) ≤ 256
+    → (value ≡ get_or (pieces lengths bytes) k [])
+    × (pieces (drop (k + 1) lengths) (drop mid rest) ≡ drop (k + 1) (pieces lengths bytes))
+    × (length part / 8 ≡ length (blocks_of form (get_or (pieces lengths bytes) k []))) × (filled + length part / 8 ≤ 256)
+next form lengths bytes rest value part k mid filled below least are front of at few =
+    let vs : List (List ℕ) = pieces lengths bytes in
+    let both = pieces-next lengths bytes rest k mid below least are in
+    let same : value ≡ get_or vs k [] = front ∙ both.0 in
+    let count = length-blocks form value (get_or vs k []) part same of in
+    let bound = length-flat_map-take (blocks_of form) vs k [] (omega (arith, length-pieces lengths bytes, below)) in
+    (same, both.1, count, omega (arith, at, count, bound, few))
+
+pub overflow_add-filled : goal.overflow_add-filled
+overflow_add-filled g c =
+    let more =
+    next c.args.form c.args.lengths.now c.args.values.now c.values.rest.now _ _ c.values.k c.min.result c.values.filled
+    c.values-test.true c.min.ensures c.values.invariant.rest c.split_at.ensures.front c.part_of.ensures.part
+    c.values.invariant.filled (omega (arith, c.requires.few, ap length c.requires.blocks)) in
+    omega (arith, more.3)
+
+pub offset_bounds-keys-filled : goal.offset_bounds-keys-filled
+offset_bounds-keys-filled g c =
+    let more =
+    next c.args.form c.args.lengths.now c.args.values.now c.values.rest.now _ _ c.values.k c.min.result c.values.filled
+    c.values-test.true c.min.ensures c.values.invariant.rest c.split_at.ensures.front c.part_of.ensures.part
+    c.values.invariant.filled (omega (arith, c.requires.few, ap length c.requires.blocks)) in
+    omega (arith, more.3)
+
+pub slice_bounds-keys-end : goal.slice_bounds-keys-end
+slice_bounds-keys-end g c =
+    let more =
+    next c.args.form c.args.lengths.now c.args.values.now c.values.rest.now _ _ c.values.k c.min.result c.values.filled
+    c.values-test.true c.min.ensures c.values.invariant.rest c.split_at.ensures.front c.part_of.ensures.part
+    c.values.invariant.filled (omega (arith, c.requires.few, ap length c.requires.blocks)) in
+    let bound : c.values.filled + length c.part_of.result.now / 8 ≤ length c.values.keys =
+    omega (arith, more.3) in
+    search (rules, bound)
 
 pub values-preserved : goal.values-preserved
 values-preserved g c =
     let form : Form = c.args.form in
-    let lengths : List ℕ = c.args.lengths.now in
     let keys = c.args.self.now.keys in
     let k : ℕ = c.values.k in
+    let filled : ℕ = c.values.filled in
+    let lengths : List ℕ = c.args.lengths.now in
     let vs : List (List ℕ) = pieces lengths c.args.values.now in
     let inside : k < length vs = omega (arith, length-pieces lengths c.args.values.now, c.values-test.true) in
-    let next =
-    pieces-next lengths c.args.values.now c.values.rest.now k c.min.result c.values-test.true c.min.ensures
-    c.values.invariant.rest in
-    let same : c.split_at.result.0.now ≡ get_or vs k [] = c.split_at.ensures.front ∙ next.0 in
-    let count : length c.part_of.result.now / 8 ≡ length (blocks_of form (get_or vs k [])) =
-    length-blocks form c.split_at.result.0.now (get_or vs k []) c.part_of.result.now same c.part_of.ensures.part in
-    let at : ℕ = c.values.progress.done + c.values.progress.kept in
-    let here : take (length c.part_of.result.now / 8) (drop at c.values.blocks) ≡ blocks_of form (get_or vs k []) =
-    ap₂ take count (c.values.invariant.behind ∙ ap (drop at) c.requires)
-    ∙ flat_map-at (blocks_of form) vs k at inside c.values.invariant.place in
+    let count : ℕ = length c.part_of.result.now / 8 in
+    let more =
+    next form lengths c.args.values.now c.values.rest.now _ _ k c.min.result filled c.values-test.true c.min.ensures
+    c.values.invariant.rest c.split_at.ensures.front c.part_of.ensures.part c.values.invariant.filled
+    (omega (arith, c.requires.few, ap length c.requires.blocks)) in
+    let size : ℕ = filled + count - filled in
+    let long : length (take size (drop filled c.values.keys)) ≡ count =
+    length-take-le size (drop filled c.values.keys)
+    (omega (arith, length-drop filled c.values.keys, more.3)) ∙ omega arith in
+    let new : List (List ℕ) = c.fill_with.new.keys in
+    let new_long : length new ≡ count = c.fill_with.auto.keys ∙ long in
+    let made : new ≡ replicate (length (blocks_of form (get_or vs k []))) (key_for keys (get_or vs k [])) =
+    c.fill_with.ensures
+    ∙ ap₂ (λ (n : ℕ) (key : List ℕ). replicate n key) (long ∙ more.2)
+    (c.unwrap_or-key.ensures ∙ ap (λ key. unwrap_or key (replicate 24 0)) c.key_for.ensures ∙ ap (key_for keys) more.0) in
     record {
-      rest = ap (pieces (drop (k + 1) lengths)) c.split_at.ensures.back ∙ next.1;
-      keys = c.take_blocks-progress.ensures.keys;
-      place =
-          c.take_blocks-progress.ensures.place
-          ∙ ap₂ ◌+◌ c.values.invariant.place count
+      rest = ap (pieces (drop (k + 1) lengths)) c.split_at.ensures.back ∙ more.1;
+      filled =
+          ap₂ ◌+◌ c.values.invariant.filled more.2
           ∙ sym (length-append (flat_map (blocks_of form) (take k vs)) _)
-          ∙ sym (ap length (flat_map-more (blocks_of form) vs k inside));
-      decrypted =
-          c.take_blocks-progress.ensures.decrypted
-          ∙ ap₂ ◌++◌ c.values.invariant.decrypted
-          (ap₂ (λ (key : List ℕ) (l : List (List ℕ)). map (ede3_decryption key) l)
-          (c.unwrap_or-key.ensures ∙ ap (λ key. unwrap_or key (replicate 24 0)) c.key_for.ensures ∙ ap (key_for keys) same) here)
-          ∙ sym (flat_map-more (decrypted form (λ value. ede3_decryption (key_for keys value))) vs k inside);
-      behind =
-          c.take_blocks-progress.ensures.rest
-          ∙ drop-further at _ c.values.blocks c.args.blocks.now (omega (arith, c.take_blocks-progress.ensures.place))
-          c.values.invariant.behind;
+          ∙ sym (ap length (flat_map-more (blocks_of form) vs 0 k (omega arith) inside));
+      keys =
+          take-put_mid filled size c.values.keys new (filled + count) (omega (arith, new_long))
+          (omega (arith, more.3))
+          ∙ ap₂ ◌++◌ c.values.invariant.keys made
+          ∙ sym (flat_map-more (λ value. replicate (length (blocks_of form value)) (key_for keys value)) vs 0 k (omega arith) inside);
     }
+
+module _ (form : Form) (lengths bytes : List ℕ) (blocks : List (List ℕ)) (k filled : ℕ) (all : length lengths ≤ k)
+    (are : blocks ≡ flat_map (blocks_of form) (pieces lengths bytes))
+    (at : filled ≡ length (flat_map (blocks_of form) (take k (pieces lengths bytes)))) where
+  whole : take k (pieces lengths bytes) ≡ pieces lengths bytes
+  whole = take_all k (pieces lengths bytes) (omega (arith, length-pieces lengths bytes, all))
+
+  end : filled ≡ length blocks
+  end = at ∙ ap (λ l. length (flat_map (blocks_of form) l)) whole ∙ sym (ap length are)
+
+pub decrypt_each-requires : goal.decrypt_each-requires
+decrypt_each-requires g c =
+    let is =
+    end c.args.form c.args.lengths.now c.args.values.now c.args.blocks.now c.values.k c.values.filled c.values-test.false
+    c.requires.blocks c.values.invariant.filled in
+    length-take-le c.values.filled c.values.keys (omega (arith, is, c.requires.few)) ∙ is
 
 pub returns : goal.returns
 returns g c =
     let form : Form = c.args.form in
-    let keys = c.args.self.now.keys in
-    let lengths : List ℕ = c.args.lengths.now in
-    let vs : List (List ℕ) = pieces lengths c.args.values.now in
-    let all : take c.values.k vs ≡ vs =
-    take_all c.values.k vs (omega (arith, length-pieces lengths c.args.values.now, c.values-test.false)) in
-    let blocks : List (List ℕ) = c.decrypt_kept.new.blocks in
-    let end : ℕ = c.decrypt_kept.result.done in
-    let whole : length blocks ≤ end =
-    omega (
-      arith,
-      c.decrypt_kept.auto.blocks,
-      c.values.auto.blocks,
-      ap length c.requires,
-      c.decrypt_kept.ensures.done,
-      c.values.invariant.place,
-      ap (λ l. length (flat_map (blocks_of form) l)) all,
-    ) in
-    sym (take_all end blocks whole)
-    ∙ sym (append-nil (take end blocks))
-    ∙ ap (decrypted_by c.values.keys blocks end) (sym c.decrypt_kept.ensures.kept)
-    ∙ c.decrypt_kept.ensures.decrypted
-    ∙ c.values.invariant.decrypted
-    ∙ ap (flat_map (decrypted form (λ value. ede3_decryption (key_for keys value)))) all
+    let key : List ℕ → List ℕ = key_for c.args.self.now.keys in
+    let vs : List (List ℕ) = pieces c.args.lengths.now c.args.values.now in
+    let all =
+    whole form c.args.lengths.now c.args.values.now c.args.blocks.now c.values.k c.values.filled c.values-test.false
+    c.requires.blocks c.values.invariant.filled in
+    c.decrypt_each.ensures
+    ∙ ap₂ (zip2 ede3_decryption) (c.values.invariant.keys ∙ ap (keys_of key (blocks_of form)) all) c.requires.blocks
+    ∙ zip2-keys ede3_decryption key (blocks_of form) vs

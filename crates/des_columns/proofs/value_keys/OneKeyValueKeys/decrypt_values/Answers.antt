@@ -7,5 +7,5 @@ use Rattle.des_columns.proofs.value_keys.OneKeyValueKeys.decrypt_values.Goals as
 pub returns : goal.returns
 returns g c =
     let f = g.C.BlockCipherDecrypt.decrypted c.args.self.now.cipher in
-    c.decrypt_list_by.ensures.decrypted ∙ ap (map f) c.requires
+    c.decrypt_list_by.ensures.decrypted ∙ ap (map f) c.requires.blocks
     ∙ map-flat_map f (blocks_of c.args.form) (pieces c.args.lengths.now c.args.values.now)

@@ -16,7 +16,6 @@ use Rattle.des_columns.proofs.writing.Writer.encipher.Goals as goal
 pub parts-init : goal.parts-init
 parts-init g c = record {
   within = omega arith;
-  buffer = refl;
   done = (
     [],
     mode_after-none c.args.self.now.mode,
@@ -52,8 +51,6 @@ parts-preserved g c =
     let new_long : length new ≡ size = c.copy_from_slice-in-parts.auto.self ∙ long in
     let inside : m * 8 ≤ length c.parts.bytes = omega (arith, within, c.parts.auto.bytes) in record {
       within = within;
-      buffer =
-          omega (arith, c.parts.invariant.buffer, c.encrypt-mode.auto.blocks, c.copy_from_slice.auto.self, c.min-count.ensures);
       done = (
         done ++ answers,
         c.encrypt-mode.ensures.mode
@@ -80,8 +77,8 @@ parts-preserved g c =
           ∙ ap (λ n. drop n bytes) whole;
     }
 
-pub returns-clause-encrypted : goal.returns-clause-encrypted
-returns-clause-encrypted g c = λ key made.
+pub returns : goal.returns
+returns g c = λ key made.
     let bytes : List ℕ = c.args.bytes.now in
     let all : List (List ℕ) = first_chunks 8 (length bytes / 8) bytes in
     let end : c.parts.from ≡ length bytes / 8 = omega (arith, c.parts.invariant.within, c.parts-test.false, c.parts.auto.bytes) in

@@ -8,7 +8,6 @@ use Rattle.des_columns.proofs.writing.Writer.encipher.Given as goal
 abbrev pub invariant-parts : goal.invariant-parts
 invariant-parts g l = record {
   within : l.from ≤ length l.initial.bytes / 8;
-  buffer : length l.buffer ≡ length l.initial.buffer;
   done : (answers : List (List ℕ)) × (l.mode ≡ mode_after l.self.mode answers) × (take (l.from * 8) l.bytes ≡ joined answers)
       × ((key : List ℕ) → g.C.KeyInit.is_made_from l.self.cipher key
       → AreEncrypted l.self.mode (g.C.Relating.relation key)

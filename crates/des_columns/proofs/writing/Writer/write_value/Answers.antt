@@ -4,8 +4,8 @@ use Rattle.des_columns.proofs.PaddedTexts.{head-filled}
 use Rattle.des_columns.proofs.writing.Writer.write_value.Goals as goal
 
 -- what stands before the blocks, and the blocks
-pub returns-clause-written : goal.returns-clause-written
-returns-clause-written g c = λ key made.
+pub returns : goal.returns
+returns g c = λ key made.
     let first : ℕ = 128 + c.args.self.now.number in
     record {
       blocks = c.encipher.new.bytes;
@@ -15,5 +15,5 @@ returns-clause-written g c = λ key made.
           ∙ head-filled c.args.self.now.form c.args.self.now.number c.args.text.now c.requires.size);
       encrypted =
           subst (λ (l : List ℕ). IsEncrypted c.args.self.now.mode (g.C.Relating.relation key) l c.encipher.new.bytes)
-          c.write_padded.ensures.padded (c.encipher.ensures.encrypted key made);
+          c.write_padded.ensures (c.encipher.ensures key made);
     }

@@ -1,7 +1,7 @@
 use Rattle.std.proofs.Common.{ℕ, List, ◌∙◌, subst}
 use Rattle.des.specs.Blocks.{IsKey}
-use Rattle.des_columns.proofs.KeptBlocks.{mapped-alike}
-use Rattle.des_columns.proofs.kept_keys.decrypt_by.Goals as goal
+use Rattle.des_columns.proofs.KeysOfBlocks.{mapped-alike}
+use Rattle.des_columns.proofs.key_file.decrypt_by.Goals as goal
 
 -- a cipher made from the key answers as the key does
 pub returns : goal.returns
