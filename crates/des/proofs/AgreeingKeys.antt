@@ -4,9 +4,9 @@ use Rattle.std.proofs.Common.{◌≡◌, ◌↔◌, ℕ, List, sym, ap, ◌∙�
 use Rattle.des.specs.Blocks.{IsKey}
 use Rattle.des.specs.Parity.{AgreeOutsideParity}
 use Rattle.des.specs.Enciphering.{Enciphers}
-use Rattle.des.specs.Rounds.{answer_by}
+use Rattle.des.specs.Rounds.{block_by_keys}
 use Rattle.des.specs.Triple.{Ede3}
-use Rattle.des.proofs.Graphs.{IsGraphOf-encryption, HasOneAnswerEachWay-key}
+use Rattle.des.proofs.Graphs.{IsGraphOf-encryption, IsBijection-key}
 use Rattle.des.proofs.KeySelections.{key_schedule-agreeing}
 
 -- what DES under a key relates, it relates under one that agrees outside parity
@@ -14,7 +14,7 @@ Enciphers-from_agreeing : (key other x y : List ℕ) → IsKey 8 key → IsKey 8
     → Enciphers key x y → Enciphers other x y
 Enciphers-from_agreeing key other x y is_key other_is_key agree enciphers =
     let made = (IsGraphOf-encryption key is_key x y).0 enciphers in
-    let same = ap (λ keys. answer_by keys x) (key_schedule-agreeing key other agree) in
+    let same = ap (λ keys. block_by_keys keys x) (key_schedule-agreeing key other agree) in
     (IsGraphOf-encryption other other_is_key x y).1 (made.0, sym same ∙ made.1)
 
 -- agreement outside parity, from the other key to the first
@@ -32,13 +32,13 @@ Enciphers-agreeing key other x y is_key other_is_key agree = (
 -- DES under a key takes one block alone to a block
 same_first : (key x other y : List ℕ) → Enciphers key x y → Enciphers key other y → x ≡ other
 same_first key x other y first second =
-    let there = (HasOneAnswerEachWay-key key first.is_key).backwards y first.last_is_block in
+    let there = (IsBijection-key key first.is_key).backwards y first.last_is_block in
     there.1.1 x first ∙ sym (there.1.1 other second)
 
 -- and a block to one alone
 same_last : (key x y other : List ℕ) → Enciphers key x y → Enciphers key x other → y ≡ other
 same_last key x y other first second =
-    let there = (HasOneAnswerEachWay-key key first.is_key).forwards x first.first_is_block in
+    let there = (IsBijection-key key first.is_key).forwards x first.first_is_block in
     there.1.1 y first ∙ sym (there.1.1 other second)
 
 -- EDE whose first two parts agree outside parity is single DES under the third
@@ -52,7 +52,7 @@ Ede3-first_parts_agree a b k x y is_key other_is_key agree = (
       let P : List ℕ → Type 0 = λ w. Enciphers k w y in
       subst P (same_first a v x u second passes.1.1.0) passes.1.1.2,
   λ enciphers.
-      let there = (HasOneAnswerEachWay-key a is_key).forwards x enciphers.first_is_block in
+      let there = (IsBijection-key a is_key).forwards x enciphers.first_is_block in
       (there.0, (x, (there.1.0, (Enciphers-agreeing a b x there.0 is_key other_is_key agree).0 there.1.0, enciphers))),
 )
 
@@ -67,6 +67,6 @@ Ede3-last_parts_agree k a b x y is_key other_is_key agree = (
       let P : List ℕ → Type 0 = λ w. Enciphers k x w in
       subst P (same_last a v u y passes.1.1.1 third) passes.1.1.0,
   λ enciphers.
-      let there = (HasOneAnswerEachWay-key a is_key).backwards y enciphers.last_is_block in
+      let there = (IsBijection-key a is_key).backwards y enciphers.last_is_block in
       (y, (there.0, (enciphers, there.1.0, (Enciphers-agreeing a b there.0 y is_key other_is_key agree).0 there.1.0))),
 )

@@ -3,7 +3,7 @@ use Rattle.std.proofs.Common.{◌≡◌, ℕ, zero, suc, ◌+◌, ◌-◌, ◌�
 use Rattle.std.specs.List.{All}
 use Rattle.std.proofs.lemmas.List.Elements.{All-cons}
 use Rattle.des.specs.Blocks.{IsBlock}
-use Rattle.des.specs.Cbc.{xor_blocks, block_at, block_before, Chains, Cbc, Unchains}
+use Rattle.des.specs.Cbc.{xor_blocks, block_at, block_before, CbcUnder, Cbc, CbcDecrypts}
 use Rattle.des.specs.Relations.{TakesBlock}
 use Rattle.des.proofs.XoredBlocks.{length-xor_blocks, xor_blocks-undone, IsBlock-xor_blocks}
 
@@ -28,9 +28,9 @@ block_before-next iv blocks (suc m) from =
     rw (next, this) refl
 
 -- what is chained under a relation is chained under a weaker one
-pub Chains-weaker : (P Q : List ℕ → List ℕ → Type 0) (iv : List ℕ) (p q : List (List ℕ))
-    → ((x y : List ℕ) → P x y → Q x y) → Chains P iv p q → Chains Q iv p q
-Chains-weaker P Q iv p q weaker chains = record {
+pub CbcUnder-weaker : (P Q : List ℕ → List ℕ → Type 0) (iv : List ℕ) (p q : List (List ℕ))
+    → ((x y : List ℕ) → P x y → Q x y) → CbcUnder P iv p q → CbcUnder Q iv p q
+CbcUnder-weaker P Q iv p q weaker chains = record {
   count = chains.count;
   widths = chains.widths;
   chained = λ n from to. weaker _ _ (chains.chained n from to);
@@ -50,10 +50,10 @@ IsBlock-before_chained encryption iv p q is_iv are_blocks makes_blocks cbc (suc 
     (IsBlock-before_chained encryption iv p q is_iv are_blocks makes_blocks cbc (suc m) (omega arith)))))
 
 -- what is encrypted in the chain of a list of blocks are blocks
-pub Chains-from_Cbc : (encryption : List ℕ → List ℕ) (iv : List ℕ) (p q : List (List ℕ)) → IsBlock iv → All IsBlock p
+pub CbcUnder-from_Cbc : (encryption : List ℕ → List ℕ) (iv : List ℕ) (p q : List (List ℕ)) → IsBlock iv → All IsBlock p
     → ((block : List ℕ) → IsBlock block → IsBlock (encryption block)) → Cbc encryption iv p q
-    → Chains (TakesBlock encryption) iv p q
-Chains-from_Cbc encryption iv p q is_iv are_blocks makes_blocks cbc = record {
+    → CbcUnder (TakesBlock encryption) iv p q
+CbcUnder-from_Cbc encryption iv p q is_iv are_blocks makes_blocks cbc = record {
   count = cbc.count;
   widths = cbc.widths;
   chained = λ n from to.
@@ -61,14 +61,14 @@ Chains-from_Cbc encryption iv p q is_iv are_blocks makes_blocks cbc = record {
       (IsBlock-xor_blocks _ _ (IsBlock-block_at p n from to are_blocks) is_before, sym (cbc.chained n from to));
 }
 
--- a chained list is unchained by what undoes the encryption
-pub Unchains-from_Cbc : (encryption decryption : List ℕ → List ℕ) (iv : List ℕ) (p q : List (List ℕ)) → IsBlock iv
+-- a chained list is decrypted by what undoes the encryption
+pub CbcDecrypts-from_Cbc : (encryption decryption : List ℕ → List ℕ) (iv : List ℕ) (p q : List (List ℕ)) → IsBlock iv
     → All IsBlock p → ((block : List ℕ) → IsBlock block → IsBlock (encryption block))
     → ((block : List ℕ) → IsBlock block → decryption (encryption block) ≡ block) → Cbc encryption iv p q
-    → Unchains decryption iv q p
-Unchains-from_Cbc encryption decryption iv p q is_iv are_blocks makes_blocks undoes cbc = record {
+    → CbcDecrypts decryption iv q p
+CbcDecrypts-from_Cbc encryption decryption iv p q is_iv are_blocks makes_blocks undoes cbc = record {
   count = sym cbc.count;
-  unchained = λ n from to.
+  cbc_decrypted = λ n from to.
       let within : n ≤ length p = omega (arith, cbc.count) in
       let is_block = IsBlock-block_at p n from within are_blocks in
       let is_before = IsBlock-before_chained encryption iv p q is_iv are_blocks makes_blocks cbc n within in
@@ -77,34 +77,34 @@ Unchains-from_Cbc encryption decryption iv p q is_iv are_blocks makes_blocks und
       (sym (xor_blocks-undone (block_at p n) (block_before iv q n) (omega arith)));
 }
 
--- a list that decryption unchains, by what undoes it
+-- a list that decryption cbc_decrypts, by what undoes it
 module _ (encryption decryption : List ℕ → List ℕ) (iv : List ℕ) (p q : List (List ℕ)) (is_iv : IsBlock iv)
     (are_blocks : All IsBlock q) (makes_blocks : (block : List ℕ) → IsBlock block → IsBlock (decryption block))
     (undoes : (block : List ℕ) → IsBlock block → encryption (decryption block) ≡ block)
-    (unchains : Unchains decryption iv q p) where
+    (cbc_decrypts : CbcDecrypts decryption iv q p) where
   -- is chained, and blocks are encrypted in the chain
-  pub Chains-from_Unchains : Chains (TakesBlock encryption) iv p q
-  Chains-from_Unchains = record {
-    count = sym unchains.count;
+  pub CbcUnder-from_CbcDecrypts : CbcUnder (TakesBlock encryption) iv p q
+  CbcUnder-from_CbcDecrypts = record {
+    count = sym cbc_decrypts.count;
     widths = λ n from to.
-        let within : n ≤ length q = omega (arith, unchains.count) in
+        let within : n ≤ length q = omega (arith, cbc_decrypts.count) in
         let is_block = makes_blocks (block_at q n) (IsBlock-block_at q n from within are_blocks) in
         let is_before = IsBlock-block_before iv q n within is_iv are_blocks in
-        rw (unchains.unchained n from within) (length-xor_blocks _ _ (omega arith) ∙ is_block.0);
+        rw (cbc_decrypts.cbc_decrypted n from within) (length-xor_blocks _ _ (omega arith) ∙ is_block.0);
     chained = λ n from to.
-        let within : n ≤ length q = omega (arith, unchains.count) in
+        let within : n ≤ length q = omega (arith, cbc_decrypts.count) in
         let of_block = IsBlock-block_at q n from within are_blocks in
         let is_block = makes_blocks (block_at q n) of_block in
         let is_before = IsBlock-block_before iv q n within is_iv are_blocks in
         rw (
-          unchains.unchained n from within,
+          cbc_decrypts.cbc_decrypted n from within,
           xor_blocks-undone (decryption (block_at q n)) (block_before iv q n) (omega arith),
         )
         (is_block, undoes (block_at q n) of_block);
   }
 
   -- and so is one of CBC
-  pub Cbc-from_Unchains : Cbc encryption iv p q
-  Cbc-from_Unchains =
-      Chains-weaker (TakesBlock encryption) (λ block answer. answer ≡ encryption block) iv p q (λ x y taken. sym taken.1)
-      Chains-from_Unchains
+  pub Cbc-from_CbcDecrypts : Cbc encryption iv p q
+  Cbc-from_CbcDecrypts =
+      CbcUnder-weaker (TakesBlock encryption) (λ block answer. answer ≡ encryption block) iv p q (λ x y taken. sym taken.1)
+      CbcUnder-from_CbcDecrypts

@@ -3,7 +3,7 @@ use Rattle.std.proofs.Common.{◌≡◌, inl, inr, ℕ, zero, suc, ◌+◌, ◌-
 use Rattle.std.proofs.lemmas.Bool.{cases_lt}
 use Rattle.std.proofs.lemmas.List.{get_or-append_right}
 use Rattle.std.proofs.Math.ListN.{get_or-append}
-use Rattle.des.specs.Cbc.{block_at, block_before, next_vector, Chains, Unchains}
+use Rattle.des.specs.Cbc.{block_at, block_before, next_vector, CbcUnder, CbcDecrypts}
 
 -- ---- the vector of the next piece
 
@@ -53,10 +53,10 @@ before_back iv a b n after =
 
 -- ---- chains
 
-pub Chains-append : (Relates : List ℕ → List ℕ → Type 0) (iv : List ℕ) (p q more answers : List (List ℕ))
-    → Chains Relates iv p q
-    → Chains Relates (next_vector iv q) more answers → Chains Relates iv (p ++ more) (q ++ answers)
-Chains-append Relates iv p q more answers first second = record {
+pub CbcUnder-append : (Relates : List ℕ → List ℕ → Type 0) (iv : List ℕ) (p q more answers : List (List ℕ))
+    → CbcUnder Relates iv p q
+    → CbcUnder Relates (next_vector iv q) more answers → CbcUnder Relates iv (p ++ more) (q ++ answers)
+CbcUnder-append Relates iv p q more answers first second = record {
   count = length-append q answers ∙ ap₂ ◌+◌ first.count second.count ∙ sym (length-append p more);
   widths = λ n from to. elim (cases_lt (length p) n) [
     | inr front ↦ rw (at_front p more n from front) (first.widths n from front)
@@ -75,19 +75,19 @@ Chains-append Relates iv p q more answers first second = record {
   ];
 }
 
-pub Unchains-append : (decryption : List ℕ → List ℕ) (iv : List ℕ) (q p more answers : List (List ℕ))
-    → Unchains decryption iv q p
-    → Unchains decryption (next_vector iv q) more answers → Unchains decryption iv (q ++ more) (p ++ answers)
-Unchains-append decryption iv q p more answers first second = record {
+pub CbcDecrypts-append : (decryption : List ℕ → List ℕ) (iv : List ℕ) (q p more answers : List (List ℕ))
+    → CbcDecrypts decryption iv q p
+    → CbcDecrypts decryption (next_vector iv q) more answers → CbcDecrypts decryption iv (q ++ more) (p ++ answers)
+CbcDecrypts-append decryption iv q p more answers first second = record {
   count = length-append p answers ∙ ap₂ ◌+◌ first.count second.count ∙ sym (length-append q more);
-  unchained = λ n from to. elim (cases_lt (length q) n) [
+  cbc_decrypted = λ n from to. elim (cases_lt (length q) n) [
     | inr front ↦
         let within : n ≤ length p = omega (arith, first.count) in
         rw (at_front p answers n from within, before_front iv q more n from front, at_front q more n from front)
-        (first.unchained n from front)
+        (first.cbc_decrypted n from front)
     | inl back ↦
         let after : length p < n = omega (arith, first.count) in
         rw (at_back p answers n after, before_back iv q more n back, at_back q more n back, first.count)
-        (second.unchained (n - length q) (omega arith) (omega (arith, length-append q more)))
+        (second.cbc_decrypted (n - length q) (omega arith) (omega (arith, length-append q more)))
   ];
 }

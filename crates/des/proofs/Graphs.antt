@@ -2,22 +2,22 @@
 use Rattle.std.proofs.Common.{◌≡◌, ℕ, List, Bool, ap, ◌∙◌, subst}
 use Rattle.des.specs.Bits.{bits_of_bytes}
 use Rattle.des.specs.Blocks.{IsKey, IsBlock, block_of_bits}
-use Rattle.des.specs.Relations.{IsTheOne, HasOneAnswerEachWay, IsGraphOf}
+use Rattle.des.specs.Relations.{IsTheOne, IsBijection, IsGraphOf}
 use Rattle.des.specs.KeySchedule.{key_schedule}
 use Rattle.des.specs.Enciphering.{Enciphers}
-use Rattle.des.specs.Rounds.{through_rounds, answer_by}
+use Rattle.des.specs.Rounds.{through_rounds, block_by_keys}
 use Rattle.des.specs.declared.des.Des.{Des}
 use Rattle.des.specs.Des.{IsDesOf, encrypted, decrypted, encryption, decryption}
 use Rattle.des.specs.Laws.BlockBits.{IsBlock-block_of_bits, bits_of_bytes-block_of_bits, block_of_bits-bits_of_bytes, length-bits_of_block}
-use Rattle.des.proofs.PassGraphs.{HasOneAnswerEachWay-graph, IsTheOne-graph, IsGraphOf-turned}
-use Rattle.des.specs.Laws.RoundsUndone.{length-through_rounds, IsPass-answer_by}
+use Rattle.des.proofs.PassGraphs.{IsBijection-graph, IsTheOne-graph, IsGraphOf-turned}
+use Rattle.des.specs.Laws.RoundsUndone.{length-through_rounds, IsPass-block_by_keys}
 use Rattle.des.specs.Laws.KeptRoundKeys.{round_keys_of-HoldRoundKeys}
 use Rattle.des.proofs.OneAnswer.{IsDes-through_rounds, through_rounds-from_IsDes}
 
 -- DES takes a block to what the rounds of its key make of it
-Enciphers-answer_by : (key x : List ℕ) → IsKey 8 key → IsBlock x
-    → Enciphers key x (answer_by (key_schedule (bits_of_bytes key)) x)
-Enciphers-answer_by key x is_key is_block =
+Enciphers-block_by_keys : (key x : List ℕ) → IsKey 8 key → IsBlock x
+    → Enciphers key x (block_by_keys (key_schedule (bits_of_bytes key)) x)
+Enciphers-block_by_keys key x is_key is_block =
     let k : List Bool = bits_of_bytes key in
     let bits : List Bool = through_rounds (key_schedule k) (bits_of_bytes x) in
     record {
@@ -39,20 +39,20 @@ IsGraphOf-encryption key is_key = λ x y. (
         enciphers.is_des)
         ∙ block_of_bits-bits_of_bytes y enciphers.last_is_block,
   ),
-  λ made. let P : List ℕ → Type 0 = λ z. Enciphers key x z in subst P made.1 (Enciphers-answer_by key x is_key made.0),
+  λ made. let P : List ℕ → Type 0 = λ z. Enciphers key x z in subst P made.1 (Enciphers-block_by_keys key x is_key made.0),
 )
 
 -- decryption under a key takes a block to the one that DES takes to it
 pub IsGraphOf-decryption : (key : List ℕ) → IsKey 8 key → IsGraphOf (decryption key) (λ y x. Enciphers key x y)
 IsGraphOf-decryption key is_key =
     IsGraphOf-turned (encryption key) (decryption key) (λ x y. Enciphers key x y)
-    (IsPass-answer_by (key_schedule (bits_of_bytes key))) (IsGraphOf-encryption key is_key)
+    (IsPass-block_by_keys (key_schedule (bits_of_bytes key))) (IsGraphOf-encryption key is_key)
 
 -- DES under a key has one answer each way
-pub HasOneAnswerEachWay-key : (key : List ℕ) → IsKey 8 key → HasOneAnswerEachWay (λ x y. Enciphers key x y)
-HasOneAnswerEachWay-key key is_key =
-    HasOneAnswerEachWay-graph (encryption key) (decryption key) (λ x y. Enciphers key x y)
-    (IsPass-answer_by (key_schedule (bits_of_bytes key))) (IsGraphOf-encryption key is_key)
+pub IsBijection-key : (key : List ℕ) → IsKey 8 key → IsBijection (λ x y. Enciphers key x y)
+IsBijection-key key is_key =
+    IsBijection-graph (encryption key) (decryption key) (λ x y. Enciphers key x y)
+    (IsPass-block_by_keys (key_schedule (bits_of_bytes key))) (IsGraphOf-encryption key is_key)
 
 -- a `Des` of a key encrypts as the key does
 pub IsGraphOf-encrypted : (cipher : Des) (key : List ℕ) → IsDesOf cipher key

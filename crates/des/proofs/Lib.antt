@@ -38,4 +38,4 @@ pub mod AgreeingKeys
 pub mod XoredBlocks
 pub mod ChainedBlocks
 pub mod ChainedPieces
-pub mod UnchainedLists
+pub mod CbcDecryptedLists

@@ -10,7 +10,7 @@ use Rattle.des.specs.Des.{encryption, decryption}
 use Rattle.des.specs.Enciphering.{Enciphers}
 use Rattle.des.specs.KeySchedule.{round_key, key_schedule}
 use Rattle.des.specs.KeyHalves.{ArePartners}
-use Rattle.des.specs.Rounds.{answer_by}
+use Rattle.des.specs.Rounds.{block_by_keys}
 use Rattle.des.proofs.RoundKeys.{length-c_half, length-d_half}
 use Rattle.des.proofs.Graphs.{IsGraphOf-encryption, IsGraphOf-decryption}
 use Rattle.des.proofs.RoundKeyPlaces.{key_schedule-halves}
@@ -66,7 +66,7 @@ reversed_numbers key partner =
 decryption-partner : (key partner : List ℕ) → ArePartners key partner → (block : List ℕ)
     → decryption partner block ≡ encryption key block
 decryption-partner key partner partners block =
-    ap (λ keys. answer_by keys block)
+    ap (λ keys. block_by_keys keys block)
     (ap reverse ((reversed_round_keys key partner).0 partners)
     ∙ reverse-reverse (key_schedule (bits_of_bytes key)))
 

@@ -2,7 +2,7 @@
 -- another.
 use Rattle.std.proofs.Common.{◌≡◌, ℕ, List, refl, sym, ap, ◌∙◌, subst}
 use Rattle.des.specs.Blocks.{IsBlock}
-use Rattle.des.specs.Relations.{IsTheOne, HasOneAnswerEachWay, IsGraphOf, AnswerAlike}
+use Rattle.des.specs.Relations.{IsTheOne, IsBijection, IsGraphOf, AgreeOnBlocks}
 use Rattle.des.specs.Triple.{through}
 use Rattle.des.specs.Laws.Passes.{IsPass, Agree}
 
@@ -36,14 +36,14 @@ IsTheOne-answer answer Answers block found graph is_block same =
     rw same (IsTheOne-graph answer Answers block graph is_block)
 
 -- two functions that answer blocks as a third one does answer them alike
-pub AnswerAlike-Agree : {answer other_answer third : List ℕ → List ℕ} → Agree answer third → Agree other_answer third
-    → AnswerAlike answer other_answer
-AnswerAlike-Agree first second block is_block = first.at block is_block ∙ sym (second.at block is_block)
+pub AgreeOnBlocks-Agree : {answer other_answer third : List ℕ → List ℕ} → Agree answer third → Agree other_answer third
+    → AgreeOnBlocks answer other_answer
+AgreeOnBlocks-Agree first second block is_block = first.at block is_block ∙ sym (second.at block is_block)
 
 -- the graph of a pass has one answer each way
-pub HasOneAnswerEachWay-graph : (forth back : List ℕ → List ℕ) (Answers : List ℕ → List ℕ → Type 0) → IsPass forth back
-    → IsGraphOf forth Answers → HasOneAnswerEachWay Answers
-HasOneAnswerEachWay-graph forth back Answers pass graph = record {
+pub IsBijection-graph : (forth back : List ℕ → List ℕ) (Answers : List ℕ → List ℕ → Type 0) → IsPass forth back
+    → IsGraphOf forth Answers → IsBijection Answers
+IsBijection-graph forth back Answers pass graph = record {
   forwards = λ x is_block. (forth x, IsTheOne-graph forth Answers x graph is_block);
   backwards = λ y is_block.
       (back y, IsTheOne-graph back (λ z x. Answers x z) y (IsGraphOf-turned forth back Answers pass graph) is_block);

@@ -19,7 +19,7 @@ block_before iv blocks n = block_at (iv ∷ blocks) n
 -- two lists of as many blocks, chained under a relation of blocks, which has no direction: it takes
 -- p(n) ^ q(n-1) to q(n), for each n. That the blocks of p have 8 bytes is said beside it, since
 -- `zip2` stops at the end of the shorter list
-pub record Chains (Relates : List ℕ → List ℕ → Type 0) (iv : List ℕ) (p q : List (List ℕ))
+pub record CbcUnder (Relates : List ℕ → List ℕ → Type 0) (iv : List ℕ) (p q : List (List ℕ))
     : Type 0 where
   pub count : length q ≡ length p
   pub widths : (n : ℕ) → 1 ≤ n → n ≤ length p → length (block_at p n) ≡ 8
@@ -28,13 +28,13 @@ pub record Chains (Relates : List ℕ → List ℕ → Type 0) (iv : List ℕ) (
 
 -- CBC: q(n) = E(p(n) ^ q(n-1)) for each n, by the encryption E
 abbrev pub Cbc : (List ℕ → List ℕ) → List ℕ → List (List ℕ) → List (List ℕ) → Type 0
-Cbc encryption iv p q = Chains (λ block answer. answer ≡ encryption block) iv p q
+Cbc encryption iv p q = CbcUnder (λ block answer. answer ≡ encryption block) iv p q
 
 -- CBC read from q to p: p(n) = D(q(n)) ^ q(n-1) for each n, by the decryption D
-pub record Unchains (decryption : List ℕ → List ℕ) (iv : List ℕ) (q p : List (List ℕ))
+pub record CbcDecrypts (decryption : List ℕ → List ℕ) (iv : List ℕ) (q p : List (List ℕ))
     : Type 0 where
   pub count : length p ≡ length q
-  pub unchained : (n : ℕ) → 1 ≤ n → n ≤ length q
+  pub cbc_decrypted : (n : ℕ) → 1 ≤ n → n ≤ length q
       → block_at p n ≡ xor_blocks (decryption (block_at q n)) (block_before iv q n)
 
 -- the vector with which a chain goes on after ciphertext blocks: the last of them, or if there

@@ -7,7 +7,7 @@ use Rattle.des.specs.Relations.{AreGraphsOf}
 use Rattle.des.specs.KeySchedule.{key_schedule}
 use Rattle.des.specs.Enciphering.{Enciphers}
 use Rattle.des.specs.RoundKeyWords.{HoldRoundKeys, round_keys_of}
-use Rattle.des.specs.Rounds.{answer_by}
+use Rattle.des.specs.Rounds.{block_by_keys}
 
 -- the sixteen words that the cipher holds, with a round key in each
 abbrev pub round_key_words : Des → List ℕ
@@ -19,19 +19,19 @@ IsDesOf cipher key = IsKey 8 key × HoldRoundKeys cipher.round_keys (bits_of_byt
 
 -- the block that the cipher makes of a block by encryption, with the round keys that it holds
 abbrev pub encrypted : Des → List ℕ → List ℕ
-encrypted cipher block = answer_by (round_keys_of cipher.round_keys) block
+encrypted cipher block = block_by_keys (round_keys_of cipher.round_keys) block
 
 -- the block that the cipher makes of a block by decryption
 abbrev pub decrypted : Des → List ℕ → List ℕ
-decrypted cipher block = answer_by (reverse (round_keys_of cipher.round_keys)) block
+decrypted cipher block = block_by_keys (reverse (round_keys_of cipher.round_keys)) block
 
 -- the block that DES under a key takes a block to
 abbrev pub encryption : List ℕ → List ℕ → List ℕ
-encryption key block = answer_by (key_schedule (bits_of_bytes key)) block
+encryption key block = block_by_keys (key_schedule (bits_of_bytes key)) block
 
 -- the block that DES under the key takes to a block
 abbrev pub decryption : List ℕ → List ℕ → List ℕ
-decryption key block = answer_by (reverse (key_schedule (bits_of_bytes key))) block
+decryption key block = block_by_keys (reverse (key_schedule (bits_of_bytes key))) block
 
 -- the cipher is a DES of the key, and the key answers by the DES relation
 abbrev pub IsDesMadeFrom : Des → List ℕ → Type 0

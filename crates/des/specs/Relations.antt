@@ -7,7 +7,7 @@ abbrev pub IsTheOne : {A : Type 0} → (A → Type 0) → A → Type 0
 IsTheOne {A} P it = P it × ((other : A) → P other → other ≡ it)
 
 -- the relation takes each block to exactly one, and takes exactly one to each
-pub record HasOneAnswerEachWay (Answers : List ℕ → List ℕ → Type 0) : Type 0 where
+pub record IsBijection (Answers : List ℕ → List ℕ → Type 0) : Type 0 where
   pub forwards : (x : List ℕ) → IsBlock x → (y : List ℕ) × IsTheOne (Answers x) y
   pub backwards : (y : List ℕ) → IsBlock y → (x : List ℕ) × IsTheOne (λ x. Answers x y) x
 
@@ -25,6 +25,6 @@ abbrev pub AreGraphsOf : (List ℕ → List ℕ) → (List ℕ → List ℕ) →
 AreGraphsOf forth back Answers = IsGraphOf forth Answers × IsGraphOf back (λ y x. Answers x y)
 
 -- two functions answer each block alike
-abbrev pub AnswerAlike : (List ℕ → List ℕ) → (List ℕ → List ℕ) → Type 0
-AnswerAlike answer other_answer =
+abbrev pub AgreeOnBlocks : (List ℕ → List ℕ) → (List ℕ → List ℕ) → Type 0
+AgreeOnBlocks answer other_answer =
     (block : List ℕ) → IsBlock block → answer block ≡ other_answer block

@@ -1,6 +1,6 @@
 -- The rounds as a computation, for contracts that need a term for an answer: the members of the
 -- cipher traits are functions. It is not the definition, which is the relation `IsDes`: that
--- `answer_by` gives the one block that is related, in each direction, is proved, and stated on
+-- `block_by_keys` gives the one block that is related, in each direction, is proved, and stated on
 -- `Des::new`, `encrypt_block` and `decrypt_block`.
 use Rattle.std.specs.Prelude.{ℕ, List, [], ◌∷◌, ◌++◌, Bool, take, drop}
 use Rattle.des.specs.Bits.{bits_of_bytes, select, xor_bits}
@@ -27,5 +27,5 @@ through_rounds keys block =
 
 -- the block that the rounds make of a block. Enciphering takes the round keys in their order,
 -- deciphering in the opposite order
-abbrev pub answer_by : List (List Bool) → List ℕ → List ℕ
-answer_by round_keys block = block_of_bits (through_rounds round_keys (bits_of_bytes block))
+abbrev pub block_by_keys : List (List Bool) → List ℕ → List ℕ
+block_by_keys round_keys block = block_of_bits (through_rounds round_keys (bits_of_bytes block))

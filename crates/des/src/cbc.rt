@@ -8,7 +8,7 @@
 ghost use Rattle.std.specs.Prelude.{◌≡◌, ◌≤◌, ℕ, List, length, map};
 ghost use Rattle.std.specs.List.{All};
 ghost use Rattle.des.specs.Blocks.{IsBlock};
-ghost use Rattle.des.specs.Cbc.{xor_blocks, Cbc, Unchains, next_vector};
+ghost use Rattle.des.specs.Cbc.{xor_blocks, Cbc, CbcDecrypts, next_vector};
 
 use crate::cipher::{BlockCipherDecrypt, BlockCipherEncrypt, are_blocks};
 
@@ -48,7 +48,7 @@ pub fn encrypt<C: BlockCipherEncrypt>(cipher: &C, iv: &[u8; 8], blocks: &mut [[u
 /// p(n) = D(q(n)) ^ q(n-1). An empty list stays empty.
 pub fn decrypt<C: BlockCipherDecrypt>(cipher: &C, iv: &[u8; 8], blocks: &mut [[u8; 8]])
     ensures blocks { All IsBlock blocks.old }
-    ensures unchained { Unchains (C.decrypted cipher.now) iv.now blocks.old blocks.new }
+    ensures cbc_decrypted { CbcDecrypts (C.decrypted cipher.now) iv.now blocks.old blocks.new }
 {
     decrypt_by(&ByCipher { cipher }, iv, blocks, &mut [[0; 8]; TOGETHER]);
 }
@@ -88,8 +88,8 @@ pub fn decrypt_by<D: ListDecryption>(
 )
     requires { 1 ≤ length buffer.old }
     ensures blocks { All IsBlock blocks.old }
-    ensures unchained { (decryption : List ℕ → List ℕ) → D.decrypts by.now decryption
-        → Unchains decryption iv.now blocks.old blocks.new }
+    ensures cbc_decrypted { (decryption : List ℕ → List ℕ) → D.decrypts by.now decryption
+        → CbcDecrypts decryption iv.now blocks.old blocks.new }
 {
     are_blocks(blocks);
     let mut before = *iv;
@@ -114,8 +114,8 @@ fn decrypt_part<D: ListDecryption>(
 )
     requires { length blocks.old ≤ length buffer.old }
     ensures buffer { length buffer.new ≡ length buffer.old }
-    ensures unchained { (decryption : List ℕ → List ℕ) → D.decrypts by.now decryption
-        → Unchains decryption iv.now blocks.old blocks.new }
+    ensures cbc_decrypted { (decryption : List ℕ → List ℕ) → D.decrypts by.now decryption
+        → CbcDecrypts decryption iv.now blocks.old blocks.new }
 {
     let answers = &mut buffer[..blocks.len()];
     answers.copy_from_slice(blocks);

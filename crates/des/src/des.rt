@@ -7,10 +7,10 @@ ghost use Rattle.std.specs.Iterator.{IsFinite, AlwaysYields};
 ghost use Rattle.std.specs.Fmt.{DisplaysOnOk, DisplaysStyledOnOk};
 ghost use Rattle.des.specs.Bits.{bits_of_bytes, bits_of_word, select};
 ghost use Rattle.des.specs.Blocks.{IsBlock};
-ghost use Rattle.des.specs.Relations.{IsTheOne, HasOneAnswerEachWay, IsGraphOf};
+ghost use Rattle.des.specs.Relations.{IsTheOne, IsBijection, IsGraphOf};
 ghost use Rattle.des.specs.Tables.{initial_permutation, final_permutation};
 ghost use Rattle.des.specs.Enciphering.{Enciphers};
-ghost use Rattle.des.specs.Rounds.{answer_by};
+ghost use Rattle.des.specs.Rounds.{block_by_keys};
 ghost use Rattle.des.specs.RoundKeyWords.{HoldSomeRoundKeys, round_keys_of};
 
 use crate::cipher::{
@@ -46,7 +46,7 @@ fn run_rounds<'a, I: Iterator<Item = &'a u64>>(block: &mut [u8; 8], round_keys: 
     ensures was_block { IsBlock block.old }
     ensures processed { (words : List ℕ)
         → AlwaysYields I.next_gives (λ word. word.now) round_keys words
-        → block.new ≡ answer_by (round_keys_of words) block.old }
+        → block.new ≡ block_by_keys (round_keys_of words) block.old }
 {
     let mut halves = first_halves(block);
     for &round_key in round_keys {
@@ -137,7 +137,7 @@ impl KeyInit for Des {
     /// The cipher of a key of 8 bytes (FIPS 46-3, key schedule).
     fn new(key: &[u8; 8]) -> Des
         ensures made { IsDesOf result key.now }
-        ensures one_answer_each_way { HasOneAnswerEachWay (Enciphers key.now) }
+        ensures bijective { IsBijection (Enciphers key.now) }
         ensures encryption { IsGraphOf (encryption_by key.now) (Enciphers key.now) }
         ensures decryption { IsGraphOf (decryption_by key.now) (λ y x. Enciphers key.now x y) }
     {
@@ -191,19 +191,19 @@ impl BlockCipherDecrypt for Des {
 }
 
 impl BlockCipher for Des {
-    ghost use Rattle.des.specs.Laws.RoundsUndone.{IsPass-answer_by};
+    ghost use Rattle.des.specs.Laws.RoundsUndone.{IsPass-block_by_keys};
 
     ghost encrypted_is_block = { λ cipher.
-        (IsPass-answer_by (round_keys_of cipher.round_keys)).forth_is_block };
+        (IsPass-block_by_keys (round_keys_of cipher.round_keys)).forth_is_block };
 
     ghost decrypted_is_block = { λ cipher.
-        (IsPass-answer_by (round_keys_of cipher.round_keys)).back_is_block };
+        (IsPass-block_by_keys (round_keys_of cipher.round_keys)).back_is_block };
 
     ghost decrypts_encrypted = { λ cipher.
-        (IsPass-answer_by (round_keys_of cipher.round_keys)).back_forth };
+        (IsPass-block_by_keys (round_keys_of cipher.round_keys)).back_forth };
 
     ghost encrypts_decrypted = { λ cipher.
-        (IsPass-answer_by (round_keys_of cipher.round_keys)).forth_back };
+        (IsPass-block_by_keys (round_keys_of cipher.round_keys)).forth_back };
 }
 
 impl KeyedCipher for Des {

@@ -1,7 +1,7 @@
 //! The exports that make a context, and those that encrypt by CBC, block after block at any width.
 
 ghost use Rattle.std.specs.Prelude.{◌≡◌, ◌≢◌, ◌↔◌, ◌+◌, ◌*◌, ℕ, List, length};
-ghost use Rattle.des.specs.Cbc.{Chains, next_vector};
+ghost use Rattle.des.specs.Cbc.{CbcUnder, next_vector};
 ghost use Rattle.des_context.specs.Bytes.{AreBytesOf, FitInto};
 ghost use Rattle.des_context.specs.Contexts.{HasSomeCipherType, HasMark, IsContextOf, IsMarked, IsSoundIfMarked};
 ghost use Rattle.des_context.specs.CipherTypes.{relation_of};
@@ -40,7 +40,7 @@ pub extern "C" fn cukvashe_internal_encrypt_cbc(
     ensures refused { (result ≡ ERR_BLOCKS)
         ↔ (HasMark NO_MAC context.now × ¬ (AreBytesOf blocks.old size)) }
     ensures chained { result ≡ OK → (key : List ℕ) → IsContextOf context.now key
-        → Chains (relation_of key) iv.old blocks.old blocks.new }
+        → CbcUnder (relation_of key) iv.old blocks.old blocks.new }
     ensures goes_on { result ≡ OK → iv.new ≡ next_vector iv.old blocks.new }
     ensures kept { result ≢ OK → (blocks.new ≡ blocks.old) × (iv.new ≡ iv.old) }
 {
@@ -65,7 +65,7 @@ pub extern "C" fn cukvashe_internal_encrypt_cbc_to(
     ensures refused { (result ≡ ERR_BLOCKS)
         ↔ (HasMark NO_MAC context.now × ¬ (FitInto output.old input.now size)) }
     ensures chained { result ≡ OK → (key : List ℕ) → IsContextOf context.now key
-        → Chains (relation_of key) iv.old input.now output.new }
+        → CbcUnder (relation_of key) iv.old input.now output.new }
     ensures goes_on { result ≡ OK → iv.new ≡ next_vector iv.old output.new }
     ensures kept { result ≢ OK → (output.new ≡ output.old) × (iv.new ≡ iv.old) }
 {

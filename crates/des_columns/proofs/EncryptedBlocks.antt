@@ -1,7 +1,7 @@
 -- Blocks that a mode encrypts: none, and some in two parts.
 use Rattle.std.proofs.Common.{◌≡◌, ℕ, List, [], ◌∷◌, ◌++◌, refl, arith}
 use Rattle.des.specs.Blocks.{AnswersEach}
-use Rattle.des.proofs.ChainedPieces.{Chains-append}
+use Rattle.des.proofs.ChainedPieces.{CbcUnder-append}
 use Rattle.des_columns.specs.EncryptedBytes.{AreEncrypted}
 use Rattle.des_columns.specs.Forms.{mode_after}
 use Rattle.des_columns.specs.declared.form.BlockMode.{BlockMode}
@@ -31,4 +31,4 @@ module _ (Relates : List ℕ → List ℕ → Type 0) where
   pub AreEncrypted-append : (mode : BlockMode) (p q more answers : List (List ℕ)) → AreEncrypted mode Relates p q
       → AreEncrypted (mode_after mode q) Relates more answers → AreEncrypted mode Relates (p ++ more) (q ++ answers)
   AreEncrypted-append Ecb p q more answers first rest = AnswersEach-append p q more answers first rest
-  AreEncrypted-append (Cbc iv) p q more answers first rest = Chains-append Relates iv p q more answers first rest
+  AreEncrypted-append (Cbc iv) p q more answers first rest = CbcUnder-append Relates iv p q more answers first rest

@@ -11,7 +11,7 @@ use Rattle.std.proofs.lemmas.Bool.Decides.{nat_tests}
 use Rattle.des.specs.Blocks.{AreBytes, IsBlock, AnswersEach}
 use Rattle.des.specs.Cbc.{xor_blocks}
 use Rattle.des.specs.Relations.{IsGraphOf}
-use Rattle.des_fast.proofs.RelatedChains.{Chains-related_back}
+use Rattle.des_fast.proofs.RelatedCbc.{CbcUnder-related_back}
 use Rattle.des_columns.specs.Columns.{ReadsAs, pieces, plain_of}
 use Rattle.des_columns.specs.EncryptedBytes.{AreEncrypted, IsEncrypted}
 use Rattle.des_columns.specs.Mysql.{has_form}
@@ -95,10 +95,10 @@ module _ (Relates : List ℕ → List ℕ → Type 0) (encryption decryption : L
       let answers = map decryption blocks in
       let plain = zip2 xor_blocks answers (iv ∷ blocks) in
       let count : length answers ≡ length blocks = length-map blocks decryption in
-      Chains-related_back Relates encryption decryption graph iv plain blocks vector are makes_blocks undoes
+      CbcUnder-related_back Relates encryption decryption graph iv plain blocks vector are makes_blocks undoes
       (record {
         count = length-zipped xor_blocks answers (iv ∷ blocks) (omega (arith, count)) ∙ count;
-        unchained = λ n from within.
+        cbc_decrypted = λ n from within.
             get_or-zip2 xor_blocks answers (iv ∷ blocks) (n - 1) [] [] [] (omega (arith, count, within, from))
             (omega (arith, within, from))
             ∙ ap (λ (l : List ℕ). xor_blocks l (get_or (iv ∷ blocks) (n - 1) []))

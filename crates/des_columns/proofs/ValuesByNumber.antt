@@ -7,7 +7,7 @@ use Rattle.des.specs.Triple.{EnciphersEde3}
 use Rattle.des.specs.TripleCiphers.{ede3_decryption, ede3_encryption}
 use Rattle.des.specs.Laws.Passes.{IsPass-through, IsPass-turned}
 use Rattle.des.specs.Laws.DesLaws.{IsPass-key}
-use Rattle.des.proofs.TripleGraphs.{AnswerBy-Triple}
+use Rattle.des.proofs.TripleGraphs.{HasGraphs-Triple}
 use Rattle.des_columns.specs.Columns.{ReadsAs, fault_under, pieces, plain_of}
 use Rattle.des_columns.specs.EncryptedBytes.{IsEncrypted}
 use Rattle.des_columns.specs.Forms.{part_of, size_in, status_after, text_after}
@@ -74,7 +74,7 @@ reads-by-number keys value (Some key) status text some are_keys are reads =
           subst (λ (k : List ℕ). IsEncrypted zeros (EnciphersEde3 key) (plain_of Mysql zeros (λ value. ede3_decryption k) value)
           (part_of Mysql value)) (sym key_is)
           (plain-encrypted (EnciphersEde3 key) (ede3_encryption key) (ede3_decryption key)
-          (AnswerBy-Triple true true key is_key).encryption pass.back_is_block pass.forth_back Mysql zeros value zeros-block are);
+          (HasGraphs-Triple true true key is_key).encryption pass.back_is_block pass.forth_back Mysql zeros value zeros-block are);
       status_is = reads.0 ∙ ap (λ (b : Bool). status_after (fault_under b Mysql value) (size_in Mysql plain)) has;
       text_is = reads.1 ∙ ap (λ (b : Bool). text_after (fault_under b Mysql value) (size_in Mysql plain) plain) has;
     }

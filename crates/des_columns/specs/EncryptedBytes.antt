@@ -2,7 +2,7 @@
 use Rattle.std.specs.Prelude.{◌≡◌, ℕ, List}
 use Rattle.std.specs.List.{flat_map}
 use Rattle.des.specs.Blocks.{AnswersEach}
-use Rattle.des.specs.Cbc.{Chains}
+use Rattle.des.specs.Cbc.{CbcUnder}
 use Rattle.des_columns.specs.declared.form.BlockMode.{BlockMode}
 use Rattle.des_columns.specs.declared.form.BlockMode.TheVariants.{Ecb, Cbc}
 
@@ -13,7 +13,7 @@ joined blocks = flat_map (λ block. block) blocks
 -- a mode takes the blocks p to q, if a relation takes a block to its encryption
 abbrev pub AreEncrypted : BlockMode → (List ℕ → List ℕ → Type 0) → List (List ℕ) → List (List ℕ) → Type 0
 AreEncrypted Ecb Relates p q = AnswersEach Relates p q
-AreEncrypted (Cbc iv) Relates p q = Chains Relates iv p q
+AreEncrypted (Cbc iv) Relates p q = CbcUnder Relates iv p q
 
 -- it takes the bytes p to q
 pub record IsEncrypted (mode : BlockMode) (Relates : List ℕ → List ℕ → Type 0) (p q : List ℕ) : Type 0 where

@@ -1,6 +1,6 @@
 -- What a key and a vector decrypt of a private key under a password.
 use Rattle.std.specs.Prelude.{◌≡◌, ◌≢◌, ◌⊎◌, ℕ, ◌%◌, List, [], length, Option, Some, IsTrue, false}
-use Rattle.des.specs.Relations.{AnswerAlike}
+use Rattle.des.specs.Relations.{AgreeOnBlocks}
 use Rattle.des.specs.TripleCiphers.{ede3_decryption}
 use Rattle.des_io.specs.Streams.{passage_of, Decrypts}
 use Rattle.des_io.specs.StreamFaults.{IsWronglyPadded}
@@ -17,7 +17,7 @@ use Rattle.des_commands.specs.PrivateKeys.{is_sequence}
 -- answers each block as the key does
 abbrev pub IsPlain : (key vector encrypted plain : List ℕ) → Type 0
 IsPlain key vector encrypted plain =
-    (decrypted : List ℕ → List ℕ) × AnswerAlike decrypted (ede3_decryption key)
+    (decrypted : List ℕ → List ℕ) × AgreeOnBlocks decrypted (ede3_decryption key)
     × Decrypts decrypted (Cbc vector) Pkcs7 (passage_of (Some encrypted) (Some []) (Some []) (Some plain))
 
 -- they are one sequence in DER
@@ -27,7 +27,7 @@ IsDecryptedKey key vector encrypted plain = IsPlain key vector encrypted plain �
 -- all of the bytes are blocks, and decrypted so they do not end with the padding of PKCS #7
 abbrev pub HasOtherPadding : (key vector encrypted : List ℕ) → Type 0
 HasOtherPadding key vector encrypted =
-    (decrypted : List ℕ → List ℕ) × AnswerAlike decrypted (ede3_decryption key)
+    (decrypted : List ℕ → List ℕ) × AgreeOnBlocks decrypted (ede3_decryption key)
     × ((read_to : Option (List ℕ)) × (written_to : Option (List ℕ))
     × IsWronglyPadded decrypted (Cbc vector) Pkcs7 (passage_of (Some encrypted) read_to (Some []) written_to))
 

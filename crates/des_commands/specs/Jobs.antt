@@ -3,7 +3,7 @@ use Rattle.std.specs.Prelude.{◌≡◌, ◌≢◌, ◌⊎◌, ℕ, ◌-◌, ◌
 use Rattle.std.specs.Io.KnownBytes.{Appends, IsAtEnd}
 use Rattle.des.specs.Blocks.{AreBytes, IsBlock}
 use Rattle.des.specs.Des.{encryption, decryption}
-use Rattle.des.specs.Relations.{AnswerAlike}
+use Rattle.des.specs.Relations.{AgreeOnBlocks}
 use Rattle.des.specs.TripleCiphers.{ede3_encryption, ede3_decryption, ede2_encryption, ede2_decryption}
 use Rattle.des_io.specs.Streams.{Passage, passage_of, Encrypts, Decrypts, Skips, DecryptsPart}
 use Rattle.des_modes.specs.Cfb.{Cfb as InCfb}
@@ -63,8 +63,8 @@ GoesOnFromBlock (Cbc vector) = IsBlock vector
 -- functions make of each block what a job's key does, and blocks are all that they are asked for, since CBC goes on from
 -- one
 pub record AreOfKey (encrypted decrypted : List ℕ → List ℕ) (job : Job) : Type 0 where
-  pub encrypts : AnswerAlike encrypted (encryption_of job.cipher job.key.now)
-  pub decrypts : AnswerAlike decrypted (decryption_of job.cipher job.key.now)
+  pub encrypts : AgreeOnBlocks encrypted (encryption_of job.cipher job.key.now)
+  pub decrypts : AgreeOnBlocks decrypted (decryption_of job.cipher job.key.now)
   pub from_block : GoesOnFromBlock job.begin
 
 -- ---- what is done

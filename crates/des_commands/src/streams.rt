@@ -4,7 +4,7 @@ pub mod passwords;
 pub mod progress_reader;
 
 ghost use Rattle.std.specs.Prelude.{◌≡◌, ◌<◌, length, IfOk, IfErr};
-ghost use Rattle.des.specs.Relations.{AnswerAlike};
+ghost use Rattle.des.specs.Relations.{AgreeOnBlocks};
 ghost use Rattle.des_modes.specs.States.{HasBegun};
 ghost use Rattle.des_io.specs.Streams.{passage_of};
 ghost use Rattle.des_commands.specs.StreamRequests.{from_of};
@@ -189,8 +189,8 @@ fn run_in<C: ManyBlocks, R: Read, W: Write>(
 
 /// The cipher of a key, which makes of each block what the key does.
 pub fn cipher_of<C: KeyedCipher>(key: &C::Key) -> C
-    ensures encrypts { AnswerAlike (C.encrypted result) (C.encryption (C.Key.bytes_of key.now)) }
-    ensures decrypts { AnswerAlike (C.decrypted result) (C.decryption (C.Key.bytes_of key.now)) }
+    ensures encrypts { AgreeOnBlocks (C.encrypted result) (C.encryption (C.Key.bytes_of key.now)) }
+    ensures decrypts { AgreeOnBlocks (C.decrypted result) (C.decryption (C.Key.bytes_of key.now)) }
 {
     key.as_bytes();
     C::new(key)

@@ -6,14 +6,14 @@ use Rattle.std.specs.List.{All}
 use Rattle.std.proofs.lemmas.Grind.{common_steps}
 use Rattle.std.proofs.lemmas.List.Elements.{All-cons, All-from_get_or, All-take}
 use Rattle.des.specs.Blocks.{IsBlock, IsKey}
-use Rattle.des.specs.Cbc.{block_at, block_before, next_vector, Chains}
+use Rattle.des.specs.Cbc.{block_at, block_before, next_vector, CbcUnder}
 use Rattle.des.specs.Relations.{IsTheOne, TakesBlock}
-use Rattle.des.proofs.ChainedPieces.{Chains-append}
-use Rattle.des.proofs.Graphs.{HasOneAnswerEachWay-key, IsGraphOf-encryption, IsGraphOf-decryption}
-use Rattle.des.proofs.TripleGraphs.{AnswerBy, AnswerBy-Triple}
-use Rattle.des.proofs.UnchainedLists.{unchained, Unchains-unchained, unchained-from}
+use Rattle.des.proofs.ChainedPieces.{CbcUnder-append}
+use Rattle.des.proofs.Graphs.{IsBijection-key, IsGraphOf-encryption, IsGraphOf-decryption}
+use Rattle.des.proofs.TripleGraphs.{HasGraphs, HasGraphs-Triple}
+use Rattle.des.proofs.CbcDecryptedLists.{cbc_decrypted, CbcDecrypts-cbc_decrypted, cbc_decrypted-from}
 use Rattle.des.proofs.XoredBlocks.{xor_blocks-undone}
-use Rattle.des_fast.proofs.RelatedChains.{Chains-related_back}
+use Rattle.des_fast.proofs.RelatedCbc.{CbcUnder-related_back}
 use Rattle.des_io.specs.PaddedBytes.{padded, taken_off}
 use Rattle.des_io.specs.Streams.{joined}
 use Rattle.des_io.specs.declared.padding.Padding.TheVariants.{Pkcs7, Unpadded}
@@ -31,15 +31,15 @@ use borrow.Rule.Slice.PartMut.{put_mid}
 use lib.Seq.{take-add}
 
 -- a key's graphs are its relation
-pub AnswerBy-cipher_type : (cipher_type : CipherType) (key : List ℕ) → IsKey (8 * parts_of cipher_type) key
-    → AnswerBy (encryption_by cipher_type key) (decryption_by cipher_type key) (λ x y. relation_by cipher_type key x y)
-AnswerBy-cipher_type Des key is = record {
-  one_answer_each_way = HasOneAnswerEachWay-key key is;
+pub HasGraphs-cipher_type : (cipher_type : CipherType) (key : List ℕ) → IsKey (8 * parts_of cipher_type) key
+    → HasGraphs (encryption_by cipher_type key) (decryption_by cipher_type key) (λ x y. relation_by cipher_type key x y)
+HasGraphs-cipher_type Des key is = record {
+  bijective = IsBijection-key key is;
   encryption = IsGraphOf-encryption key is;
   decryption = IsGraphOf-decryption key is;
 }
-AnswerBy-cipher_type Ede2 key is = AnswerBy-Triple false true key is
-AnswerBy-cipher_type Ede3 key is = AnswerBy-Triple true true key is
+HasGraphs-cipher_type Ede2 key is = HasGraphs-Triple false true key is
+HasGraphs-cipher_type Ede3 key is = HasGraphs-Triple true true key is
 
 -- ---- the plaintext of blocks
 
@@ -54,28 +54,28 @@ pub IsPlainOf-append : {Relates : List ℕ → List ℕ → Type 0} {iv bytes ot
     → IsPlainOf Relates iv q bytes → IsPlainOf Relates (next_vector iv q) more other
     → IsPlainOf Relates iv (q ++ more) (bytes ++ other)
 IsPlainOf-append (p, chains, is) (r, also, so) =
-    (p ++ r, Chains-append _ _ p _ r _ chains also, joined-append p r ∙ ap₂ ◌++◌ is so)
+    (p ++ r, CbcUnder-append _ _ p _ r _ chains also, joined-append p r ∙ ap₂ ◌++◌ is so)
 
 -- there is one
-pub IsTheOne-plain : {forth back : List ℕ → List ℕ} {Relates : List ℕ → List ℕ → Type 0} → AnswerBy forth back Relates
+pub IsTheOne-plain : {forth back : List ℕ → List ℕ} {Relates : List ℕ → List ℕ → Type 0} → HasGraphs forth back Relates
     → (iv : List ℕ) (q : List (List ℕ)) → IsBlock iv → All IsBlock q
-    → IsTheOne (IsPlainOf Relates iv q) (joined (unchained back iv q))
+    → IsTheOne (IsPlainOf Relates iv q) (joined (cbc_decrypted back iv q))
 IsTheOne-plain {forth} {back} {Relates} by iv q is_iv are =
     let undone : (block : List ℕ) → IsBlock block → TakesBlock forth (back block) block =
     λ block is. (by.encryption (back block) block).0 ((by.decryption block (back block)).1 (is, refl)) in (
       (
-        unchained back iv q,
-        Chains-related_back Relates forth back by.encryption iv (unchained back iv q) q is_iv are
+        cbc_decrypted back iv q,
+        CbcUnder-related_back Relates forth back by.encryption iv (cbc_decrypted back iv q) q is_iv are
             (λ block is. (undone block is).0) (λ block is. (undone block is).1)
-            (Unchains-unchained back iv q (unchained back iv q) refl),
+            (CbcDecrypts-cbc_decrypted back iv q (cbc_decrypted back iv q) refl),
         refl,
       ),
       λ bytes is.
           let p : List (List ℕ) = is.0 in
-          let chains : Chains Relates iv p q = is.1 in
-          sym is.2 ∙ ap joined (unchained-from back iv q p (record {
+          let chains : CbcUnder Relates iv p q = is.1 in
+          sym is.2 ∙ ap joined (cbc_decrypted-from back iv q p (record {
             count = sym chains.count;
-            unchained = λ n from within.
+            cbc_decrypted = λ n from within.
                 let inside : n ≤ length p = omega (arith, chains.count) in
                 let before : IsBlock (block_before iv q n) = All-cons IsBlock iv q is_iv are (n - 1) [] (omega arith) in
                 rw (
@@ -107,12 +107,12 @@ pub opened-some : {Relates : List ℕ → List ℕ → Type 0} {vector : List �
 opened-some encrypted plain opened = omega (arith, length-plain opened.1, length-padded Pkcs7 plain takes_off)
 
 -- the last of the blocks is decrypted by the CBC that goes on after the others
-module _ {forth back : List ℕ → List ℕ} {Relates : List ℕ → List ℕ → Type 0} (by : AnswerBy forth back Relates)
+module _ {forth back : List ℕ → List ℕ} {Relates : List ℕ → List ℕ → Type 0} (by : HasGraphs forth back Relates)
     (vector encrypted : List ℕ) (front : List (List ℕ)) (last end : List ℕ) (is_vector : IsBlock vector)
     (whole : AreWhole encrypted) (are : All IsBlock (blocks_of encrypted))
     (cut : blocks_of encrypted ≡ front ++ (last ∷ []))
     (ends : IsPlainOf Relates (next_vector vector front) (last ∷ []) end) where
-  started : IsTheOne (IsPlainOf Relates vector front) (joined (unchained back vector front))
+  started : IsTheOne (IsPlainOf Relates vector front) (joined (cbc_decrypted back vector front))
   started =
       IsTheOne-plain by vector front is_vector
       (subst (All IsBlock) (ap (take (length front)) cut ∙ take_at front (last ∷ []) (length front) refl)
@@ -128,7 +128,7 @@ module _ {forth back : List ℕ → List ℕ} {Relates : List ℕ → List ℕ �
 
   pub EndsWith-padded : (plain : List ℕ) → padded Pkcs7 plain ≡ end → EndsWith Relates vector encrypted front plain
   EndsWith-padded plain pads = record {
-    some = (joined (unchained back vector front), started.0);
+    some = (joined (cbc_decrypted back vector front), started.0);
     opens = λ start is.
         let same : padded Pkcs7 (start ++ plain) ≡ start ++ end =
         padded-append Pkcs7 start plain (omega (arith, length-plain is)) ∙ ap (λ (l : List ℕ). start ++ l) pads in (
@@ -143,7 +143,7 @@ module _ {forth back : List ℕ → List ℕ} {Relates : List ℕ → List ℕ �
   pub opened-never : ((rest : List ℕ) → padded Pkcs7 rest ≢ end) → (plain : List ℕ)
       → ¬ (IsOpened Relates vector encrypted plain)
   opened-never never plain opened =
-      let start : List ℕ = joined (unchained back vector front) in
+      let start : List ℕ = joined (cbc_decrypted back vector front) in
       let parts = last_padded Pkcs7 plain start end takes_off (length-plain ends) (omega (arith, length-plain started.0))
       ((all start started.0).1 (padded Pkcs7 plain) opened.1) in
       never parts.0 parts.2

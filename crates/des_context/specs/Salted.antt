@@ -1,6 +1,6 @@
 -- What `openssl enc` encrypted under a password by CBC: what there is to be opened, and the first fault.
 use Rattle.std.specs.Prelude.{◌≡◌, ◌≢◌, ◌⊎◌, ◌<◌, ◌≤◌, ℕ, ℤ, ◌+◌, List, ◌++◌, length, take, drop, codes, Option, Some, None}
-use Rattle.des.specs.Cbc.{Chains}
+use Rattle.des.specs.Cbc.{CbcUnder}
 use Rattle.des.specs.Relations.{IsTheOne}
 use Rattle.des_context.specs.Bytes.{AreWhole, blocks_of}
 use Rattle.des_context.specs.CipherTypes.{relation_of}
@@ -16,7 +16,7 @@ use Rattle.des_passwords.specs.declared.derivation.Derivation.{Derivation}
 
 -- the bytes of the blocks that CBC encrypted to these from a vector
 abbrev pub IsPlainOf : (List ℕ → List ℕ → Type 0) → List ℕ → List (List ℕ) → List ℕ → Type 0
-IsPlainOf relation vector blocks bytes = (p : List (List ℕ)) × Chains relation vector p blocks × (joined p ≡ bytes)
+IsPlainOf relation vector blocks bytes = (p : List (List ℕ)) × CbcUnder relation vector p blocks × (joined p ≡ bytes)
 
 -- bytes and their padding, by PKCS#7, are what was encrypted by CBC from a vector
 abbrev pub IsOpened : (List ℕ → List ℕ → Type 0) → List ℕ → List ℕ → List ℕ → Type 0

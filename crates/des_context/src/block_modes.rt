@@ -6,7 +6,7 @@
 
 ghost use Rattle.std.specs.Prelude.{◌≡◌, ◌≢◌, ◌↔◌, ℕ, List, IsTrue};
 ghost use Rattle.des.specs.Blocks.{AnswersEach};
-ghost use Rattle.des.specs.Cbc.{Chains, next_vector};
+ghost use Rattle.des.specs.Cbc.{CbcUnder, next_vector};
 ghost use Rattle.des.specs.Relations.{IsTheOne};
 ghost use Rattle.des_context.specs.Bytes.{AreBytesOf, FitInto};
 ghost use Rattle.des_context.specs.Contexts.{HasCipherType, HasMark, IsContextOf, IsSoundIfMarked};
@@ -60,7 +60,7 @@ fn encrypt_cbc_by<C: ContextCipher + ManyBlocks>(
     requires cipher_type { HasCipherType C.CIPHER_TYPE context.now }
     requires made { (key : List ℕ) × IsContextOf context.now key }
     ensures chained { (key : List ℕ) → IsContextOf context.now key
-        → Chains (relation_of key) iv.old blocks.old blocks.new }
+        → CbcUnder (relation_of key) iv.old blocks.old blocks.new }
     ensures goes_on { iv.new ≡ next_vector iv.old blocks.new }
 {
     C::of(context).encrypt_cbc_list(no_tables, iv, blocks);
@@ -78,7 +78,7 @@ fn decrypt_cbc_by<C: ContextCipher + ManyBlocks, S: Slice>(
     requires cipher_type { HasCipherType C.CIPHER_TYPE context.now }
     requires made { (key : List ℕ) × IsContextOf context.now key }
     ensures { (key : List ℕ) → IsContextOf context.now key
-        → Chains (relation_of key) iv.now blocks.new blocks.old }
+        → CbcUnder (relation_of key) iv.now blocks.new blocks.old }
 {
     C::of(context).decrypt_cbc_list_by::<S>(no_tables, iv, blocks);
 }
@@ -94,7 +94,7 @@ pub(crate) fn decrypt_cbc_blocks<S: Slice>(
     requires cipher_type { HasCipherType cipher context.now }
     requires made { (key : List ℕ) × IsContextOf context.now key }
     ensures { (key : List ℕ) → IsContextOf context.now key
-        → Chains (relation_of key) iv.now blocks.new blocks.old }
+        → CbcUnder (relation_of key) iv.now blocks.new blocks.old }
 {
     dispatch_cipher!(cipher, decrypt_cbc_by::<S>(context, no_tables, iv, blocks))
 }
@@ -152,7 +152,7 @@ pub fn encrypt_cbc(context: &[u64], iv: &mut [u8; 8], blocks: &mut [[u8; 8]], si
     ensures refused { (result ≡ ERR_BLOCKS)
         ↔ (HasMark NO_MAC context.now × ¬ (AreBytesOf blocks.old size)) }
     ensures chained { result ≡ OK → (key : List ℕ) → IsContextOf context.now key
-        → Chains (relation_of key) iv.old blocks.old blocks.new }
+        → CbcUnder (relation_of key) iv.old blocks.old blocks.new }
     ensures goes_on { result ≡ OK → iv.new ≡ next_vector iv.old blocks.new }
     ensures kept { result ≢ OK → (blocks.new ≡ blocks.old) × (iv.new ≡ iv.old) }
 {
@@ -180,7 +180,7 @@ pub fn decrypt_cbc<S: Slice>(
     ensures refused { (result ≡ ERR_BLOCKS)
         ↔ (HasMark NO_MAC context.now × ¬ (AreBytesOf blocks.old size)) }
     ensures chained { result ≡ OK → (key : List ℕ) → IsContextOf context.now key
-        → Chains (relation_of key) iv.old blocks.new blocks.old }
+        → CbcUnder (relation_of key) iv.old blocks.new blocks.old }
     ensures goes_on { result ≡ OK → iv.new ≡ next_vector iv.old blocks.old }
     ensures kept { result ≢ OK → (blocks.new ≡ blocks.old) × (iv.new ≡ iv.old) }
 {

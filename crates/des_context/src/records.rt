@@ -6,7 +6,7 @@ ghost use Rattle.des_fast.specs.Records.{GoOn};
 ghost use Rattle.des_context.specs.Bytes.{AreBytesOf};
 ghost use Rattle.des_context.specs.CipherTypes.{relation_of};
 ghost use Rattle.des_context.specs.Contexts.{HasCipherType, HasMark, IsContextOf, IsSoundIfMarked};
-ghost use Rattle.des_context.specs.Records.{AreSizesOf, ChainRecords, ChainsEach};
+ghost use Rattle.des_context.specs.Records.{AreSizesOf, ChainedByKey, CbcUnderEach};
 
 use crate::ciphers::{ContextCipher, dispatch_cipher};
 use crate::contexts::{NO_MAC, opened};
@@ -23,7 +23,7 @@ fn encrypt_records<C: ContextCipher + SpreadOnce, S: Slice>(
 ) -> i32
     requires cipher_type { HasCipherType C.CIPHER_TYPE context.now }
     requires made { (key : List ℕ) × IsContextOf context.now key }
-    ensures { ChainRecords context.now sizes.now vectors.old vectors.new blocks.old blocks.new
+    ensures { ChainedByKey context.now sizes.now vectors.old vectors.new blocks.old blocks.new
         blocks.old blocks.new result }
 {
     let keys = C::of(context).spread_keys::<S>();
@@ -43,7 +43,7 @@ fn decrypt_records<C: ContextCipher + SpreadOnce, S: Slice>(
 ) -> i32
     requires cipher_type { HasCipherType C.CIPHER_TYPE context.now }
     requires made { (key : List ℕ) × IsContextOf context.now key }
-    ensures { ChainRecords context.now sizes.now vectors.old vectors.new blocks.old blocks.new
+    ensures { ChainedByKey context.now sizes.now vectors.old vectors.new blocks.old blocks.new
         blocks.new blocks.old result }
 {
     let keys = C::of(context).spread_keys::<S>();
@@ -74,7 +74,7 @@ pub fn encrypt_cbc_records<S: Slice>(
     ensures refused { (result ≡ ERR_COUNTS) ↔ (HasMark NO_MAC context.now
         × AreBytesOf blocks.old size × ¬ (AreSizesOf sizes.now vectors.old blocks.old)) }
     ensures chained { result ≡ OK → (key : List ℕ) → IsContextOf context.now key
-        → ChainsEach (relation_of key) sizes.now vectors.old blocks.old blocks.new }
+        → CbcUnderEach (relation_of key) sizes.now vectors.old blocks.old blocks.new }
     ensures goes_on { result ≡ OK → GoOn sizes.now vectors.old blocks.new vectors.new }
     ensures count { (length vectors.new ≡ length vectors.old)
         × (length blocks.new ≡ length blocks.old) }
@@ -110,7 +110,7 @@ pub fn decrypt_cbc_records<S: Slice>(
     ensures refused { (result ≡ ERR_COUNTS) ↔ (HasMark NO_MAC context.now
         × AreBytesOf blocks.old size × ¬ (AreSizesOf sizes.now vectors.old blocks.old)) }
     ensures chained { result ≡ OK → (key : List ℕ) → IsContextOf context.now key
-        → ChainsEach (relation_of key) sizes.now vectors.old blocks.new blocks.old }
+        → CbcUnderEach (relation_of key) sizes.now vectors.old blocks.new blocks.old }
     ensures goes_on { result ≡ OK → GoOn sizes.now vectors.old blocks.old vectors.new }
     ensures count { (length vectors.new ≡ length vectors.old)
         × (length blocks.new ≡ length blocks.old) }

@@ -4,7 +4,7 @@ use Rattle.std.specs.List.{All}
 use Rattle.std.proofs.lemmas.Bool.{cases_eq}
 use Rattle.std.proofs.lemmas.List.{length-drop, get_or-take, get_or-drop}
 use Rattle.des.specs.Blocks.{IsBlock}
-use Rattle.des.specs.Cbc.{xor_blocks, next_vector, Cbc, Unchains}
+use Rattle.des.specs.Cbc.{xor_blocks, next_vector, Cbc, CbcDecrypts}
 use Rattle.des.proofs.ChainedPieces.{next_vector-last}
 use Rattle.des_fast.specs.RecordStates.{chain_after, cipher_before, IsAnswered}
 
@@ -109,17 +109,17 @@ next_vector-chained f vector end p q place size within is =
     next_vector-links (chain_after f vector p place) vector end place size q within refl is.answered is.end
 
 -- out of the chain
-pub Unchains-from_answered : (f : List ℕ → List ℕ) (vector end : List ℕ) (q p : List (List ℕ)) (place size : ℕ)
+pub CbcDecrypts-from_answered : (f : List ℕ → List ℕ) (vector end : List ℕ) (q p : List (List ℕ)) (place size : ℕ)
     → place + size ≤ length q → length p ≡ length q
     → IsAnswered (cipher_before vector q place)
     (λ j. xor_blocks (f (get_or q (place + j) [])) (cipher_before vector q place j)) q p place size end size
-    → Unchains f vector (take size (drop place q)) (take size (drop place p))
-Unchains-from_answered f vector end q p place size within same is =
+    → CbcDecrypts f vector (take size (drop place q)) (take size (drop place p))
+CbcDecrypts-from_answered f vector end q p place size within same is =
     let in_q : length (take size (drop place q)) ≡ size = length-record place size q within in
     let in_p : length (take size (drop place p)) ≡ size = length-record place size p (omega arith) in
     record {
       count = in_p ∙ sym in_q;
-      unchained = λ n from to.
+      cbc_decrypted = λ n from to.
           let low : n - 1 < size = omega arith in
           at-record place size p (n - 1) low
           ∙ is.answered (n - 1) low
@@ -129,8 +129,8 @@ Unchains-from_answered f vector end q p place size within same is =
     }
 
 -- and it goes on from its last block
-pub next_vector-unchained : (made : ℕ → List ℕ) (vector end : List ℕ) (q p : List (List ℕ)) (place size : ℕ)
+pub next_vector-cbc_decrypted : (made : ℕ → List ℕ) (vector end : List ℕ) (q p : List (List ℕ)) (place size : ℕ)
     → place + size ≤ length q → IsAnswered (cipher_before vector q place) made q p place size end size
     → end ≡ next_vector vector (take size (drop place q))
-next_vector-unchained made vector end q p place size within is =
+next_vector-cbc_decrypted made vector end q p place size within is =
     next_vector-links (cipher_before vector q place) vector end place size q within refl (λ j below. refl) is.end

@@ -53,11 +53,11 @@ pub mod RecordPlaces
 pub mod AnsweredRecords
 pub mod WrittenRecords
 pub mod ChainedRecords
-pub mod UnchainedRecords
+pub mod CbcDecryptedRecords
 pub mod JoinedEntries
 pub mod EachByte
 pub mod ChosenTerms
 pub mod ExpandedEntries
 pub mod PassDirections
-pub mod RelatedChains
+pub mod RelatedCbc
 mod RelatedTriples

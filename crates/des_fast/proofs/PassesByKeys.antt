@@ -11,7 +11,7 @@ use Rattle.des_fast.specs.declared.many.lanes.PassPart.{PassPart}
 use Rattle.des_fast.specs.RoundKeySlices.{round_keys_in}
 use Rattle.des_fast.specs.Passes.{block_through_passes}
 use Rattle.des_fast.specs.EachKey.{round_keys_of_parts, triple_parts, lane_output}
-use Rattle.des_fast.specs.LaneKeys.{answer_in}
+use Rattle.des_fast.specs.LaneKeys.{block_in}
 use Rattle.des_fast.proofs.ThreePasses.{block_through_passes-three}
 
 -- a key that is the whole of its first part
@@ -32,14 +32,14 @@ lane-by_parts bit passes parts answer keys k spread is =
 -- one pass under the first part of a key that has no other
 pub one_part : (deciphers : Bool) (key : List ℕ) → length key ≡ 8
     → block_through_passes (round_keys_of_parts (record { number = 1; deciphers = deciphers } ∷ []) key)
-    ≡ answer_in deciphers encryption decryption key
+    ≡ block_in deciphers encryption decryption key
 one_part true key size = ap decryption (part-whole key size)
 one_part false key size = ap encryption (part-whole key size)
 
 -- the passes of a triple cipher under its parts
 pub three_parts : (has_three second deciphers : Bool) (key : List ℕ)
     → block_through_passes (round_keys_of_parts (triple_parts has_three second deciphers) key)
-    ≡ answer_in deciphers (triple_encryption has_three second) (triple_decryption has_three second) key
+    ≡ block_in deciphers (triple_encryption has_three second) (triple_decryption has_three second) key
 three_parts true true true key = block_through_passes-three _ _ _
 three_parts true true false key = block_through_passes-three _ _ _
 three_parts true false true key = block_through_passes-three _ _ _

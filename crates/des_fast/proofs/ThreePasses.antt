@@ -4,35 +4,35 @@ use Rattle.std.proofs.Math.ListN.{set}
 use Rattle.std.proofs.Math.Path.{fun_ext}
 use Rattle.des.specs.Bits.{bits_of_bytes}
 use Rattle.des.specs.Blocks.{block_of_bits}
-use Rattle.des.specs.Rounds.{through_rounds, answer_by}
+use Rattle.des.specs.Rounds.{through_rounds, block_by_keys}
 use Rattle.des.specs.Triple.{through}
 use Rattle.des.specs.Laws.BlockBits.{bits_of_bytes-block_of_bits}
 use Rattle.des.specs.Laws.RoundsUndone.{length-through_rounds}
 use Rattle.des_fast.specs.Passes.{block_through_passes}
 
 -- the bits of the block that a pass makes
-bits_of_bytes-answer_by : (keys : List (List Bool)) (block : List ℕ)
-    → bits_of_bytes (answer_by keys block) ≡ through_rounds keys (bits_of_bytes block)
-bits_of_bytes-answer_by keys block =
+bits_of_bytes-block_by_keys : (keys : List (List Bool)) (block : List ℕ)
+    → bits_of_bytes (block_by_keys keys block) ≡ through_rounds keys (bits_of_bytes block)
+bits_of_bytes-block_by_keys keys block =
     bits_of_bytes-block_of_bits (through_rounds keys (bits_of_bytes block))
     (length-through_rounds keys (bits_of_bytes block))
 
 -- three passes are three answers
 pub block_through_passes-three : (first second third : List (List Bool))
     → block_through_passes (first ∷ second ∷ third ∷ [])
-    ≡ through (answer_by first) (answer_by second) (answer_by third)
+    ≡ through (block_by_keys first) (block_by_keys second) (block_by_keys third)
 block_through_passes-three first second third =
     fun_ext (λ (block : List ℕ).
     let bits : List Bool = bits_of_bytes block in
-    let one : bits_of_bytes (answer_by first block) ≡ through_rounds first bits = bits_of_bytes-answer_by first block in
-    let two : bits_of_bytes (answer_by second (answer_by first block))
+    let one : bits_of_bytes (block_by_keys first block) ≡ through_rounds first bits = bits_of_bytes-block_by_keys first block in
+    let two : bits_of_bytes (block_by_keys second (block_by_keys first block))
     ≡ through_rounds second (through_rounds first bits) =
-    bits_of_bytes-answer_by second (answer_by first block) ∙ ap (through_rounds second) one in
+    bits_of_bytes-block_by_keys second (block_by_keys first block) ∙ ap (through_rounds second) one in
     ap (λ (bits : List Bool). block_of_bits (through_rounds third bits)) (sym two))
 
 -- and one pass is one
 pub block_through_passes-one : (keys : List (List Bool))
-    → block_through_passes (keys ∷ []) ≡ (λ block. answer_by keys block)
+    → block_through_passes (keys ∷ []) ≡ (λ block. block_by_keys keys block)
 unfolding through_rounds
 block_through_passes-one keys = refl
 

@@ -6,7 +6,7 @@ use Rattle.des.specs.Blocks.{IsKey}
 use Rattle.des.specs.Relations.{AreGraphsOf}
 use Rattle.des.specs.KeySchedule.{key_schedule}
 use Rattle.des.specs.Enciphering.{Enciphers}
-use Rattle.des.specs.Rounds.{answer_by}
+use Rattle.des.specs.Rounds.{block_by_keys}
 use Rattle.des.specs.Des.{encryption, decryption}
 use Rattle.des_fast.specs.declared.single.Des.{Des}
 use Rattle.des_fast.specs.HalfBlocks.{round_keys_of}
@@ -23,8 +23,8 @@ IsDesMadeFrom cipher key =
 
 -- the block that the cipher makes of a block by encryption, with the round keys that it holds
 abbrev pub encrypted : {W : Type 0} → Des W → List ℕ → List ℕ
-encrypted cipher block = answer_by (round_keys_of cipher.schedule.round_keys) block
+encrypted cipher block = block_by_keys (round_keys_of cipher.schedule.round_keys) block
 
 -- the block that the cipher makes of a block by decryption
 abbrev pub decrypted : {W : Type 0} → Des W → List ℕ → List ℕ
-decrypted cipher block = answer_by (reverse (round_keys_of cipher.schedule.round_keys)) block
+decrypted cipher block = block_by_keys (reverse (round_keys_of cipher.schedule.round_keys)) block

@@ -46,7 +46,7 @@ pub record IsExpansion (word : ℕ) : Type 0 where
   pub of_groups : IsOfGroups word
   pub expanded : bits_of_groups word ≡ select expansion (half_of word)
 
--- ---- fours of bits
+-- ---- four bits each
 
 -- four bits in place n, from 1, of several places for four bits each, with zeros in the others
 abbrev pub in_place : ℕ → ℕ → List Bool → List Bool

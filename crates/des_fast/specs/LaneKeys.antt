@@ -5,14 +5,14 @@ use Rattle.des_fast.specs.SpreadKeys.{used}
 use Rattle.des_fast.specs.EachKey.{lane_output}
 
 -- of what a cipher answers in its two directions, that of decryption if it is asked for
-abbrev pub answer_in : Bool → (List ℕ → List ℕ → List ℕ) → (List ℕ → List ℕ → List ℕ)
+abbrev pub block_in : Bool → (List ℕ → List ℕ → List ℕ) → (List ℕ → List ℕ → List ℕ)
     → List ℕ → List ℕ → List ℕ
-answer_in false encryption decryption = encryption
-answer_in true encryption decryption = decryption
+block_in false encryption decryption = encryption
+block_in true encryption decryption = decryption
 
 -- the lanes answer a block so, each under the key at its place
-abbrev pub AnswerLanes : {A : Type 0} → (ℕ → A → Bool) → LaneKeys A → (List ℕ → List ℕ → List ℕ)
+abbrev pub RelateLanes : {A : Type 0} → (ℕ → A → Bool) → LaneKeys A → (List ℕ → List ℕ → List ℕ)
     → List (List ℕ) → Type 0
-AnswerLanes bit lanes answer keys =
+RelateLanes bit lanes answer keys =
     (k : ℕ) → k < length keys
     → lane_output (bit k) (used lanes.is_triple lanes.passes) ≡ answer (slice_index_or keys k [])

@@ -43,19 +43,19 @@ pub record AreChainedBelow (encryption : List ℕ → List ℕ) (sizes : List �
   pub rest : (k : ℕ) → m ≤ k → k < length sizes → IsChained encryption sizes first p vectors blocks k 0
 
 -- the first n blocks of record k are out of the chain
-abbrev pub IsUnchained : (List ℕ → List ℕ) → List ℕ → List (List ℕ) → List (List ℕ) → List (List ℕ)
+abbrev pub IsCbcDecrypted : (List ℕ → List ℕ) → List ℕ → List (List ℕ) → List (List ℕ) → List (List ℕ)
     → List (List ℕ) → ℕ → ℕ → Type 0
-IsUnchained decryption sizes first q vectors blocks k n =
+IsCbcDecrypted decryption sizes first q vectors blocks k n =
     let before : ℕ → List ℕ = cipher_before (slice_index_or first k []) q (start sizes k) in
     IsAnswered before (λ j. xor_blocks (decryption (slice_index_or q (start sizes k + j) [])) (before j)) q blocks
     (start sizes k) (slice_index sizes k) (slice_index_or vectors k []) n
 
 -- the blocks below a place are out of their chains, and the others are as they were
-abbrev pub AreUnchainedBelow : (List ℕ → List ℕ) → List ℕ → List (List ℕ) → List (List ℕ) → List (List ℕ)
+abbrev pub AreCbcDecryptedBelow : (List ℕ → List ℕ) → List ℕ → List (List ℕ) → List (List ℕ) → List (List ℕ)
     → List (List ℕ) → ℕ → Type 0
-AreUnchainedBelow decryption sizes first q vectors blocks place =
+AreCbcDecryptedBelow decryption sizes first q vectors blocks place =
     (k : ℕ) → k < length sizes
-    → IsUnchained decryption sizes first q vectors blocks k (min (place - start sizes k) (slice_index sizes k))
+    → IsCbcDecrypted decryption sizes first q vectors blocks k (min (place - start sizes k) (slice_index sizes k))
 
 -- block i of the records from `from` on, n of them, is written from lanes if the record has one, and the vector too;
 -- the rest is as it was

@@ -1,6 +1,6 @@
 -- Records, one after another in a list of blocks: record k, from 0, has `sizes` at k of them.
 use Rattle.std.specs.Prelude.{◌≡◌, ℕ, ◌<◌, List, [], length, take, drop, sum, slice_index, slice_index_or}
-use Rattle.des.specs.Cbc.{Cbc, Unchains, next_vector}
+use Rattle.des.specs.Cbc.{Cbc, CbcDecrypts, next_vector}
 
 -- the index of the first block of record k: the blocks of the records before it
 abbrev pub start : List ℕ → ℕ → ℕ
@@ -17,10 +17,10 @@ CbcEach encryption sizes vectors p q =
     → Cbc encryption (slice_index_or vectors k []) (record_of sizes p k) (record_of sizes q k)
 
 -- the same read from q to p
-abbrev pub UnchainsEach : (List ℕ → List ℕ) → List ℕ → List (List ℕ) → List (List ℕ) → List (List ℕ) → Type 0
-UnchainsEach decryption sizes vectors q p =
+abbrev pub CbcDecryptsEach : (List ℕ → List ℕ) → List ℕ → List (List ℕ) → List (List ℕ) → List (List ℕ) → Type 0
+CbcDecryptsEach decryption sizes vectors q p =
     (k : ℕ) → k < length vectors
-    → Unchains decryption (slice_index_or vectors k []) (record_of sizes q k) (record_of sizes p k)
+    → CbcDecrypts decryption (slice_index_or vectors k []) (record_of sizes q k) (record_of sizes p k)
 
 -- the vectors with which the chains go on after their ciphertext
 abbrev pub GoOn : List ℕ → List (List ℕ) → List (List ℕ) → List (List ℕ) → Type 0

@@ -5,7 +5,7 @@ ghost use Rattle.std.specs.Prelude.{◌≡◌, ◌<◌, ◌≤◌, ℕ, List, []
 ghost use Rattle.std.specs.List.{All};
 ghost use Rattle.des.specs.Bits.{bits_of_bytes, bits_of_word};
 ghost use Rattle.des.specs.Blocks.{IsBlock};
-ghost use Rattle.des.specs.Cbc.{Unchains};
+ghost use Rattle.des.specs.Cbc.{CbcDecrypts};
 ghost use Rattle.des_fast.specs.Slices.{InEachBlock};
 ghost use Rattle.des_fast.specs.Groups.{half_of};
 ghost use Rattle.des_fast.specs.HalfBlocks.{first_halves, last_block};
@@ -129,7 +129,7 @@ fn decrypt_cbc_part<W: BoxLookup, A: BlockTransform>(
 )
     requires some { 1 ≤ length blocks.old }
     requires few { length blocks.old ≤ W.Groups.BLOCKS }
-    ensures { Unchains (A.output passes.now) iv.now blocks.old blocks.new }
+    ensures { CbcDecrypts (A.output passes.now) iv.now blocks.old blocks.new }
 {
     let last = blocks.len() - 1;
     let before = [*iv, blocks[0], blocks[last.min(1)], blocks[last.min(2)]];
@@ -180,7 +180,7 @@ pub(crate) fn decrypt_cbc<W: BoxLookup, A: BlockTransform>(
     passes: &A,
 )
     ensures blocks { All IsBlock blocks.old }
-    ensures unchained { Unchains (A.output passes.now) iv.now blocks.old blocks.new }
+    ensures cbc_decrypted { CbcDecrypts (A.output passes.now) iv.now blocks.old blocks.new }
 {
     are_blocks(blocks);
     let mut before = *iv;

@@ -21,7 +21,7 @@
 ghost use Rattle.std.specs.Prelude.{◌≡◌, ℕ, List, map};
 ghost use Rattle.std.specs.List.{All};
 ghost use Rattle.des.specs.Blocks.{AnswersEach, IsBlock};
-ghost use Rattle.des.specs.Cbc.{Cbc, Chains, Unchains, xor_blocks};
+ghost use Rattle.des.specs.Cbc.{Cbc, CbcUnder, CbcDecrypts, xor_blocks};
 ghost use Rattle.des.specs.Relations.{IsTheOne};
 ghost use Rattle.des_fast.specs.SpreadKeys.{AreSlicesFor};
 
@@ -105,16 +105,16 @@ pub trait ManyBlocks: Relating {
         ensures blocks { All IsBlock blocks.old }
         ensures chained { Cbc (Self.encrypted self.now) iv.now blocks.old blocks.new }
         ensures related { (key : List ℕ) → Self.is_made_from self.now key
-            → Chains (Self.relation key) iv.now blocks.old blocks.new };
+            → CbcUnder (Self.relation key) iv.now blocks.old blocks.new };
 
     /// Decrypts in place a list of blocks of 8 bytes that CBC chained from the initialization
     /// vector, as `decrypt_cbc` does, in batches of `S::BATCH` blocks and the few that are left over
     /// side by side.
     fn decrypt_cbc_list_by<S: Slice>(&self, no_tables: bool, iv: &[u8; 8], blocks: &mut [[u8; 8]])
         ensures blocks { All IsBlock blocks.old }
-        ensures unchained { Unchains (Self.decrypted self.now) iv.now blocks.old blocks.new }
+        ensures cbc_decrypted { CbcDecrypts (Self.decrypted self.now) iv.now blocks.old blocks.new }
         ensures related { (key : List ℕ) → Self.is_made_from self.now key
-            → Chains (Self.relation key) iv.now blocks.new blocks.old };
+            → CbcUnder (Self.relation key) iv.now blocks.new blocks.old };
 
     /// Encrypts each block of 8 bytes in place, in order, as `encrypt_blocks` does, `S::BATCH`
     /// blocks at a time.
@@ -138,7 +138,7 @@ pub trait ManyBlocks: Relating {
     /// vector, as `decrypt_cbc` does, `S::BATCH` blocks at a time.
     final fn decrypt_cbc_by<S: Slice>(&self, iv: &[u8; 8], blocks: &mut [[u8; 8]])
         ensures blocks { All IsBlock blocks.old }
-        ensures unchained { Unchains (Self.decrypted self.now) iv.now blocks.old blocks.new }
+        ensures cbc_decrypted { CbcDecrypts (Self.decrypted self.now) iv.now blocks.old blocks.new }
     {
         self.decrypt_cbc_list_by::<S>(true, iv, blocks);
     }
@@ -168,7 +168,7 @@ pub trait ManyBlocks: Relating {
     /// cipher, p(n) = D(q(n)) ^ q(n-1). Padding and authentication are left to the caller.
     final fn decrypt_cbc(&self, iv: &[u8; 8], blocks: &mut [[u8; 8]])
         ensures blocks { All IsBlock blocks.old }
-        ensures unchained { Unchains (Self.decrypted self.now) iv.now blocks.old blocks.new }
+        ensures cbc_decrypted { CbcDecrypts (Self.decrypted self.now) iv.now blocks.old blocks.new }
     {
         self.decrypt_cbc_by::<u64x2>(iv, blocks);
     }

@@ -4,7 +4,7 @@ use Rattle.std.proofs.lemmas.List.{map-append, length-map, nil_from_length}
 use Rattle.des_io.specs.CipherModes.{Enciphered, Deciphered, mode_after}
 use Rattle.des_io.specs.declared.mode.Mode.{Mode}
 use Rattle.des_io.specs.declared.mode.Mode.TheVariants.{Ecb, Cbc as InChain}
-use Rattle.des.proofs.ChainedPieces.{next_vector-append, Chains-append, Unchains-append}
+use Rattle.des.proofs.ChainedPieces.{next_vector-append, CbcUnder-append, CbcDecrypts-append}
 
 -- ---- modes
 
@@ -19,7 +19,7 @@ pub Enciphered-append : (encryption : List ℕ → List ℕ) (mode : Mode) (p q 
 Enciphered-append encryption Ecb p q more answers first second = ap₂ ◌++◌ first second
     ∙ sym (map-append encryption p more)
 Enciphered-append encryption (InChain iv) p q more answers first second =
-    Chains-append (λ block answer. answer ≡ encryption block) iv p q more answers first second
+    CbcUnder-append (λ block answer. answer ≡ encryption block) iv p q more answers first second
 
 pub Deciphered-append : (decryption : List ℕ → List ℕ) (mode : Mode) (q p more answers : List (List ℕ))
     → Deciphered decryption mode q p
@@ -27,7 +27,7 @@ pub Deciphered-append : (decryption : List ℕ → List ℕ) (mode : Mode) (q p 
 Deciphered-append decryption Ecb q p more answers first second = ap₂ ◌++◌ first second
     ∙ sym (map-append decryption q more)
 Deciphered-append decryption (InChain iv) q p more answers first second =
-    Unchains-append decryption iv q p more answers first second
+    CbcDecrypts-append decryption iv q p more answers first second
 
 -- ---- nothing
 
@@ -46,7 +46,7 @@ Enciphered-none encryption (InChain iv) = record {
 
 pub Deciphered-none : (decryption : List ℕ → List ℕ) (mode : Mode) → Deciphered decryption mode [] []
 Deciphered-none decryption Ecb = refl
-Deciphered-none decryption (InChain iv) = record { count = refl; unchained = λ n from to. absurd (omega arith) }
+Deciphered-none decryption (InChain iv) = record { count = refl; cbc_decrypted = λ n from to. absurd (omega arith) }
 
 -- as many blocks are deciphered as there are
 pub Deciphered-count : (decryption : List ℕ → List ℕ) (mode : Mode) (q p : List (List ℕ))

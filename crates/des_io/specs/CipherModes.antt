@@ -1,7 +1,7 @@
 -- The modes of operation that lists of blocks are enciphered in: each block by itself (ECB), or
 -- chained (CBC), both FIPS 81.
 use Rattle.std.specs.Prelude.{◌≡◌, ℕ, List, map}
-use Rattle.des.specs.Cbc.{Cbc, Unchains, next_vector}
+use Rattle.des.specs.Cbc.{Cbc, CbcDecrypts, next_vector}
 use Rattle.des_io.specs.declared.mode.Mode.{Mode}
 use Rattle.des_io.specs.declared.mode.Mode.TheVariants.{Ecb, Cbc as InChain}
 
@@ -13,7 +13,7 @@ Enciphered encryption (InChain iv) p q = Cbc encryption iv p q
 -- p is q deciphered
 abbrev pub Deciphered : (List ℕ → List ℕ) → Mode → List (List ℕ) → List (List ℕ) → Type 0
 Deciphered decryption Ecb q p = p ≡ map decryption q
-Deciphered decryption (InChain iv) q p = Unchains decryption iv q p
+Deciphered decryption (InChain iv) q p = CbcDecrypts decryption iv q p
 
 -- how blocks go on after ciphertext blocks q
 abbrev pub mode_after : Mode → List (List ℕ) → Mode

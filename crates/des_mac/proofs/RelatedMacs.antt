@@ -4,7 +4,7 @@ use Rattle.std.specs.Simd.{first_chunks}
 use Rattle.std.proofs.lemmas.List.{length-take-le}
 use Rattle.std.proofs.lemmas.List.Elements.{All-take, All-drop, All-replicate}
 use Rattle.des.specs.Blocks.{AreBytes, IsBlock}
-use Rattle.des.specs.Cbc.{xor_blocks, block_at, block_before, Chains}
+use Rattle.des.specs.Cbc.{xor_blocks, block_at, block_before, CbcUnder}
 use Rattle.des.specs.Relations.{IsGraphOf, IsTheOne}
 use Rattle.des.proofs.XoredBlocks.{IsBlock-xor_blocks}
 use Rattle.des.proofs.ChainedBlocks.{block_before-next}
@@ -32,7 +32,7 @@ module _ (e : List ℕ → List ℕ) (Relates : List ℕ → List ℕ → Type 0
       ap (λ (i : ℕ). get_or (blocks_of m) i []) (omega arith) ∙ get_or-first_chunks (length m / 8) n m within
 
   -- blocks that the relation chains are the chain
-  chain_after-chained : (chain : List (List ℕ)) → Chains Relates zero_block (blocks_of m) chain → (n : ℕ)
+  chain_after-chained : (chain : List (List ℕ)) → CbcUnder Relates zero_block (blocks_of m) chain → (n : ℕ)
       → n ≤ length m / 8 → chain_after e m n ≡ block_before zero_block chain (n + 1)
   unfolding chain_after
   chain_after-chained chain chains zero fits = refl

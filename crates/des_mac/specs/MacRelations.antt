@@ -2,7 +2,7 @@
 -- the relation takes a block to its encryption.
 use Rattle.std.specs.Prelude.{◌≡◌, ℕ, ◌/◌, List, length}
 use Rattle.std.specs.Simd.{first_chunks}
-use Rattle.des.specs.Cbc.{Chains, block_at}
+use Rattle.des.specs.Cbc.{CbcUnder, block_at}
 use Rattle.des_mac.specs.CbcMac.{zero_block}
 use Rattle.des_mac.specs.Cmac.{masked_message}
 
@@ -13,7 +13,7 @@ blocks_of m = first_chunks 8 (length m / 8) m
 -- algorithm 1: the blocks of the padded bytes, chained from a block of zeros, end in the tag
 pub record IsCbcMac (Relates : List ℕ → List ℕ → Type 0) (m tag : List ℕ) : Type 0 where
   pub chain : List (List ℕ)
-  pub chained : Chains Relates zero_block (blocks_of m) chain
+  pub chained : CbcUnder Relates zero_block (blocks_of m) chain
   pub ends : tag ≡ block_at chain (length m / 8)
 
 -- algorithm 3: the end of the chain under the first relation, taken back under the second, and

@@ -6,13 +6,13 @@ use borrow.Rule.Slice.PartMut.{put_mid}
 use Rattle.std.proofs.lemmas.List.{get_or-reverse, reverse-reverse, reverse-append, map-append, length-reverse, same_from_push, take_all, take_more}
 use Rattle.std.proofs.lemmas.List.Elements.{All-cons, All-map}
 use Rattle.des.specs.Blocks.{IsBlock}
-use Rattle.des.specs.Cbc.{Cbc, Unchains, next_vector, xor_blocks}
+use Rattle.des.specs.Cbc.{Cbc, CbcDecrypts, next_vector, xor_blocks}
 use Rattle.des.specs.Laws.BlockBits.{IsBlock-to_be_bytes}
 use Rattle.des.specs.Relations.{IsGraphOf}
-use Rattle.des.proofs.ChainedBlocks.{Chains-weaker, Unchains-from_Cbc, Cbc-from_Unchains}
-use Rattle.des.proofs.ChainedPieces.{Unchains-append}
-use Rattle.des.proofs.UnchainedLists.{Unchains-unchained, unchained-from}
-use Rattle.des_fast.proofs.RelatedChains.{Chains-related}
+use Rattle.des.proofs.ChainedBlocks.{CbcUnder-weaker, CbcDecrypts-from_Cbc, Cbc-from_CbcDecrypts}
+use Rattle.des.proofs.ChainedPieces.{CbcDecrypts-append}
+use Rattle.des.proofs.CbcDecryptedLists.{CbcDecrypts-cbc_decrypted, cbc_decrypted-from}
+use Rattle.des_fast.proofs.RelatedCbc.{CbcUnder-related}
 use Rattle.des_modes.specs.CmsKeyWrap.{second_iv, reversed, checksum, Encloses, Wraps}
 use Rattle.des_modes.proofs.TkwSteps.{Undoes}
 
@@ -64,8 +64,8 @@ module _ {E D : List ℕ → List ℕ} (laws : Undoes E D) where
   Cbc-one : (iv : List ℕ) (p other q : List (List ℕ)) → IsBlock iv → All IsBlock p → All IsBlock other → Cbc E iv p q
       → Cbc E iv other q → p ≡ other
   Cbc-one iv p other q is_iv are too first second =
-      unchained-from D iv q p (Unchains-from_Cbc E D iv p q is_iv are laws.is_block laws.undone first)
-      ∙ sym (unchained-from D iv q other (Unchains-from_Cbc E D iv other q is_iv too laws.is_block laws.undone second))
+      cbc_decrypted-from D iv q p (CbcDecrypts-from_Cbc E D iv p q is_iv are laws.is_block laws.undone first)
+      ∙ sym (cbc_decrypted-from D iv q other (CbcDecrypts-from_Cbc E D iv other q is_iv too laws.is_block laws.undone second))
 
   Encloses-one : (iv vector : List ℕ) (p other enclosed : List (List ℕ)) → IsBlock iv → IsBlock vector
       → Encloses (λ block answer. answer ≡ E block) iv p enclosed
@@ -92,21 +92,21 @@ module _ {E D : List ℕ → List ℕ} (laws : Undoes E D) where
 -- ---- what opens it
 
 -- a list, and a block behind it
-unchained-behind : (D : List ℕ → List ℕ) (iv : List ℕ) (q p : List (List ℕ)) (block answer : List ℕ) → Unchains D iv q p
-    → answer ≡ xor_blocks (D block) (next_vector iv q) → Unchains D iv (q ++ block ∷ []) (p ++ answer ∷ [])
-unchained-behind D iv q p block answer unchains is =
-    Unchains-append D iv q p (block ∷ []) (answer ∷ []) unchains
-    (Unchains-unchained D (next_vector iv q) (block ∷ []) (answer ∷ []) (ap (λ (x : List ℕ). x ∷ []) is))
+cbc_decrypted-behind : (D : List ℕ → List ℕ) (iv : List ℕ) (q p : List (List ℕ)) (block answer : List ℕ) → CbcDecrypts D iv q p
+    → answer ≡ xor_blocks (D block) (next_vector iv q) → CbcDecrypts D iv (q ++ block ∷ []) (p ++ answer ∷ [])
+cbc_decrypted-behind D iv q p block answer cbc_decrypts is =
+    CbcDecrypts-append D iv q p (block ∷ []) (answer ∷ []) cbc_decrypts
+    (CbcDecrypts-cbc_decrypted D (next_vector iv q) (block ∷ []) (answer ∷ []) (ap (λ (x : List ℕ). x ∷ []) is))
 
 -- from the first block, those between, and the last: x, p and y are their plaintexts
 pub Encloses-opened : (E D : List ℕ → List ℕ) (first last x y iv behind check : List ℕ)
     (middle p turned key enclosed : List (List ℕ)) → Undoes D E → All IsBlock enclosed
-    → enclosed ≡ first ∷ middle ++ last ∷ [] → x ≡ xor_blocks (D first) second_iv → Unchains D first middle p
+    → enclosed ≡ first ∷ middle ++ last ∷ [] → x ≡ xor_blocks (D first) second_iv → CbcDecrypts D first middle p
     → y ≡ xor_blocks (D last) (next_vector first middle) → iv ≡ reverse y → turned ≡ reversed p → behind ≡ reverse x
-    → IsBlock iv → All IsBlock (turned ++ behind ∷ []) → Unchains D iv turned key
+    → IsBlock iv → All IsBlock (turned ++ behind ∷ []) → CbcDecrypts D iv turned key
     → check ≡ xor_blocks (D behind) (next_vector iv turned) → All IsBlock (key ++ check ∷ [])
     → Encloses (λ block answer. answer ≡ E block) iv (key ++ check ∷ []) enclosed
-Encloses-opened E D first last x y iv behind check middle p turned key enclosed laws are whole is_x unchains is_y is_iv is_turned
+Encloses-opened E D first last x y iv behind check middle p turned key enclosed laws are whole is_x cbc_decrypts is_y is_iv is_turned
     is_behind iv_block are_temp1 opened is_check are_key =
     let temp1 : List (List ℕ) = turned ++ behind ∷ [] in
     let same : x ∷ p ++ y ∷ [] ≡ reversed (iv ∷ temp1) =
@@ -114,20 +114,20 @@ Encloses-opened E D first last x y iv behind check middle p turned key enclosed 
     ∙ ap reversed (reversed-append (x ∷ []) (p ++ y ∷ [])
     ∙ ap (λ (xs : List (List ℕ)). xs ++ reverse x ∷ []) (reversed-append p (y ∷ []))
     ∙ sym (ap₂ ◌∷◌ is_iv (ap₂ (λ (xs : List (List ℕ)) (x : List ℕ). xs ++ x ∷ []) is_turned is_behind))) in
-    let P : List (List ℕ) → Type 0 = λ blocks. Unchains D second_iv enclosed blocks in
-    let Q : List (List ℕ) → Type 0 = λ blocks. Unchains D second_iv blocks (x ∷ p ++ y ∷ []) in
+    let P : List (List ℕ) → Type 0 = λ blocks. CbcDecrypts D second_iv enclosed blocks in
+    let Q : List (List ℕ) → Type 0 = λ blocks. CbcDecrypts D second_iv blocks (x ∷ p ++ y ∷ []) in
     record {
       temp1 = temp1;
       are_blocks = (are_key, are_temp1);
       first =
-          Cbc-from_Unchains E D iv (key ++ check ∷ []) temp1 iv_block are_temp1 laws.is_block laws.undone
-          (unchained-behind D iv turned key behind check opened is_check);
+          Cbc-from_CbcDecrypts E D iv (key ++ check ∷ []) temp1 iv_block are_temp1 laws.is_block laws.undone
+          (cbc_decrypted-behind D iv turned key behind check opened is_check);
       second =
-          Cbc-from_Unchains E D second_iv (reversed (iv ∷ temp1)) enclosed is_second_iv are laws.is_block laws.undone
+          Cbc-from_CbcDecrypts E D second_iv (reversed (iv ∷ temp1)) enclosed is_second_iv are laws.is_block laws.undone
           (subst P same (subst Q (sym whole)
-          (Unchains-append D second_iv (first ∷ []) (x ∷ []) (middle ++ last ∷ []) (p ++ y ∷ [])
-          (unchained-behind D second_iv [] [] first x (Unchains-unchained D second_iv [] [] refl) is_x)
-          (unchained-behind D first middle p last y unchains is_y))));
+          (CbcDecrypts-append D second_iv (first ∷ []) (x ∷ []) (middle ++ last ∷ []) (p ++ y ∷ [])
+          (cbc_decrypted-behind D second_iv [] [] first x (CbcDecrypts-cbc_decrypted D second_iv [] [] refl) is_x)
+          (cbc_decrypted-behind D first middle p last y cbc_decrypts is_y))));
     }
 
 -- ---- by the relation of a cipher's key
@@ -139,9 +139,9 @@ module _ {Answers : List ℕ → List ℕ → Type 0} {E : List ℕ → List ℕ
   Encloses-related is_iv makes_blocks encloses = record {
     temp1 = encloses.temp1;
     are_blocks = encloses.are_blocks;
-    first = Chains-related Answers E graph iv p encloses.temp1 is_iv encloses.are_blocks.0 makes_blocks encloses.first;
+    first = CbcUnder-related Answers E graph iv p encloses.temp1 is_iv encloses.are_blocks.0 makes_blocks encloses.first;
     second =
-        Chains-related Answers E graph second_iv (reversed (iv ∷ encloses.temp1)) enclosed is_second_iv
+        CbcUnder-related Answers E graph second_iv (reversed (iv ∷ encloses.temp1)) enclosed is_second_iv
         (All-reversed iv encloses.temp1 is_iv encloses.are_blocks.1) makes_blocks encloses.second;
   }
 
@@ -150,6 +150,6 @@ module _ {Answers : List ℕ → List ℕ → Type 0} {E : List ℕ → List ℕ
       let answers : (x y : List ℕ) → Answers x y → y ≡ E x = λ x y related. sym ((graph x y).0 related).1 in record {
         temp1 = encloses.temp1;
         are_blocks = encloses.are_blocks;
-        first = Chains-weaker _ _ _ _ _ answers encloses.first;
-        second = Chains-weaker _ _ _ _ _ answers encloses.second;
+        first = CbcUnder-weaker _ _ _ _ _ answers encloses.first;
+        second = CbcUnder-weaker _ _ _ _ _ answers encloses.second;
       }

@@ -3,7 +3,7 @@ use Rattle.std.proofs.Common.{◌≡◌, ℕ, zero, suc, ◌+◌, ◌*◌, ◌/�
 use Rattle.std.proofs.Math.Nat.{mul-div-le}
 use Rattle.des.specs.Bits.{bits_of_bytes}
 use Rattle.des.specs.Blocks.{AreBytes, IsBlock}
-use Rattle.des.specs.Relations.{AnswerAlike, IsGraphOf}
+use Rattle.des.specs.Relations.{AgreeOnBlocks, IsGraphOf}
 use Rattle.des.specs.Laws.BlockBits.{IsBlock-block_of_bits, IsBlock-to_be_bytes}
 use Rattle.des_modes.specs.Cfb.{CfbBits, block_bit}
 use Rattle.des_modes.specs.Modes.{InMode, InModeUnder, mode_by}
@@ -17,7 +17,7 @@ use Rattle.des_modes.proofs.RelatedStreams.{CfbBits-from_Cfb, Under-from, IsBloc
 use Rattle.des_modes.proofs.StreamPlaces.{size_of-mode_by}
 use Rattle.des_modes.proofs.Pieces.{Xors-other}
 
-module _ (e f : List ℕ → List ℕ) (alike : AnswerAlike e f) where
+module _ (e f : List ℕ → List ℕ) (alike : AgreeOnBlocks e f) where
   CfbBits-alike : (iv : List ℕ) (p c : List Bool) → CfbBits 1 e iv p c → CfbBits 1 f iv p c
   CfbBits-alike iv p c made =
       Xors-other 0 _ _ p c (λ i below. ap (λ (block : List ℕ). block_bit block ((0 + i) % 1)) (alike _ (IsBlock-block_of_bits _))) made
@@ -97,8 +97,8 @@ InModeUnder-from (CipherFeedback s) Answers e iv p c sound graph makes is_iv byt
     Under-from e graph (CfbBits-from_Cfb s e iv p c sound.0 sound.1 is_iv bytes makes made)
 
 -- a cipher whose encryption takes blocks to blocks and, of them, is that of a key
-module _ (e k : List ℕ → List ℕ) (alike : AnswerAlike e k) (makes : (block : List ℕ) → IsBlock block → IsBlock (e block)) where
-  back : AnswerAlike k e
+module _ (e k : List ℕ → List ℕ) (alike : AgreeOnBlocks e k) (makes : (block : List ℕ) → IsBlock block → IsBlock (e block)) where
+  back : AgreeOnBlocks k e
   back block is = sym (alike block is)
 
   makes_too : (block : List ℕ) → IsBlock block → IsBlock (k block)

@@ -3,7 +3,7 @@
 use Rattle.std.specs.Prelude.{ℕ, List, [], ◌∷◌, ◌++◌, map, take, reverse}
 use Rattle.std.specs.List.{All, flat_map}
 use Rattle.des.specs.Blocks.{IsBlock}
-use Rattle.des.specs.Cbc.{Chains}
+use Rattle.des.specs.Cbc.{CbcUnder}
 use Rattle.sha1.specs.Sha1.{sha1}
 
 -- the key checksum, ICV (section 2)
@@ -22,8 +22,8 @@ reversed blocks = map reverse (reverse blocks)
 pub record Encloses (Answers : List ℕ → List ℕ → Type 0) (iv : List ℕ) (p enclosed : List (List ℕ)) : Type 0 where
   pub temp1 : List (List ℕ)
   pub are_blocks : All IsBlock p × All IsBlock temp1
-  pub first : Chains Answers iv p temp1
-  pub second : Chains Answers second_iv (reversed (iv ∷ temp1)) enclosed
+  pub first : CbcUnder Answers iv p temp1
+  pub second : CbcUnder Answers second_iv (reversed (iv ∷ temp1)) enclosed
 
 -- the key and its checksum are enclosed
 abbrev pub Wraps : (List ℕ → List ℕ → Type 0) → List ℕ → List (List ℕ) → List (List ℕ) → Type 0

@@ -2,17 +2,17 @@
 use Rattle.std.proofs.Common.{◌≡◌, ℕ, ◌-◌, ◌*◌, ◌%◌, ◌≤◌, List, ◌++◌, length, replicate, sym, ap, ◌∙◌, arith}
 use Rattle.std.proofs.lemmas.List.{append-nil}
 use Rattle.des.specs.Blocks.{IsBlock}
-use Rattle.des.specs.Cbc.{Chains, Cbc}
+use Rattle.des.specs.Cbc.{CbcUnder, Cbc}
 use Rattle.des.specs.Relations.{TakesBlock}
-use Rattle.des.proofs.ChainedBlocks.{Chains-weaker}
+use Rattle.des.proofs.ChainedBlocks.{CbcUnder-weaker}
 use Rattle.des_mac.specs.Padding.{block_count, zeros_after, padded}
 
 -- the cipher encrypts blocks as the key does
 pub Cbc-by_key : (encrypts by_key : List ℕ → List ℕ) (iv : List ℕ) (p q : List (List ℕ))
-    → ((block : List ℕ) → IsBlock block → encrypts block ≡ by_key block) → Chains (TakesBlock encrypts) iv p q
+    → ((block : List ℕ) → IsBlock block → encrypts block ≡ by_key block) → CbcUnder (TakesBlock encrypts) iv p q
     → Cbc by_key iv p q
 Cbc-by_key encrypts by_key iv p q alike chained =
-    Chains-weaker (TakesBlock encrypts) (λ block encrypted. encrypted ≡ by_key block) iv p q
+    CbcUnder-weaker (TakesBlock encrypts) (λ block encrypted. encrypted ≡ by_key block) iv p q
     (λ x y taken. sym taken.1 ∙ alike x taken.0) chained
 
 -- whole blocks are not padded by method 1

@@ -1,6 +1,6 @@
 //! Chaining by generic code: what the laws of `BlockCipher` give to a caller of `des::cbc`.
 
-ghost use Rattle.des.specs.Cbc.{Cbc, Unchains};
+ghost use Rattle.des.specs.Cbc.{Cbc, CbcDecrypts};
 
 use des::cbc;
 use des::cipher::BlockCipher;
@@ -8,7 +8,7 @@ use des::cipher::BlockCipher;
 /// Encrypts a list of blocks by CBC, in place: each block as it was is the decryption of the new
 /// one, xor the new block before it, or for the first the initialization vector.
 pub fn encrypt_cbc<C: BlockCipher>(cipher: &C, iv: &[u8; 8], blocks: &mut [[u8; 8]])
-    ensures { Unchains (C.decrypted cipher.now) iv.now blocks.new blocks.old }
+    ensures { CbcDecrypts (C.decrypted cipher.now) iv.now blocks.new blocks.old }
 {
     cbc::encrypt(cipher, iv, blocks);
 }

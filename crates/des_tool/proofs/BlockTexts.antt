@@ -3,9 +3,9 @@ use Rattle.std.proofs.Common.{◌≡◌, ℕ, List, [], ◌∷◌, map, sym, ◌
 use Rattle.std.specs.List.{All}
 use Rattle.std.proofs.lemmas.List.Elements.{All-head, All-tail}
 use Rattle.des.specs.Blocks.{IsKey, IsBlock, AnswersEach}
-use Rattle.des.specs.Cbc.{Chains, Cbc, Unchains}
+use Rattle.des.specs.Cbc.{CbcUnder, Cbc, CbcDecrypts}
 use Rattle.des.specs.Relations.{TakesBlock, IsGraphOf}
-use Rattle.des.proofs.ChainedBlocks.{Chains-weaker, Chains-from_Cbc, Chains-from_Unchains}
+use Rattle.des.proofs.ChainedBlocks.{CbcUnder-weaker, CbcUnder-from_Cbc, CbcUnder-from_CbcDecrypts}
 use Rattle.des_tool.specs.declared.command.request.Direction.{Direction}
 use Rattle.des_tool.specs.declared.command.request.Direction.TheVariants.{Encrypt, Decrypt}
 use Rattle.des_tool.specs.Answer.{IsTextOf, ReadIn}
@@ -78,18 +78,18 @@ pub ReadIn-cbc : (direction : Direction) (e d : List ℕ → List ℕ) (f : List
     → ((block : List ℕ) → IsBlock block → IsBlock (e block)) → ((block : List ℕ) → IsBlock block → IsBlock (d block))
     → ((block : List ℕ) → IsBlock block → e (d block) ≡ block)
     → ((block : List ℕ) → IsBlock block → e block ≡ f key block)
-    → in_direction direction (Cbc e) (Unchains d) iv blocks results
-    → ReadIn direction (Chains (IsMadeBy f size key) iv) blocks results
+    → in_direction direction (Cbc e) (CbcDecrypts d) iv blocks results
+    → ReadIn direction (CbcUnder (IsMadeBy f size key) iv) blocks results
 ReadIn-cbc Encrypt e d f size key iv blocks results is_key is_iv are_blocks encrypts decrypts undoes agrees
     chained =
-    Chains-weaker (TakesBlock e) (IsMadeBy f size key) iv blocks results
+    CbcUnder-weaker (TakesBlock e) (IsMadeBy f size key) iv blocks results
     (λ x y taken. record { is_key = is_key; is_block = taken.0; made = sym (agrees x taken.0) ∙ taken.1 })
-    (Chains-from_Cbc e iv blocks results is_iv are_blocks encrypts chained)
+    (CbcUnder-from_Cbc e iv blocks results is_iv are_blocks encrypts chained)
 ReadIn-cbc Decrypt e d f size key iv blocks results is_key is_iv are_blocks encrypts decrypts undoes agrees
     chained =
-    Chains-weaker (TakesBlock e) (IsMadeBy f size key) iv results blocks
+    CbcUnder-weaker (TakesBlock e) (IsMadeBy f size key) iv results blocks
     (λ x y taken. record { is_key = is_key; is_block = taken.0; made = sym (agrees x taken.0) ∙ taken.1 })
-    (Chains-from_Unchains e d iv results blocks is_iv are_blocks decrypts undoes chained)
+    (CbcUnder-from_CbcDecrypts e d iv results blocks is_iv are_blocks decrypts undoes chained)
 
 -- a weaker relation of lists is weaker in either direction
 ReadIn-weaker : (direction : Direction) (P Q : List (List ℕ) → List (List ℕ) → Type 0)
@@ -101,9 +101,9 @@ ReadIn-weaker Decrypt P Q weaker blocks results related = weaker results blocks 
 -- a text of CBC by what the key encrypts to is one of CBC under the relation whose graph this is
 pub IsTextOf-cbc : (direction : Direction) (e : List ℕ → List ℕ → List ℕ) (size : ℕ) (key iv : List ℕ)
     (Relates : List ℕ → List ℕ → Type 0) → (IsKey size key → IsGraphOf (e key) Relates) → (digits text : List ℕ)
-    → IsTextOf (ReadIn direction (Chains (IsMadeBy e size key) iv)) digits text
-    → IsTextOf (ReadIn direction (Chains Relates iv)) digits text
+    → IsTextOf (ReadIn direction (CbcUnder (IsMadeBy e size key) iv)) digits text
+    → IsTextOf (ReadIn direction (CbcUnder Relates iv)) digits text
 IsTextOf-cbc direction e size key iv Relates encrypts digits text =
-    IsTextOf-weaker _ _ digits text (ReadIn-weaker direction (Chains (IsMadeBy e size key) iv) (Chains Relates iv)
-    (λ p q. Chains-weaker (IsMadeBy e size key) Relates iv p q
+    IsTextOf-weaker _ _ digits text (ReadIn-weaker direction (CbcUnder (IsMadeBy e size key) iv) (CbcUnder Relates iv)
+    (λ p q. CbcUnder-weaker (IsMadeBy e size key) Relates iv p q
     (λ x y by. (encrypts by.is_key x y).1 (by.is_block, by.made))))

@@ -3,8 +3,8 @@ use Rattle.std.proofs.Common.{ℕ, List, true, false}
 use Rattle.des.specs.Blocks.{IsKey}
 use Rattle.des.specs.Des.{encryption, decryption}
 use Rattle.des.specs.TripleCiphers.{ede3_encryption, ede3_decryption, eee3_encryption, eee3_decryption, ede2_encryption, ede2_decryption, eee2_encryption, eee2_decryption}
-use Rattle.des.proofs.Graphs.{IsGraphOf-encryption, IsGraphOf-decryption, HasOneAnswerEachWay-key}
-use Rattle.des.proofs.TripleGraphs.{AnswerBy, AnswerBy-Triple}
+use Rattle.des.proofs.Graphs.{IsGraphOf-encryption, IsGraphOf-decryption, IsBijection-key}
+use Rattle.des.proofs.TripleGraphs.{HasGraphs, HasGraphs-Triple}
 use Rattle.des_tool.specs.declared.command.request.Cipher.{Cipher}
 use Rattle.des_tool.specs.declared.command.request.Cipher.TheVariants.{Des, Ede3, Eee3, Ede2, Eee2}
 use Rattle.des_tool.specs.Answer.{relation_of}
@@ -27,14 +27,14 @@ decryption_by Ede2 key = ede2_decryption key
 decryption_by Eee2 key = eee2_decryption key
 
 -- their graphs are the cipher's relation, one from each end
-pub AnswerBy-cipher : (cipher : Cipher) (key : List ℕ) → IsKey (key_size_of cipher) key
-    → AnswerBy (encryption_by cipher key) (decryption_by cipher key) (λ x y. relation_of cipher key x y)
-AnswerBy-cipher Des key is_key = record {
-  one_answer_each_way = HasOneAnswerEachWay-key key is_key;
+pub HasGraphs-cipher : (cipher : Cipher) (key : List ℕ) → IsKey (key_size_of cipher) key
+    → HasGraphs (encryption_by cipher key) (decryption_by cipher key) (λ x y. relation_of cipher key x y)
+HasGraphs-cipher Des key is_key = record {
+  bijective = IsBijection-key key is_key;
   encryption = IsGraphOf-encryption key is_key;
   decryption = IsGraphOf-decryption key is_key;
 }
-AnswerBy-cipher Ede3 key is_key = AnswerBy-Triple true true key is_key
-AnswerBy-cipher Eee3 key is_key = AnswerBy-Triple true false key is_key
-AnswerBy-cipher Ede2 key is_key = AnswerBy-Triple false true key is_key
-AnswerBy-cipher Eee2 key is_key = AnswerBy-Triple false false key is_key
+HasGraphs-cipher Ede3 key is_key = HasGraphs-Triple true true key is_key
+HasGraphs-cipher Eee3 key is_key = HasGraphs-Triple true false key is_key
+HasGraphs-cipher Ede2 key is_key = HasGraphs-Triple false true key is_key
+HasGraphs-cipher Eee2 key is_key = HasGraphs-Triple false false key is_key

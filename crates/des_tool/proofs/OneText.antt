@@ -7,7 +7,7 @@ use Rattle.des_tool.specs.declared.command.request.Cipher.TheVariants.{Des, Ede3
 use Rattle.des_tool.specs.Digits.{bytes_of_digits, text_of_blocks}
 use Rattle.des_tool.specs.Request.{Request, of_blocks, of_cbc, of_weak, request_of, key_size_of, block_cipher_of}
 use Rattle.des_tool.specs.Answer.{ReadIn, relation_of, IsTextOf, IsVerdict, AnswersRequest, IsAnswer}
-use Rattle.des_tool.proofs.KeyGraphs.{AnswerBy-cipher}
+use Rattle.des_tool.proofs.KeyGraphs.{HasGraphs-cipher}
 use Rattle.des_tool.proofs.OneToOne.{IsOneToOne, IsOneToOne-read, HasOneList, HasOneList-each, HasOneList-cbc}
 
 -- what a cipher relates, it relates under a key
@@ -22,7 +22,7 @@ IsKey-relation Eee2 key x y related = related.0
 IsOneToOne-cipher : (cipher : Cipher) (key : List ℕ) → IsOneToOne (relation_of cipher key)
 IsOneToOne-cipher cipher key =
     let by = λ (x y : List ℕ) (related : relation_of cipher key x y).
-    AnswerBy-cipher cipher key (IsKey-relation cipher key x y related) in
+    HasGraphs-cipher cipher key (IsKey-relation cipher key x y related) in
     record {
       first_is_block = λ x y related. (((by x y related).encryption x y).0 related).0;
       last_is_block = λ x y related. (((by x y related).decryption y x).0 related).0;

@@ -3,7 +3,7 @@ use Rattle.std.proofs.Common.{◌≡◌, ◌≤◌, ℕ, zero, suc, ◌+◌, ◌
 use Rattle.std.specs.List.{All, concat}
 use Rattle.std.proofs.lemmas.List.Elements.{All-cons, All-nil, All-from_get_or}
 use Rattle.des.specs.Blocks.{IsBlock, AnswersEach}
-use Rattle.des.specs.Cbc.{xor_blocks, block_at, block_before, Chains}
+use Rattle.des.specs.Cbc.{xor_blocks, block_at, block_before, CbcUnder}
 use Rattle.des.proofs.ChainedBlocks.{block_before-next}
 use Rattle.des_tool.specs.declared.command.request.Direction.{Direction}
 use Rattle.des_tool.specs.declared.command.request.Direction.TheVariants.{Encrypt, Decrypt}
@@ -58,20 +58,20 @@ module _ (Relates : List ℕ → List ℕ → Type 0) (one : IsOneToOne Relates)
 
   module _ (iv : List ℕ) where
     -- the plaintext and the ciphertext of CBC have blocks
-    eight-first : (p q : List (List ℕ)) → Chains Relates iv p q → All HasEight p
+    eight-first : (p q : List (List ℕ)) → CbcUnder Relates iv p q → All HasEight p
     eight-first p q chains = All-from_get_or HasEight p [] (λ i within.
         let next : i + 1 - 1 ≡ i = omega arith in
         let P : ℕ → Type 0 = λ n. HasEight (get_or p n []) in
         subst P next (chains.widths (i + 1) (omega arith) (omega arith)))
 
-    eight-last : (p q : List (List ℕ)) → Chains Relates iv p q → All HasEight q
+    eight-last : (p q : List (List ℕ)) → CbcUnder Relates iv p q → All HasEight q
     eight-last p q chains = All-from_get_or HasEight q [] (λ i within.
         let next : i + 1 - 1 ≡ i = omega arith in
         let P : ℕ → Type 0 = λ n. HasEight (get_or q n []) in
         subst P next
         (one.last_is_block _ _ (chains.chained (i + 1) (omega arith) (omega (arith, chains.count)))).0)
 
-    module _ (p q r : List (List ℕ)) (first : Chains Relates iv p q) (second : Chains Relates iv p r) where
+    module _ (p q r : List (List ℕ)) (first : CbcUnder Relates iv p q) (second : CbcUnder Relates iv p r) where
       -- if the blocks before a place are the same, so are those at it
       same-at : (n : ℕ) → 1 ≤ n → n ≤ length p → block_before iv q n ≡ block_before iv r n → block_at q n ≡ block_at r n
       same-at n from to before =
@@ -97,7 +97,7 @@ module _ (Relates : List ℕ → List ℕ → Type 0) (one : IsOneToOne Relates)
           subst P next (same-at (i + 1) (omega arith) inside (same-before (i + 1) inside)))
 
     -- and a ciphertext one plaintext
-    same-plaintext : (p r q : List (List ℕ)) → Chains Relates iv p q → Chains Relates iv r q → p ≡ r
+    same-plaintext : (p r q : List (List ℕ)) → CbcUnder Relates iv p q → CbcUnder Relates iv r q → p ≡ r
     same-plaintext p r q first second = same_lists p r (sym first.count ∙ second.count) (λ i within.
         let next : i + 1 - 1 ≡ i = omega arith in
         let from : 1 ≤ i + 1 = omega arith in
@@ -114,7 +114,7 @@ module _ (Relates : List ℕ → List ℕ → Type 0) (one : IsOneToOne Relates)
         (one.backwards _ _ _ related (second.chained (i + 1) from inside))))
 
     -- by CBC, in either direction
-    pub HasOneList-cbc : (direction : Direction) → HasOneList (ReadIn direction (Chains Relates iv))
+    pub HasOneList-cbc : (direction : Direction) → HasOneList (ReadIn direction (CbcUnder Relates iv))
     HasOneList-cbc Encrypt xs ys zs ws first second joined =
         let same : xs ≡ zs = same_blocks xs zs (eight-first xs ys first) (eight-first zs ws second) joined in
         same-ciphertext xs ys ws first (rw same second)

@@ -2,7 +2,7 @@
 use Rattle.std.specs.Prelude.{◌≡◌, ◌⊎◌, ℕ, List, MatchOption, codes}
 use Rattle.std.specs.List.{concat}
 use Rattle.des.specs.Blocks.{AnswersEach}
-use Rattle.des.specs.Cbc.{Chains}
+use Rattle.des.specs.Cbc.{CbcUnder}
 use Rattle.des.specs.Enciphering.{Enciphers}
 use Rattle.des.specs.WeakKeys.{IsRefused}
 use Rattle.des.specs.Triple.{EnciphersEde3, EnciphersEee3, EnciphersEde2, EnciphersEee2}
@@ -50,7 +50,7 @@ abbrev pub AnswersRequest : Request → List ℕ → Type 0
 AnswersRequest (of_blocks cipher direction key digits) text =
     IsTextOf (AnswersEach (ReadIn direction (relation_of cipher (bytes_of_digits key)))) digits text
 AnswersRequest (of_cbc cipher direction key vector digits) text =
-    IsTextOf (ReadIn direction (Chains
+    IsTextOf (ReadIn direction (CbcUnder
     (relation_of (block_cipher_of cipher) (bytes_of_digits key)) (bytes_of_digits vector)))
     digits text
 AnswersRequest (of_weak key) text = IsVerdict (bytes_of_digits key) text

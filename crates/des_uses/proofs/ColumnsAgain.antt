@@ -5,13 +5,13 @@ use Rattle.std.specs.Simd.Lanes.{zip2}
 use Rattle.std.proofs.lemmas.List.{drop_at, ext_get_or, get_or-map, length-map, length-replicate, length-take, take_at}
 use Rattle.std.proofs.lemmas.List.Elements.{All-append, All-cons, All-from_get_or, All-head, All-nil, All-replicate, All-tail, All-take}
 use Rattle.des.specs.Blocks.{AreBytes, IsBlock, IsKey, AnswersEach}
-use Rattle.des.specs.Cbc.{xor_blocks, block_at, block_before, Chains, Unchains}
+use Rattle.des.specs.Cbc.{xor_blocks, block_at, block_before, CbcUnder, CbcDecrypts}
 use Rattle.des.specs.Des.{decryption}
 use Rattle.des.specs.Relations.{IsGraphOf}
 use Rattle.des.specs.Triple.{EnciphersEde3}
 use Rattle.des.specs.TripleCiphers.{ede3_decryption}
 use Rattle.des.proofs.Graphs.{IsGraphOf-decryption}
-use Rattle.des.proofs.TripleGraphs.{AnswerBy-Triple}
+use Rattle.des.proofs.TripleGraphs.{HasGraphs-Triple}
 use Rattle.des.proofs.XoredBlocks.{xor_blocks-undone}
 use Rattle.des_columns.specs.EncryptedBytes.{IsEncrypted, joined}
 use Rattle.des_columns.specs.Columns.{pieces}
@@ -67,17 +67,17 @@ module _ (Relates : List ℕ → List ℕ → Type 0) (back : List ℕ → List 
 
   -- ---- CBC
 
-  ciphertext-are_blocks : (iv : List ℕ) (p q : List (List ℕ)) → Chains Relates iv p q → All IsBlock q
+  ciphertext-are_blocks : (iv : List ℕ) (p q : List (List ℕ)) → CbcUnder Relates iv p q → All IsBlock q
   ciphertext-are_blocks iv p q chains =
       All-from_get_or IsBlock q [] (λ i within.
       let this : i + 1 - 1 ≡ i = omega arith in
       subst (λ (n : ℕ). IsBlock (get_or q n [])) this
       ((graph _ _).0 (chains.chained (i + 1) (omega arith) (omega (arith, within, chains.count)))).0)
 
-  ciphertext-decrypted : (iv : List ℕ) (p q : List (List ℕ)) → IsBlock iv → Chains Relates iv p q → Unchains back iv q p
+  ciphertext-decrypted : (iv : List ℕ) (p q : List (List ℕ)) → IsBlock iv → CbcUnder Relates iv p q → CbcDecrypts back iv q p
   ciphertext-decrypted iv p q is_iv chains = record {
     count = sym chains.count;
-    unchained = λ n from to.
+    cbc_decrypted = λ n from to.
         let within : n ≤ length p = omega (arith, to, chains.count) in
         let before : IsBlock (block_before iv q n) =
         All-cons IsBlock iv q is_iv (ciphertext-are_blocks iv p q chains) (n - 1) [] (omega (arith, from, to)) in
@@ -86,15 +86,15 @@ module _ (Relates : List ℕ → List ℕ → Type 0) (back : List ℕ → List 
         (sym ((graph _ _).0 (chains.chained n from within)).1);
   }
 
-  plaintext-same : (iv : List ℕ) (p other q : List (List ℕ)) → Unchains back iv q p → Unchains back iv q other
+  plaintext-same : (iv : List ℕ) (p other q : List (List ℕ)) → CbcDecrypts back iv q p → CbcDecrypts back iv q other
       → p ≡ other
   plaintext-same iv p other q one two =
       ext_get_or [] p other (one.count ∙ sym two.count) (λ i within.
       let this : i + 1 - 1 ≡ i = omega arith in
       let place : i + 1 ≤ length q = omega (arith, within, one.count) in
       ap (λ (n : ℕ). get_or p n []) (sym this)
-      ∙ one.unchained (i + 1) (omega arith) place
-      ∙ sym (two.unchained (i + 1) (omega arith) place)
+      ∙ one.cbc_decrypted (i + 1) (omega arith) place
+      ∙ sym (two.cbc_decrypted (i + 1) (omega arith) place)
       ∙ ap (λ (n : ℕ). get_or other n []) this)
 
   -- ---- what was encrypted, and what is read
@@ -116,7 +116,7 @@ module _ (Relates : List ℕ → List ℕ → Type 0) (back : List ℕ → List 
       (ciphertext-are_blocks iv two.p_blocks two.q_blocks two.encrypted) (one.of_q ∙ sym two.of_q) in
       sym one.of_p
       ∙ ap joined (plaintext-same iv one.p_blocks two.p_blocks two.q_blocks
-      (subst (λ (q : List (List ℕ)). Unchains back iv q one.p_blocks) blocks
+      (subst (λ (q : List (List ℕ)). CbcDecrypts back iv q one.p_blocks) blocks
       (ciphertext-decrypted iv one.p_blocks one.q_blocks vector one.encrypted))
       (ciphertext-decrypted iv two.p_blocks two.q_blocks vector two.encrypted))
       ∙ two.of_p
@@ -239,7 +239,7 @@ pub mysql-again : (key : List ℕ) (number : ℕ) (lengths bytes sizes values ag
     → ComeAgain lengths bytes sizes again again_lengths statuses
 mysql-again key number lengths bytes sizes values again again_lengths statuses is_key whole =
     texts-again Mysql (Cbc (replicate 8 0)) (EnciphersEde3 key) (ede3_decryption key) (Writes key number) lengths bytes sizes
-    values again again_lengths statuses (AnswerBy-Triple true true key is_key).decryption
+    values again again_lengths statuses (HasGraphs-Triple true true key is_key).decryption
     (refl, All-replicate (λ byte. byte < 256) 8 0 (lit< tt)) (λ text value fits. mysql-read key number text value) whole
     (λ k d below. tt)
 
@@ -272,8 +272,8 @@ decrypts : (cipher : Cipher) (key : List ℕ) → AreBytes key
 unfolding decryption_by
 decrypts Des key are = IsGraphOf-decryption (filled 8 key) (filled-bytes 8 key are)
 decrypts DesEcb key are = IsGraphOf-decryption (filled 8 key) (filled-bytes 8 key are)
-decrypts TripleDes key are = (AnswerBy-Triple true true (filled 24 key) (filled-bytes 24 key are)).decryption
-decrypts TripleDesEcb key are = (AnswerBy-Triple true true (filled 24 key) (filled-bytes 24 key are)).decryption
+decrypts TripleDes key are = (HasGraphs-Triple true true (filled 24 key) (filled-bytes 24 key are)).decryption
+decrypts TripleDesEcb key are = (HasGraphs-Triple true true (filled 24 key) (filled-bytes 24 key are)).decryption
 
 pub pgcrypto-again : (by : Scheme) (key iv lengths bytes sizes values again again_lengths : List ℕ) (statuses : List ℤ)
     → AreBytes key → AreBytes iv → sum lengths ≡ length bytes → All (IsTextSize by.form) lengths

@@ -1,7 +1,7 @@
 -- What tests of blocks tell, if a relation gives the blocks.
 use Rattle.std.proofs.Common.{◌≡◌, ◌↔◌, ℕ, List, IsTrue, Bool, sym, subst, ◌∙◌}
 use Rattle.des.specs.Blocks.{IsBlock}
-use Rattle.des.specs.Relations.{IsTheOne, HasOneAnswerEachWay, IsGraphOf}
+use Rattle.des.specs.Relations.{IsTheOne, IsBijection, IsGraphOf}
 
 -- whether a function makes this of a block tells whether the relation, which is its graph, takes the block to it
 pub related : {same : Bool} (function : List ℕ → List ℕ) (Relates : List ℕ → List ℕ → Type 0)
@@ -16,7 +16,7 @@ related function Relates block made result graph is_block by told = (
 -- if a relation takes one block to each, whether two blocks are taken to one tells whether they are one
 pub one_block : {same : Bool} (Relates : List ℕ → List ℕ → Type 0)
     (block other result other_result : List ℕ)
-    → HasOneAnswerEachWay Relates → IsBlock result
+    → IsBijection Relates → IsBlock result
     → IsTheOne (Relates block) result → IsTheOne (Relates other) other_result
     → IsTrue same ↔ (result ≡ other_result) → IsTrue same ↔ (block ≡ other)
 one_block Relates block other result other_result one is_block this that told =

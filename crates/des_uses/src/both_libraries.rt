@@ -2,7 +2,7 @@
 //! what the clauses that the two make the same blocks give to a caller.
 
 ghost use Rattle.std.specs.Prelude.{◌≡◌};
-ghost use Rattle.des.specs.Relations.{IsTheOne, AnswerAlike};
+ghost use Rattle.des.specs.Relations.{IsTheOne, AgreeOnBlocks};
 
 use crate::by_relation::RelatesBlocks;
 use des::cipher::{KeyInit, KeySizeUser};
@@ -17,10 +17,10 @@ pub trait AgreesWithPort: RelatesBlocks {
     fn of_key_alike(key: &Self::Key) -> Self
         ensures encrypts_alike { (other : Self.Port)
             → Self.Port.is_made_from other (Self.Key.bytes_of key.now)
-            → AnswerAlike (Self.encrypted result) (Self.Port.encrypted other) }
+            → AgreeOnBlocks (Self.encrypted result) (Self.Port.encrypted other) }
         ensures decrypts_alike { (other : Self.Port)
             → Self.Port.is_made_from other (Self.Key.bytes_of key.now)
-            → AnswerAlike (Self.decrypted result) (Self.Port.decrypted other) };
+            → AgreeOnBlocks (Self.decrypted result) (Self.Port.decrypted other) };
 }
 
 impl AgreesWithPort for des_fast::Des {

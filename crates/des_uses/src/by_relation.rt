@@ -4,7 +4,7 @@
 
 ghost use Rattle.std.specs.Prelude.{◌≡◌, ◌↔◌, ℕ, List, IsTrue};
 ghost use Rattle.des.specs.Blocks.{IsKey};
-ghost use Rattle.des.specs.Relations.{IsTheOne, HasOneAnswerEachWay, IsGraphOf};
+ghost use Rattle.des.specs.Relations.{IsTheOne, IsBijection, IsGraphOf};
 
 use des::cipher::{BlockCipherDecrypt, BlockCipherEncrypt, KeyInit, Relating};
 use des::tdes::{Ede2, Ede3, Eee2, Eee3, SingleDes};
@@ -17,7 +17,7 @@ pub trait RelatesBlocks: Relating {
     fn of_key(key: &Self::Key) -> Self
         ensures key { IsKey Self.KEY_SIZE (Self.Key.bytes_of key.now) }
         ensures made { Self.is_made_from result (Self.Key.bytes_of key.now) }
-        ensures one_answer_each_way { HasOneAnswerEachWay
+        ensures bijective { IsBijection
             (Self.relation (Self.Key.bytes_of key.now)) }
         ensures encryption { IsGraphOf (Self.encryption (Self.Key.bytes_of key.now))
             (Self.relation (Self.Key.bytes_of key.now)) }

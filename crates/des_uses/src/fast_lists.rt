@@ -2,7 +2,7 @@
 //! `cipher.encrypt_many(blocks)` gets, by the relation of the key.
 
 ghost use Rattle.des.specs.Blocks.{AnswersEach};
-ghost use Rattle.des.specs.Cbc.{Chains};
+ghost use Rattle.des.specs.Cbc.{CbcUnder};
 ghost use Rattle.des.specs.Enciphering.{Enciphers};
 ghost use Rattle.des.specs.Relations.{IsTheOne};
 
@@ -34,7 +34,7 @@ pub fn decrypt_list_by_fast_des(key: &[u8; 8], blocks: &mut [[u8; 8]])
 /// the key takes each new block xor the block of the list before it, or for the first the vector,
 /// to the block of the list.
 pub fn decrypt_cbc_by_fast_des(key: &[u8; 8], iv: &[u8; 8], blocks: &mut [[u8; 8]])
-    ensures { Chains (λ x y. Enciphers key.now x y) iv.now blocks.new blocks.old }
+    ensures { CbcUnder (λ x y. Enciphers key.now x y) iv.now blocks.new blocks.old }
 {
     let cipher = Des::new(key);
     cipher.decrypt_cbc(iv, blocks);

@@ -2,7 +2,7 @@
 //! `des_fast::many` can promise, of any cipher with its calls by the laws of the traits.
 
 ghost use Rattle.std.specs.Prelude.{◌≡◌, ◌↔◌, length, map, IsOk, OnOk, OnErr};
-ghost use Rattle.des.specs.Cbc.{Chains};
+ghost use Rattle.des.specs.Cbc.{CbcUnder};
 ghost use Rattle.des.specs.Relations.{TakesBlock};
 
 use des::cipher::{InvalidLength, KeyedCipher};
@@ -19,7 +19,7 @@ pub fn read_long_record<C: KeyedCipher + ManyBlocks + Drop>(
 ) -> Result<(), InvalidLength>
     ensures accepted { IsOk result ↔ (length key.now ≡ C.KEY_SIZE) }
     ensures read { OnOk result
-        (Chains (TakesBlock (C.encryption key.now)) iv.now blocks.new blocks.old) }
+        (CbcUnder (TakesBlock (C.encryption key.now)) iv.now blocks.new blocks.old) }
     ensures kept { OnErr result (blocks.new ≡ blocks.old) }
 {
     let cipher = C::new_from_slice(key)?;

@@ -2,7 +2,7 @@
 //! promise, of any cipher by the laws of the traits, and of triple DES by its relation.
 
 ghost use Rattle.std.specs.Prelude.{◌≡◌, ◌↔◌, length, IsOk, OnOk, OnErr};
-ghost use Rattle.des.specs.Cbc.{Chains};
+ghost use Rattle.des.specs.Cbc.{CbcUnder};
 ghost use Rattle.des.specs.Relations.{TakesBlock};
 ghost use Rattle.des.specs.Triple.{EnciphersEde3};
 
@@ -20,7 +20,7 @@ pub fn read_record_by<C: KeyedCipher + Drop>(
 ) -> Result<(), InvalidLength>
     ensures accepted { IsOk result ↔ (length key.now ≡ C.KEY_SIZE) }
     ensures read { OnOk result
-        (Chains (TakesBlock (C.encryption key.now)) iv.now blocks.new blocks.old) }
+        (CbcUnder (TakesBlock (C.encryption key.now)) iv.now blocks.new blocks.old) }
     ensures kept { OnErr result (blocks.new ≡ blocks.old) }
 {
     let cipher = C::new_from_slice(key)?;
@@ -33,7 +33,7 @@ pub fn read_record_by<C: KeyedCipher + Drop>(
 /// that does not have 24 bytes is `InvalidLength`, and the record is unchanged.
 pub fn read_record(key: &[u8], iv: &[u8; 8], blocks: &mut [[u8; 8]]) -> Result<(), InvalidLength>
     ensures accepted { IsOk result ↔ (length key.now ≡ 24) }
-    ensures read { OnOk result (Chains (EnciphersEde3 key.now) iv.now blocks.new blocks.old) }
+    ensures read { OnOk result (CbcUnder (EnciphersEde3 key.now) iv.now blocks.new blocks.old) }
     ensures kept { OnErr result (blocks.new ≡ blocks.old) }
 {
     read_record_by::<TdesEde3>(key, iv, blocks)

@@ -2,7 +2,7 @@
 //! of any cipher with it and at any width, by the laws of the traits. The lists may have any length.
 
 ghost use Rattle.std.specs.Prelude.{◌≡◌, ◌↔◌, length, map, IsOk, OnOk, OnErr};
-ghost use Rattle.des.specs.Cbc.{Chains};
+ghost use Rattle.des.specs.Cbc.{CbcUnder};
 ghost use Rattle.des.specs.Relations.{TakesBlock};
 
 use des::cipher::{InvalidLength, KeyedCipher};
@@ -48,7 +48,7 @@ pub fn decrypt_cbc_spread<S: Slice, C: KeyedCipher + SpreadOnce + Drop>(
 ) -> Result<(), InvalidLength>
     ensures accepted { IsOk result ↔ (length key.now ≡ C.KEY_SIZE) }
     ensures read { OnOk result
-        (Chains (TakesBlock (C.encryption key.now)) iv.now blocks.new blocks.old) }
+        (CbcUnder (TakesBlock (C.encryption key.now)) iv.now blocks.new blocks.old) }
     ensures kept { OnErr result (blocks.new ≡ blocks.old) }
 {
     let cipher = C::new_from_slice(key)?;

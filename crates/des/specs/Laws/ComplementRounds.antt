@@ -10,7 +10,7 @@ use Rattle.des.specs.Bits.{bits_of_bytes, select}
 use Rattle.des.specs.Tables.{initial_permutation, final_permutation, expansion, permuted_choice_1, permuted_choice_2}
 use Rattle.des.specs.CipherFunction.{cipher_function}
 use Rattle.des.specs.KeySchedule.{c_half, d_half, rotate, shifts_through, round_key, key_schedule}
-use Rattle.des.specs.Rounds.{after_rounds, swapped, through_rounds, answer_by}
+use Rattle.des.specs.Rounds.{after_rounds, swapped, through_rounds, block_by_keys}
 use Rattle.des.specs.Blocks.{IsBlock}
 use Rattle.des.specs.Complement.{complement_bits, complement}
 use Rattle.des.specs.Laws.Selections.{length-select}
@@ -120,9 +120,9 @@ through_rounds-complement keys block width =
 
 -- the rounds of complemented round keys make of a complemented block the complement of what the
 -- rounds make of the block
-pub answer_by-complement : (keys : List (List Bool)) (block : List ℕ) → IsBlock block
-    → answer_by (map complement_bits keys) (complement block) ≡ complement (answer_by keys block)
-answer_by-complement keys block is_block =
+pub block_by_keys-complement : (keys : List (List Bool)) (block : List ℕ) → IsBlock block
+    → block_by_keys (map complement_bits keys) (complement block) ≡ complement (block_by_keys keys block)
+block_by_keys-complement keys block is_block =
     let bits : List Bool = bits_of_bytes block in
     let width : length bits ≡ 64 = length-bits_of_block block is_block in
     rw (bits_of_bytes-complement block, through_rounds-complement keys bits width)

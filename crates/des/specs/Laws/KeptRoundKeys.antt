@@ -7,7 +7,7 @@ use Rattle.des.specs.Bits.{bits_of_word, bits_of_bytes, zeros}
 use Rattle.des.specs.Tables.{permuted_choice_2}
 use Rattle.des.specs.KeySchedule.{key_schedule, round_key}
 use Rattle.des.specs.RoundKeyWords.{HoldRoundKeys, round_keys_of}
-use Rattle.des.specs.Rounds.{answer_by}
+use Rattle.des.specs.Rounds.{block_by_keys}
 use Rattle.des.specs.Laws.Passes.{Agree}
 use Rattle.des.specs.Laws.Selections.{length-select}
 
@@ -28,10 +28,10 @@ round_keys_of-HoldRoundKeys words key kept =
 
 -- they answer a block as the key does, in each order of the round keys
 pub Agree-kept : (order : List (List Bool) → List (List Bool)) (words key : List ℕ)
-    → HoldRoundKeys words (bits_of_bytes key) → Agree (answer_by (order (round_keys_of words)))
-    (answer_by (order (key_schedule (bits_of_bytes key))))
+    → HoldRoundKeys words (bits_of_bytes key) → Agree (block_by_keys (order (round_keys_of words)))
+    (block_by_keys (order (key_schedule (bits_of_bytes key))))
 Agree-kept order words key kept = record {
   at = λ block is_block.
-      ap (λ keys. answer_by (order keys) block)
+      ap (λ keys. block_by_keys (order keys) block)
       (round_keys_of-HoldRoundKeys words (bits_of_bytes key) kept);
 }

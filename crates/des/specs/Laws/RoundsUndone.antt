@@ -4,7 +4,7 @@ use Rattle.std.proofs.lemmas.List.{reverse-append, reverse-reverse}
 use Rattle.des.specs.Bits.{bits_of_bytes, select, xor_bits}
 use Rattle.des.specs.Tables.{initial_permutation, final_permutation}
 use Rattle.des.specs.CipherFunction.{cipher_function}
-use Rattle.des.specs.Rounds.{after_rounds, swapped, through_rounds, answer_by}
+use Rattle.des.specs.Rounds.{after_rounds, swapped, through_rounds, block_by_keys}
 use Rattle.des.specs.Blocks.{IsBlock, block_of_bits}
 use Rattle.des.specs.Laws.Selections.{length-select, length-xor_bits, length-cipher_function, xor_bits-xor_bits, select-initial_permutation, select-final_permutation}
 use Rattle.des.specs.Laws.BlockBits.{IsBlock-block_of_bits, bits_of_bytes-block_of_bits, block_of_bits-bits_of_bytes, length-bits_of_block}
@@ -109,9 +109,9 @@ through_rounds-reverse keys block width =
     ∙ select-final_permutation block width
 
 -- the same of blocks of eight bytes
-answer_by-reverse : (keys : List (List Bool)) (block : List ℕ) → IsBlock block
-    → answer_by (reverse keys) (answer_by keys block) ≡ block
-answer_by-reverse keys block is_block =
+block_by_keys-reverse : (keys : List (List Bool)) (block : List ℕ) → IsBlock block
+    → block_by_keys (reverse keys) (block_by_keys keys block) ≡ block
+block_by_keys-reverse keys block is_block =
     let bits : List Bool = bits_of_bytes block in
     ap (λ (x : List Bool). block_of_bits (through_rounds (reverse keys) x))
     (bits_of_bytes-block_of_bits (through_rounds keys bits) (length-through_rounds keys bits))
@@ -119,12 +119,12 @@ answer_by-reverse keys block is_block =
     ∙ block_of_bits-bits_of_bytes block is_block
 
 -- the rounds of a list of round keys, and those of the opposite order, are a pass
-pub IsPass-answer_by : (keys : List (List Bool))
-    → IsPass (answer_by keys) (answer_by (reverse keys))
-IsPass-answer_by keys = record {
+pub IsPass-block_by_keys : (keys : List (List Bool))
+    → IsPass (block_by_keys keys) (block_by_keys (reverse keys))
+IsPass-block_by_keys keys = record {
   forth_is_block = λ block is_block. IsBlock-block_of_bits _;
   back_is_block = λ block is_block. IsBlock-block_of_bits _;
-  back_forth = answer_by-reverse keys;
+  back_forth = block_by_keys-reverse keys;
   forth_back =
-      λ block is_block. rw reverse-reverse at (answer_by-reverse (reverse keys) block is_block);
+      λ block is_block. rw reverse-reverse at (block_by_keys-reverse (reverse keys) block is_block);
 }

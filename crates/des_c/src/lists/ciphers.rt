@@ -2,7 +2,7 @@
 
 ghost use Rattle.std.specs.Prelude.{◌≡◌, ◌≢◌, ◌↔◌, ℕ, List};
 ghost use Rattle.des.specs.Blocks.{AnswersEach};
-ghost use Rattle.des.specs.Cbc.{Chains, next_vector};
+ghost use Rattle.des.specs.Cbc.{CbcUnder, next_vector};
 ghost use Rattle.des.specs.Relations.{IsTheOne};
 ghost use Rattle.des_context.specs.Bytes.{AreBytesOf, FitInto};
 ghost use Rattle.des_context.specs.Contexts.{HasMark, IsContextOf, IsSoundIfMarked};
@@ -120,7 +120,7 @@ pub extern "C" fn cukvashe_internal_decrypt_cbc(
     ensures refused { (result ≡ ERR_BLOCKS)
         ↔ (HasMark NO_MAC context.now × ¬ (AreBytesOf blocks.old size)) }
     ensures chained { result ≡ OK → (key : List ℕ) → IsContextOf context.now key
-        → Chains (relation_of key) iv.old blocks.new blocks.old }
+        → CbcUnder (relation_of key) iv.old blocks.new blocks.old }
     ensures goes_on { result ≡ OK → iv.new ≡ next_vector iv.old blocks.old }
     ensures kept { result ≢ OK → (blocks.new ≡ blocks.old) × (iv.new ≡ iv.old) }
 {
@@ -145,7 +145,7 @@ pub extern "C" fn cukvashe_internal_decrypt_cbc_to(
     ensures refused { (result ≡ ERR_BLOCKS)
         ↔ (HasMark NO_MAC context.now × ¬ (FitInto output.old input.now size)) }
     ensures chained { result ≡ OK → (key : List ℕ) → IsContextOf context.now key
-        → Chains (relation_of key) iv.old output.new input.now }
+        → CbcUnder (relation_of key) iv.old output.new input.now }
     ensures goes_on { result ≡ OK → iv.new ≡ next_vector iv.old input.now }
     ensures kept { result ≢ OK → (output.new ≡ output.old) × (iv.new ≡ iv.old) }
 {

@@ -5,7 +5,7 @@ ghost use Rattle.des_fast.specs.Records.{GoOn};
 ghost use Rattle.des_context.specs.Bytes.{AreBytesOf};
 ghost use Rattle.des_context.specs.CipherTypes.{relation_of};
 ghost use Rattle.des_context.specs.Contexts.{HasMark, IsContextOf, IsSoundIfMarked};
-ghost use Rattle.des_context.specs.Records.{AreSizesOf, ChainsEach};
+ghost use Rattle.des_context.specs.Records.{AreSizesOf, CbcUnderEach};
 
 use super::Width;
 use des_context::contexts::NO_MAC;
@@ -33,7 +33,7 @@ pub extern "C" fn cukvashe_internal_encrypt_cbc_records(
     ensures refused { (result ≡ ERR_COUNTS) ↔ (HasMark NO_MAC context.now
         × AreBytesOf blocks.old size × ¬ (AreSizesOf counts.now vectors.old blocks.old)) }
     ensures chained { result ≡ OK → (key : List ℕ) → IsContextOf context.now key
-        → ChainsEach (relation_of key) counts.now vectors.old blocks.old blocks.new }
+        → CbcUnderEach (relation_of key) counts.now vectors.old blocks.old blocks.new }
     ensures goes_on { result ≡ OK → GoOn counts.now vectors.old blocks.new vectors.new }
     ensures count { (length vectors.new ≡ length vectors.old)
         × (length blocks.new ≡ length blocks.old) }
@@ -60,7 +60,7 @@ pub extern "C" fn cukvashe_internal_decrypt_cbc_records(
     ensures refused { (result ≡ ERR_COUNTS) ↔ (HasMark NO_MAC context.now
         × AreBytesOf blocks.old size × ¬ (AreSizesOf counts.now vectors.old blocks.old)) }
     ensures chained { result ≡ OK → (key : List ℕ) → IsContextOf context.now key
-        → ChainsEach (relation_of key) counts.now vectors.old blocks.new blocks.old }
+        → CbcUnderEach (relation_of key) counts.now vectors.old blocks.new blocks.old }
     ensures goes_on { result ≡ OK → GoOn counts.now vectors.old blocks.old vectors.new }
     ensures count { (length vectors.new ≡ length vectors.old)
         × (length blocks.new ≡ length blocks.old) }

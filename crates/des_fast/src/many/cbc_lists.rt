@@ -5,7 +5,7 @@
 ghost use Rattle.std.specs.Prelude.{◌≡◌, ℕ, List};
 ghost use Rattle.std.specs.List.{All};
 ghost use Rattle.des.specs.Blocks.{IsBlock};
-ghost use Rattle.des.specs.Cbc.{Unchains};
+ghost use Rattle.des.specs.Cbc.{CbcDecrypts};
 ghost use Rattle.des_fast.specs.SpreadKeys.{AreSlicesFor};
 
 use super::{LARGEST_BATCH, Slice, process};
@@ -22,7 +22,7 @@ pub(super) fn cbc_decrypt_few<P: BlockTransform>(
     passes: &P,
 )
     ensures blocks { All IsBlock blocks.old }
-    ensures unchained { Unchains (P.output passes.now) iv.now blocks.old blocks.new }
+    ensures cbc_decrypted { CbcDecrypts (P.output passes.now) iv.now blocks.old blocks.new }
 {
     if no_tables {
         lists::decrypt_cbc::<NoTables, P>(blocks, iv, passes);
@@ -49,9 +49,9 @@ impl<'a, S: Slice> ListDecryption for InBatches<'a, S> {
 /// left over.
 pub(super) fn cbc_decrypt<S: Slice>(blocks: &mut [[u8; 8]], iv: &[u8; 8], passes: &[PassSlices<S>])
     ensures blocks { All IsBlock blocks.old }
-    ensures unchained { (decryption : List ℕ → List ℕ)
+    ensures cbc_decrypted { (decryption : List ℕ → List ℕ)
         → AreSlicesFor S.BATCH S.bit passes.now decryption
-        → Unchains decryption iv.now blocks.old blocks.new }
+        → CbcDecrypts decryption iv.now blocks.old blocks.new }
 {
     let mut buffer = [[0; 8]; LARGEST_BATCH];
     cbc::decrypt_by(&InBatches { passes }, iv, blocks, &mut buffer[..S::BATCH]);

@@ -5,7 +5,7 @@ ghost use Rattle.std.specs.Simd.Lanes.{zip2};
 ghost use Rattle.des_fast.specs.Slices.{InEachBlock};
 ghost use Rattle.des_fast.specs.SpreadKeys.{used};
 ghost use Rattle.des_fast.specs.EachKey.{lane_output, last_part, triple_parts};
-ghost use Rattle.des_fast.specs.LaneKeys.{AnswerLanes, answer_in};
+ghost use Rattle.des_fast.specs.LaneKeys.{RelateLanes, block_in};
 ghost use Rattle.des_fast.specs.ChainingValues.{AreChainingValues, under_key};
 
 use super::chain_keys::ChainKeys;
@@ -23,8 +23,8 @@ pub trait KeyForEach: KeyedCipher + Sized {
     /// Makes the lanes' keys these, at most a batch of them, for decryption or encryption.
     fn spread_each<S: Slice>(keys: &[Self::Key], deciphers: bool, lanes: &mut LaneKeys<S>)
         requires { length keys.now ≤ S.BATCH }
-        ensures { AnswerLanes S.bit lanes.new
-            (answer_in deciphers Self.encryption Self.decryption)
+        ensures { RelateLanes S.bit lanes.new
+            (block_in deciphers Self.encryption Self.decryption)
             (map Self.Key.bytes_of keys.now) };
 
     /// Encrypts each block of 8 bytes in place under the key at its place, `S::BATCH` blocks at a
@@ -163,7 +163,7 @@ fn process_part<S: Slice, C: KeyForEach>(
 )
     requires same { length keys.now ≡ length blocks.old }
     requires batch { length blocks.old ≤ S.BATCH }
-    ensures { blocks.new ≡ zip2 (answer_in deciphers C.encryption C.decryption)
+    ensures { blocks.new ≡ zip2 (block_in deciphers C.encryption C.decryption)
         (map C.Key.bytes_of keys.now) blocks.old }
 {
     C::spread_each(keys, deciphers, lanes);
@@ -173,7 +173,7 @@ fn process_part<S: Slice, C: KeyForEach>(
 // Takes each block through a cipher under its key, batch after batch, and then what is left over.
 fn process_each<S: Slice, C: KeyForEach>(keys: &[C::Key], blocks: &mut [[u8; 8]], deciphers: bool)
     requires { length keys.now ≡ length blocks.old }
-    ensures { blocks.new ≡ zip2 (answer_in deciphers C.encryption C.decryption)
+    ensures { blocks.new ≡ zip2 (block_in deciphers C.encryption C.decryption)
         (map C.Key.bytes_of keys.now) blocks.old }
 {
     let mut lanes = LaneKeys::zeros();
@@ -193,7 +193,7 @@ fn process_equal<S: Slice, C: KeyForEach>(
     deciphers: bool,
 ) -> Result<(), NotEqualError>
     ensures accepted { IsOk result ↔ (length keys.now ≡ length blocks.old) }
-    ensures ok { OnOk result (blocks.new ≡ zip2 (answer_in deciphers C.encryption C.decryption)
+    ensures ok { OnOk result (blocks.new ≡ zip2 (block_in deciphers C.encryption C.decryption)
         (map C.Key.bytes_of keys.now) blocks.old) }
     ensures err { OnErr result (blocks.new ≡ blocks.old) }
 {

@@ -9,8 +9,8 @@ ghost use Rattle.std.specs.List.{All};
 ghost use Rattle.des.specs.Blocks.{IsBlock};
 ghost use Rattle.des.specs.Cbc.{xor_blocks};
 ghost use Rattle.des_fast.specs.Largest.{IsLargest};
-ghost use Rattle.des_fast.specs.Records.{start, CbcEach, UnchainsEach, GoOn};
-ghost use Rattle.des_fast.specs.RecordStates.{HasBlock, AreWritten, AreChainedBelow, AreUnchainedBelow};
+ghost use Rattle.des_fast.specs.Records.{start, CbcEach, CbcDecryptsEach, GoOn};
+ghost use Rattle.des_fast.specs.RecordStates.{HasBlock, AreWritten, AreChainedBelow, AreCbcDecryptedBelow};
 ghost use Rattle.des_fast.specs.SpreadKeys.{AreSlicesFor};
 ghost use Rattle.des_fast.specs.Transposition.{block_at};
 
@@ -130,7 +130,7 @@ fn write_lanes(
     }
 }
 
-// Chains the records of a group in step.
+// CbcUnder the records of a group in step.
 fn cbc_encrypt_group<S: Slice>(
     vectors: &mut [[u8; 8]],
     sizes: &[usize],
@@ -162,7 +162,7 @@ fn cbc_encrypt_group<S: Slice>(
     }
 }
 
-/// Chains each record from the vector at its place, a batch of records at a time, and makes the
+/// CbcUnder each record from the vector at its place, a batch of records at a time, and makes the
 /// vector the one with which the chain goes on.
 pub(super) fn cbc_encrypt<S: Slice>(
     vectors: &mut [[u8; 8]],
@@ -247,11 +247,11 @@ fn take_out(
     ensures before { result.start ≤ span.from + span.count }
     ensures count { length blocks.new ≡ length blocks.old }
     ensures vectors { length vectors.new ≡ length vectors.old }
-    ensures unchained { (decryption : List ℕ → List ℕ) (first q : List (List ℕ))
+    ensures cbc_decrypted { (decryption : List ℕ → List ℕ) (first q : List (List ℕ))
         → ((k : ℕ) → k < span.count
         → block_at answers.now k ≡ decryption (block_at blocks.old (span.from + k)))
-        → AreUnchainedBelow decryption sizes.now first q vectors.old blocks.old span.from
-        → AreUnchainedBelow decryption sizes.now first q vectors.new blocks.new
+        → AreCbcDecryptedBelow decryption sizes.now first q vectors.old blocks.old span.from
+        → AreCbcDecryptedBelow decryption sizes.now first q vectors.new blocks.new
         (span.from + span.count) }
 {
     let mut record = span.current;
@@ -282,10 +282,10 @@ fn cbc_decrypt_part<S: Slice>(
     ensures before { result.start ≤ span.from + span.count }
     ensures count { length blocks.new ≡ length blocks.old }
     ensures vectors { length vectors.new ≡ length vectors.old }
-    ensures unchained { (decryption : List ℕ → List ℕ) (first q : List (List ℕ))
+    ensures cbc_decrypted { (decryption : List ℕ → List ℕ) (first q : List (List ℕ))
         → AreSlicesFor S.BATCH S.bit passes.now decryption
-        → AreUnchainedBelow decryption sizes.now first q vectors.old blocks.old span.from
-        → AreUnchainedBelow decryption sizes.now first q vectors.new blocks.new
+        → AreCbcDecryptedBelow decryption sizes.now first q vectors.old blocks.old span.from
+        → AreCbcDecryptedBelow decryption sizes.now first q vectors.new blocks.new
         (span.from + span.count) }
 {
     let mut answers = [[0; 8]; LARGEST_BATCH];
@@ -306,9 +306,9 @@ pub(super) fn cbc_decrypt<S: Slice>(
     requires whole { length blocks.old ≡ sum sizes.now }
     ensures vectors { length vectors.new ≡ length vectors.old }
     ensures count { length blocks.new ≡ length blocks.old }
-    ensures unchained { (decryption : List ℕ → List ℕ)
+    ensures cbc_decrypted { (decryption : List ℕ → List ℕ)
         → AreSlicesFor S.BATCH S.bit passes.now decryption
-        → UnchainsEach decryption sizes.now vectors.old blocks.old blocks.new }
+        → CbcDecryptsEach decryption sizes.now vectors.old blocks.old blocks.new }
     ensures goes_on { (decryption : List ℕ → List ℕ)
         → AreSlicesFor S.BATCH S.bit passes.now decryption
         → GoOn sizes.now vectors.old blocks.old vectors.new }

@@ -3,8 +3,8 @@
 ghost use Rattle.std.specs.Prelude.{◌≡◌, ◌↔◌, ℕ, List, IsTrue, IsOk, OnOk, OnErr, length, map, sum};
 ghost use Rattle.std.specs.List.{All};
 ghost use Rattle.des.specs.Blocks.{IsBlock};
-ghost use Rattle.des.specs.Cbc.{Unchains};
-ghost use Rattle.des_fast.specs.Records.{CbcEach, UnchainsEach, GoOn};
+ghost use Rattle.des.specs.Cbc.{CbcDecrypts};
+ghost use Rattle.des_fast.specs.Records.{CbcEach, CbcDecryptsEach, GoOn};
 ghost use Rattle.des_fast.specs.SpreadKeys.{AreSpreadKeys};
 
 use super::lanes::LaneKeys;
@@ -59,9 +59,9 @@ impl<S: Slice> SpreadKeys<S> {
     /// vector, as `decrypt_cbc` of a cipher whose keys these are. An empty list stays empty.
     pub fn decrypt_cbc(&self, iv: &[u8; 8], blocks: &mut [[u8; 8]])
         ensures blocks { All IsBlock blocks.old }
-        ensures unchained { (encrypted decrypted : List ℕ → List ℕ)
+        ensures cbc_decrypted { (encrypted decrypted : List ℕ → List ℕ)
             → AreSpreadKeys S.BATCH S.bit self.now encrypted decrypted
-            → Unchains decrypted iv.now blocks.old blocks.new }
+            → CbcDecrypts decrypted iv.now blocks.old blocks.new }
     {
         cbc_lists::cbc_decrypt::<S>(blocks, iv, self.decryption.passes());
     }
@@ -113,9 +113,9 @@ impl<S: Slice> SpreadKeys<S> {
         ensures blocks { All IsBlock blocks.old }
         ensures accepted { IsOk result ↔ ((length vectors.old ≡ length sizes.now)
             × (sum sizes.now ≡ length blocks.old)) }
-        ensures unchained { OnOk result ((encrypted decrypted : List ℕ → List ℕ)
+        ensures cbc_decrypted { OnOk result ((encrypted decrypted : List ℕ → List ℕ)
             → AreSpreadKeys S.BATCH S.bit self.now encrypted decrypted
-            → UnchainsEach decrypted sizes.now vectors.old blocks.old blocks.new) }
+            → CbcDecryptsEach decrypted sizes.now vectors.old blocks.old blocks.new) }
         ensures goes_on { OnOk result ((encrypted decrypted : List ℕ → List ℕ)
             → AreSpreadKeys S.BATCH S.bit self.now encrypted decrypted
             → GoOn sizes.now vectors.old blocks.old vectors.new) }

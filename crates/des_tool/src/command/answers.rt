@@ -3,7 +3,7 @@
 ghost use Rattle.std.specs.Prelude.{◌≡◌, ◌≤◌, map, IfOk};
 ghost use Rattle.std.specs.Option.{option_or};
 ghost use Rattle.des.specs.Blocks.{AnswersEach};
-ghost use Rattle.des.specs.Cbc.{Chains, Cbc, Unchains};
+ghost use Rattle.des.specs.Cbc.{CbcUnder, Cbc, CbcDecrypts};
 ghost use Rattle.des.specs.Relations.{IsTheOne};
 ghost use Rattle.des_tool.specs.Digits.{bytes_of_digits};
 ghost use Rattle.des_tool.specs.Request.{of_blocks, of_cbc, texts};
@@ -130,7 +130,7 @@ fn cbc_text_by<C: KeyedCipher + Drop>(
     ensures fault { FailsBy (option_or (key_fault C.KEY_SIZE key.now)
         (option_or (vector_fault vector.now) (blocks_fault digits.now))) result }
     ensures answer { IfOk result (λ text. IsTextOf (ReadIn direction
-        (Chains (IsMadeBy C.encryption C.KEY_SIZE (bytes_of_digits key.now))
+        (CbcUnder (IsMadeBy C.encryption C.KEY_SIZE (bytes_of_digits key.now))
         (bytes_of_digits vector.now)))
         digits.now text.items) }
 {
@@ -174,7 +174,7 @@ fn apply_ecb<C: BlockCipher>(cipher: &C, direction: Direction, blocks: &mut [[u8
 
 fn apply_cbc<C: BlockCipher>(cipher: &C, direction: Direction, iv: &[u8; 8], blocks: &mut [[u8; 8]])
     ensures { in_direction direction
-        (Cbc (C.encrypted cipher.now)) (Unchains (C.decrypted cipher.now))
+        (Cbc (C.encrypted cipher.now)) (CbcDecrypts (C.decrypted cipher.now))
         iv.now blocks.old blocks.new }
 {
     match direction {

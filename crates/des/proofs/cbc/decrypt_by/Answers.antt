@@ -2,8 +2,8 @@
 use Rattle.std.proofs.Common.{◌≡◌, ℕ, ◌+◌, ◌-◌, ◌++◌, List, length, take, drop, sym, ap, ◌∙◌, subst, arith, take-add}
 use Rattle.std.proofs.lemmas.List.{drop-drop}
 use Rattle.std.proofs.lemmas.Slice.{take-put_mid, drop-put_mid}
-use Rattle.des.specs.Cbc.{Unchains, next_vector}
-use Rattle.des.proofs.ChainedPieces.{Unchains-append, next_vector-append}
+use Rattle.des.specs.Cbc.{CbcDecrypts, next_vector}
+use Rattle.des.proofs.ChainedPieces.{CbcDecrypts-append, next_vector-append}
 use Rattle.des.proofs.cbc.decrypt_by.Goals as goal
 use borrow.Rule.Slice.PartMut.{put_mid}
 
@@ -29,16 +29,16 @@ parts-preserved g c =
           ∙ ap (λ (before : List ℕ). next_vector before (take n (drop m now))) c.parts.invariant.before
           ∙ ap (λ (rest : List (List ℕ)). next_vector begins (take n rest)) same
           ∙ sym (ap (next_vector iv) front ∙ next_vector-append iv (take m old) (take n (drop m old)));
-      unchained = λ f are.
-          let made : Unchains f begins (take n (drop m old)) part =
-          subst (λ (rest : List (List ℕ)). Unchains f begins (take n rest) part) same
-          (subst (λ (before : List ℕ). Unchains f before (take n (drop m now)) part) c.parts.invariant.before
-          (c.decrypt_part.ensures.unchained f are)) in
-          subst (λ (q : List (List ℕ)). Unchains f iv q (take (m + count) (put_mid m n now part))) (sym front)
-          (subst (λ (p : List (List ℕ)). Unchains f iv (take m old ++ take n (drop m old)) p)
+      cbc_decrypted = λ f are.
+          let made : CbcDecrypts f begins (take n (drop m old)) part =
+          subst (λ (rest : List (List ℕ)). CbcDecrypts f begins (take n rest) part) same
+          (subst (λ (before : List ℕ). CbcDecrypts f before (take n (drop m now)) part) c.parts.invariant.before
+          (c.decrypt_part.ensures.cbc_decrypted f are)) in
+          subst (λ (q : List (List ℕ)). CbcDecrypts f iv q (take (m + count) (put_mid m n now part))) (sym front)
+          (subst (λ (p : List (List ℕ)). CbcDecrypts f iv (take m old ++ take n (drop m old)) p)
           (sym (take-put_mid m n now part (m + count) (omega (arith, in_part)) (omega arith)))
-          (Unchains-append f iv (take m old) (take m now) (take n (drop m old)) part
-          (c.parts.invariant.unchained f are) made));
+          (CbcDecrypts-append f iv (take m old) (take m now) (take n (drop m old)) part
+          (c.parts.invariant.cbc_decrypted f are) made));
       rest =
           drop-put_mid m n now part (m + count) (omega arith) (omega arith) in_part
           ∙ sym (drop-drop count m now)

@@ -6,7 +6,7 @@ use Rattle.des.proofs.cbc.decrypt_part.Given as goal
 
 abbrev pub invariant-loop-k : goal.invariant-loop-k
 invariant-loop-k g l = record {
-  unchained : (n : ℕ) → 1 ≤ n → n ≤ l.k
+  cbc_decrypted : (n : ℕ) → 1 ≤ n → n ≤ l.k
       → block_at l.blocks n ≡ xor_blocks (block_at l.answers n) (block_before l.iv l.initial.blocks n);
   rest : (k : ℕ) → l.k ≤ k → get_or l.blocks k [] ≡ get_or l.initial.blocks k [];
   last : l.before ≡ block_before l.iv l.initial.blocks (l.k + 1);

@@ -1,6 +1,6 @@
 -- Why a stream does not decrypt a private key whole.
 use Rattle.std.proofs.Common.{◌≡◌, ◌≢◌, ℕ, ◌%◌, List, [], ◌++◌, length, Option, Some, None, inl, inr, refl, sym, ap, ◌∙◌, append-nil}
-use Rattle.des.specs.Relations.{AnswerAlike}
+use Rattle.des.specs.Relations.{AgreeOnBlocks}
 use Rattle.des.specs.TripleCiphers.{ede3_decryption}
 use Rattle.des_io.specs.Streams.{passage_of}
 use Rattle.des_io.specs.StreamFaults.{EndsInBlock, FailsToDecrypt}
@@ -21,7 +21,7 @@ ended-in encrypted past (Some rest) ends =
 ended-in encrypted past None ends = absurd ends.read
 
 key-fault : (fault : StreamError) (decrypted : List ℕ → List ℕ) (key vector encrypted : List ℕ)
-    (read_to written_to : Option (List ℕ)) → AnswerAlike decrypted (ede3_decryption key)
+    (read_to written_to : Option (List ℕ)) → AgreeOnBlocks decrypted (ede3_decryption key)
     → FailsToDecrypt fault decrypted (Cbc vector) Pkcs7 (passage_of (Some encrypted) read_to (Some []) written_to)
     → FailsAsPrivateKey key vector encrypted (private_key_fault fault)
 key-fault (Read error) decrypted key vector encrypted read_to written_to alike fails = inr (inr (inr refl))

@@ -1,14 +1,14 @@
 use Rattle.std.proofs.Common.{[], rules}
 use Rattle.std.proofs.lemmas.List.Elements.{All-take, All-drop, All-get_or}
 use Rattle.des.specs.Blocks.{IsBlock}
-use Rattle.des_fast.proofs.RelatedChains.{Chains-related}
-use Rattle.des_context.specs.Records.{ChainsEach}
+use Rattle.des_fast.proofs.RelatedCbc.{CbcUnder-related}
+use Rattle.des_context.specs.Records.{CbcUnderEach}
 use Rattle.des_context.proofs.RelationsByLength.{IsGraphOf-by_length}
 use Rattle.des_context.proofs.records.encrypt_records.Goals as goal
 
 -- the keys are those of the cipher, whose graph the relation is
 pub returns-in-Ok : goal.returns-in-Ok
-unfolding ChainsEach
+unfolding CbcUnderEach
 returns-in-Ok g c = record {
   accepted = search rules;
   refused = search rules;
@@ -16,7 +16,7 @@ returns-in-Ok g c = record {
       let cipher = c.of.result in
       let made = c.of.ensures key context in
       let ensured = c.in-Ok.ensures in
-      Chains-related _ _
+      CbcUnder-related _ _
       (IsGraphOf-by_length (g.met.C.ContextCipher.relates_by_length cipher key made) _
       (g.met.C.Relating.encrypts_by_relation cipher key made))
       _ _ _ (All-get_or IsBlock _ k [] below ensured.vectors)

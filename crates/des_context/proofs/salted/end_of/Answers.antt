@@ -1,7 +1,7 @@
 use Rattle.std.proofs.Common.{length, ap, sym, ◌∙◌, arith, rules}
 use Rattle.des.proofs.ByteArrays.{IsBlock-array}
 use Rattle.des_context.specs.CipherTypes.{cipher_type_of_length}
-use Rattle.des_context.proofs.OpenedBlocks.{AnswerBy-cipher_type, opened-some, opened-never, EndsWith-padded}
+use Rattle.des_context.proofs.OpenedBlocks.{HasGraphs-cipher_type, opened-some, opened-never, EndsWith-padded}
 use Rattle.des_context.proofs.salted.end_of.Goals as goal
 
 pub returns-in_err-last-clause-none : goal.returns-in_err-last-clause-none
@@ -10,7 +10,7 @@ returns-in_err-last-clause-none c none key made plain opened =
 
 pub returns-in_err-count-clause-none : goal.returns-in_err-count-clause-none
 returns-in_err-count-clause-none c none key made =
-    opened-never (AnswerBy-cipher_type (cipher_type_of_length (length key)) key made.0) c.args.vector.now c.args.encrypted.now
+    opened-never (HasGraphs-cipher_type (cipher_type_of_length (length key)) key made.0) c.args.vector.now c.args.encrypted.now
     c.in_ok-last.front.now c.in_ok-last.last.now c.write_piece.new.plain
     (IsBlock-array c.args.vector.now (search rules) c.fits-vector) c.requires.whole
     (rw (← c.as_chunks.ensures.front) c.are_blocks.ensures) (sym c.as_chunks.ensures.front ∙ c.in_ok-last.ensures.cases.0)
@@ -19,7 +19,7 @@ returns-in_err-count-clause-none c none key made =
 
 pub returns-clause-some : goal.returns-clause-some
 returns-clause-some c key made =
-    EndsWith-padded (AnswerBy-cipher_type (cipher_type_of_length (length key)) key made.0) c.args.vector.now c.args.encrypted.now
+    EndsWith-padded (HasGraphs-cipher_type (cipher_type_of_length (length key)) key made.0) c.args.vector.now c.args.encrypted.now
     c.in_ok-last.front.now c.in_ok-last.last.now c.write_piece.new.plain
     (IsBlock-array c.args.vector.now (search rules) c.fits-vector) c.requires.whole
     (rw (← c.as_chunks.ensures.front) c.are_blocks.ensures) (sym c.as_chunks.ensures.front ∙ c.in_ok-last.ensures.cases.0)

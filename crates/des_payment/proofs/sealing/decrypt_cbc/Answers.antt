@@ -1,7 +1,7 @@
 use Rattle.std.proofs.Common.{◌≡◌, ℕ, ◌<◌, List, length, sym, subst, ap, ◌∙◌}
 use Rattle.std.proofs.lemmas.List.Elements.{All-from_get_or}
 use Rattle.des.specs.Blocks.{AreBytes, IsBlock}
-use Rattle.des.proofs.ChainedBlocks.{Chains-from_Unchains}
+use Rattle.des.proofs.ChainedBlocks.{CbcUnder-from_CbcDecrypts}
 use Rattle.des_payment.proofs.KeyedCbc.{Cbc-by_key}
 use Rattle.des_payment.proofs.sealing.decrypt_cbc.Goals as goal
 
@@ -19,6 +19,6 @@ returns g c =
     let bytes : AreBytes key = subst AreBytes c.as_bytes.ensures.bytes c.as_bytes.ensures.are_bytes in
     Cbc-by_key encrypts by_key iv c.decrypt.new.blocks c.args.blocks.now
     (λ block is_block. g.met.C.KeyedCipher.encrypts_by_key cipher key block (count, bytes) c.new.ensures is_block)
-    (Chains-from_Unchains encrypts (g.C.BlockCipherDecrypt.decrypted cipher) iv c.decrypt.new.blocks c.args.blocks.now
+    (CbcUnder-from_CbcDecrypts encrypts (g.C.BlockCipherDecrypt.decrypted cipher) iv c.decrypt.new.blocks c.args.blocks.now
     is_iv c.decrypt.ensures.blocks (g.met.C.BlockCipher.decrypted_is_block cipher)
-    (g.met.C.BlockCipher.encrypts_decrypted cipher) c.decrypt.ensures.unchained)
+    (g.met.C.BlockCipher.encrypts_decrypted cipher) c.decrypt.ensures.cbc_decrypted)

@@ -1,7 +1,7 @@
 use Rattle.std.proofs.Common.{◌≡◌, ℕ, ◌<◌, List, length, sym, subst, ap, ◌∙◌}
 use Rattle.std.proofs.lemmas.List.Elements.{All-from_get_or}
 use Rattle.des.specs.Blocks.{AreBytes, IsBlock}
-use Rattle.des.proofs.ChainedBlocks.{Chains-from_Cbc}
+use Rattle.des.proofs.ChainedBlocks.{CbcUnder-from_Cbc}
 use Rattle.des_payment.proofs.KeyedCbc.{Cbc-by_key}
 use Rattle.des_payment.proofs.sealing.encrypt_cbc.Goals as goal
 
@@ -19,5 +19,5 @@ returns g c =
     let bytes : AreBytes key = subst AreBytes c.as_bytes.ensures.bytes c.as_bytes.ensures.are_bytes in
     Cbc-by_key encrypts by_key iv c.args.blocks.now c.encrypt.new.blocks
     (λ block is_block. g.met.C.KeyedCipher.encrypts_by_key cipher key block (count, bytes) c.new.ensures is_block)
-    (Chains-from_Cbc encrypts iv c.args.blocks.now c.encrypt.new.blocks is_iv c.encrypt.ensures.blocks
+    (CbcUnder-from_Cbc encrypts iv c.args.blocks.now c.encrypt.new.blocks is_iv c.encrypt.ensures.blocks
     (g.met.C.BlockCipher.encrypted_is_block cipher) c.encrypt.ensures.chained)

@@ -13,7 +13,7 @@ returns g c =
     let made_is_block : IsBlock c.encrypt.new.block =
     rw c.encrypt.ensures.encrypted (g.met.C.BlockCipher.encrypted_is_block c.of_key-cipher.result block is_block) in
     one_block _ block c.args.other.now c.encrypt.new.block c.encrypt-2.new.block
-    c.of_key-cipher.ensures.one_answer_each_way made_is_block
+    c.of_key-cipher.ensures.bijective made_is_block
     (c.encrypt.ensures.enciphers _ c.of_key-cipher.ensures.made)
     (c.encrypt-2.ensures.enciphers _ c.of_key-cipher.ensures.made)
     c.is_same.ensures

@@ -1,7 +1,7 @@
 use Rattle.std.proofs.Common.{ℕ, List, [], drop, slice_index, slice_index_or}
 use Rattle.std.proofs.lemmas.List.Elements.{All-take, All-drop, All-get_or}
 use Rattle.des.specs.Blocks.{IsBlock}
-use Rattle.des.proofs.ChainedBlocks.{Cbc-from_Unchains}
+use Rattle.des.proofs.ChainedBlocks.{Cbc-from_CbcDecrypts}
 use Rattle.des_fast.specs.Records.{start, record_of}
 use Rattle.des_uses.proofs.spread_records.read_records.Goals as goal
 
@@ -13,12 +13,12 @@ returns-clause-read g c k below =
     let vectors : List (List ℕ) = c.args.vectors.now in
     let q : List (List ℕ) = c.args.blocks.now in
     let ensured = c.in_ok-decrypt_cbc_records.ensures in
-    Cbc-from_Unchains (g.C.BlockCipherEncrypt.encrypted cipher) (g.C.BlockCipherDecrypt.decrypted cipher)
+    Cbc-from_CbcDecrypts (g.C.BlockCipherEncrypt.encrypted cipher) (g.C.BlockCipherDecrypt.decrypted cipher)
     (slice_index_or vectors k []) (record_of sizes c.decrypt_cbc_records.new.blocks k) (record_of sizes q k)
     (All-get_or IsBlock vectors k [] below ensured.vectors)
     (All-take IsBlock (slice_index sizes k) (drop (start sizes k) q) (All-drop IsBlock (start sizes k) q ensured.blocks))
     (g.met.C.BlockCipher.decrypted_is_block cipher) (g.met.C.BlockCipher.encrypts_decrypted cipher)
-    (ensured.unchained (g.C.BlockCipherEncrypt.encrypted cipher) (g.C.BlockCipherDecrypt.decrypted cipher)
+    (ensured.cbc_decrypted (g.C.BlockCipherEncrypt.encrypted cipher) (g.C.BlockCipherDecrypt.decrypted cipher)
     c.spread_keys-keys.ensures k below)
 
 pub returns-clause-goes_on : goal.returns-clause-goes_on

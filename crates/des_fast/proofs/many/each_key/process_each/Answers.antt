@@ -2,7 +2,7 @@
 use Rattle.std.proofs.Common.{◌≡◌, ℕ, ◌+◌, ◌-◌, ◌++◌, List, map, take, drop, ap, sym, ◌∙◌, arith}
 use Rattle.std.proofs.lemmas.List.{length-map, take-map, drop-map}
 use Rattle.std.specs.Simd.Lanes.{zip2}
-use Rattle.des_fast.specs.LaneKeys.{answer_in}
+use Rattle.des_fast.specs.LaneKeys.{block_in}
 use Rattle.des_fast.proofs.ZippedParts.{zipped-more, zipped-all}
 use Rattle.des_fast.proofs.many.each_key.process_each.Goals as goal
 
@@ -13,7 +13,7 @@ parts-preserved g c =
     let n : ℕ = m + count - m in
     let bytes = g.C.Key.KeyBytes.bytes_of in
     let f : List ℕ → List ℕ → List ℕ =
-    answer_in c.args.deciphers g.C.KeyedCipher.encryption g.C.KeyedCipher.decryption in
+    block_in c.args.deciphers g.C.KeyedCipher.encryption g.C.KeyedCipher.decryption in
     let keys : List (List ℕ) = map bytes c.args.keys.now in
     let old : List (List ℕ) = c.args.blocks.now in
     let now : List (List ℕ) = c.parts.blocks in
@@ -33,5 +33,5 @@ pub returns : goal.returns
 returns g c =
     let bytes = g.C.Key.KeyBytes.bytes_of in
     c.parts.invariant.answered
-    ∙ zipped-all (answer_in c.args.deciphers g.C.KeyedCipher.encryption g.C.KeyedCipher.decryption) c.parts.from
+    ∙ zipped-all (block_in c.args.deciphers g.C.KeyedCipher.encryption g.C.KeyedCipher.decryption) c.parts.from
     (map bytes c.args.keys.now) c.args.blocks.now (length-map c.args.keys.now bytes ∙ c.requires) (omega arith)

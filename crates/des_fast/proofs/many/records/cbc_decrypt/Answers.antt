@@ -1,6 +1,6 @@
 -- A part more.
 use Rattle.std.proofs.Common.{refl, ◌∙◌, arith}
-use Rattle.des_fast.proofs.UnchainedRecords.{AreUnchainedBelow-none, UnchainsEach-all, GoOn-unchained}
+use Rattle.des_fast.proofs.CbcDecryptedRecords.{AreCbcDecryptedBelow-none, CbcDecryptsEach-all, GoOn-cbc_decrypted}
 use Rattle.des_fast.proofs.many.records.cbc_decrypt.Goals as goal
 
 pub parts-init : goal.parts-init
@@ -10,8 +10,8 @@ parts-init g c = record {
   before = omega arith;
   in_vectors = refl;
   in_blocks = refl;
-  unchained = λ decryption are.
-      AreUnchainedBelow-none decryption c.args.sizes.now c.args.vectors.now c.args.blocks.now;
+  cbc_decrypted = λ decryption are.
+      AreCbcDecryptedBelow-none decryption c.args.sizes.now c.args.vectors.now c.args.blocks.now;
 }
 
 pub parts-preserved : goal.parts-preserved
@@ -21,19 +21,19 @@ parts-preserved g c = record {
   before = c.cbc_decrypt_part-current.ensures.before;
   in_vectors = c.cbc_decrypt_part-current.ensures.vectors ∙ c.parts.invariant.in_vectors;
   in_blocks = c.cbc_decrypt_part-current.ensures.count ∙ c.parts.invariant.in_blocks;
-  unchained = λ decryption are.
-      c.cbc_decrypt_part-current.ensures.unchained decryption c.args.vectors.now c.args.blocks.now are
-      (c.parts.invariant.unchained decryption are);
+  cbc_decrypted = λ decryption are.
+      c.cbc_decrypt_part-current.ensures.cbc_decrypted decryption c.args.vectors.now c.args.blocks.now are
+      (c.parts.invariant.cbc_decrypted decryption are);
 }
 
-pub returns-clause-unchained : goal.returns-clause-unchained
-returns-clause-unchained g c decryption are =
-    UnchainsEach-all decryption c.args.sizes.now c.args.vectors.now c.args.blocks.now
+pub returns-clause-cbc_decrypted : goal.returns-clause-cbc_decrypted
+returns-clause-cbc_decrypted g c decryption are =
+    CbcDecryptsEach-all decryption c.args.sizes.now c.args.vectors.now c.args.blocks.now
     c.parts.vectors c.parts.blocks c.parts.from c.requires.vectors c.requires.whole c.parts.invariant.in_blocks
-    (omega arith) (c.parts.invariant.unchained decryption are)
+    (omega arith) (c.parts.invariant.cbc_decrypted decryption are)
 
 pub returns-clause-goes_on : goal.returns-clause-goes_on
 returns-clause-goes_on g c decryption are =
-    GoOn-unchained decryption c.args.sizes.now c.args.vectors.now c.args.blocks.now
+    GoOn-cbc_decrypted decryption c.args.sizes.now c.args.vectors.now c.args.blocks.now
     c.parts.vectors c.parts.blocks c.parts.from c.requires.vectors c.requires.whole
-    (omega arith) (c.parts.invariant.unchained decryption are)
+    (omega arith) (c.parts.invariant.cbc_decrypted decryption are)

@@ -1,7 +1,7 @@
 -- The blocks before the index are out of their chains.
 use Rattle.std.proofs.Common.{◌≡◌, ◌-◌, ◌≤◌, ℕ, List, length}
 use Rattle.des_fast.specs.Records.{start}
-use Rattle.des_fast.specs.RecordStates.{AreUnchainedBelow}
+use Rattle.des_fast.specs.RecordStates.{AreCbcDecryptedBelow}
 use Rattle.des_fast.specs.SpreadKeys.{AreSlicesFor}
 use Rattle.des_fast.proofs.many.records.cbc_decrypt.Given as goal
 
@@ -12,8 +12,8 @@ invariant-parts g l = record {
   before : l.current.start ≤ l.from;
   in_vectors : length l.vectors ≡ length l.initial.vectors;
   in_blocks : length l.blocks ≡ length l.initial.blocks;
-  unchained : (decryption : List ℕ → List ℕ) → AreSlicesFor g.S.Slice.BATCH g.S.Slice.bit l.passes decryption
-      → AreUnchainedBelow decryption l.sizes l.initial.vectors l.initial.blocks l.vectors l.blocks
+  cbc_decrypted : (decryption : List ℕ → List ℕ) → AreSlicesFor g.S.Slice.BATCH g.S.Slice.bit l.passes decryption
+      → AreCbcDecryptedBelow decryption l.sizes l.initial.vectors l.initial.blocks l.vectors l.blocks
       l.from;
 }
 

@@ -2,8 +2,8 @@
 use Rattle.std.proofs.Common.{◌≡◌, ℕ, ◌+◌, List, [], get_or, ap, sym, ◌∙◌, arith, subst}
 use Rattle.std.proofs.Math.ListN.{set}
 use Rattle.std.proofs.lemmas.List.{length-set, get_or-set_other}
-use Rattle.des_fast.specs.RecordStates.{AreUnchainedBelow}
-use Rattle.des_fast.proofs.UnchainedRecords.{AreUnchainedBelow-more}
+use Rattle.des_fast.specs.RecordStates.{AreCbcDecryptedBelow}
+use Rattle.des_fast.proofs.CbcDecryptedRecords.{AreCbcDecryptedBelow-more}
 use Rattle.des_fast.proofs.many.records.take_out.Goals as goal
 
 pub answers-preserved : goal.answers-preserved
@@ -24,22 +24,22 @@ answers-preserved c =
       rest = λ m past.
           get_or-set_other blocks (from + k) m c.xored.result [] (λ same. omega arith)
           ∙ c.answers.invariant.rest m (omega arith);
-      unchained = λ f first q answered are.
-          subst (λ (n : ℕ). AreUnchainedBelow f sizes first q (set vectors at (get_or blocks (from + k) []))
+      cbc_decrypted = λ f first q answered are.
+          subst (λ (n : ℕ). AreCbcDecryptedBelow f sizes first q (set vectors at (get_or blocks (from + k) []))
           (set blocks (from + k) c.xored.result) n) next
-          (subst (λ (block : List ℕ). AreUnchainedBelow f sizes first q
+          (subst (λ (block : List ℕ). AreCbcDecryptedBelow f sizes first q
           (set vectors at (get_or blocks (from + k) [])) (set blocks (from + k) block) (from + k + 1))
           (sym c.xored.ensures)
-          (AreUnchainedBelow-more f sizes first q vectors blocks at (from + k) (get_or answers k [])
+          (AreCbcDecryptedBelow-more f sizes first q vectors blocks at (from + k) (get_or answers k [])
           c.record_with-record.ensures.there (c.answers.invariant.in_vectors ∙ c.requires.vectors)
           (c.answers.invariant.in_blocks ∙ c.requires.whole)
           (answered k (omega arith)
           ∙ ap f (sym (c.answers.invariant.rest (from + k) (omega arith))))
-          (c.answers.invariant.unchained f first q answered are)));
+          (c.answers.invariant.cbc_decrypted f first q answered are)));
     }
 
-pub returns-clause-unchained : goal.returns-clause-unchained
-returns-clause-unchained c f first q answered are =
+pub returns-clause-cbc_decrypted : goal.returns-clause-cbc_decrypted
+returns-clause-cbc_decrypted c f first q answered are =
     let all : c.answers.k ≡ c.args.span.count = omega (arith, c.answers.auto.k-end) in
-    subst (λ (n : ℕ). AreUnchainedBelow f c.args.sizes.now first q c.answers.vectors c.answers.blocks
-    (c.args.span.from + n)) all (c.answers.invariant.unchained f first q answered are)
+    subst (λ (n : ℕ). AreCbcDecryptedBelow f c.args.sizes.now first q c.answers.vectors c.answers.blocks
+    (c.args.span.from + n)) all (c.answers.invariant.cbc_decrypted f first q answered are)

@@ -1,7 +1,7 @@
 -- The blocks before the index are out of their chains, and those of the part from it on are as they were.
 use Rattle.std.proofs.Common.{◌≡◌, ℕ, ◌+◌, ◌<◌, ◌≤◌, List, [], get_or, length}
 use Rattle.des_fast.specs.Records.{start}
-use Rattle.des_fast.specs.RecordStates.{AreUnchainedBelow}
+use Rattle.des_fast.specs.RecordStates.{AreCbcDecryptedBelow}
 use Rattle.des_fast.proofs.many.records.take_out.Given as goal
 
 abbrev pub invariant-answers : goal.invariant-answers
@@ -11,9 +11,9 @@ invariant-answers l = record {
   in_vectors : length l.vectors ≡ length l.initial.vectors;
   in_blocks : length l.blocks ≡ length l.initial.blocks;
   rest : (m : ℕ) → l.span.from + l.k ≤ m → get_or l.blocks m [] ≡ get_or l.initial.blocks m [];
-  unchained : (decryption : List ℕ → List ℕ) (first q : List (List ℕ))
+  cbc_decrypted : (decryption : List ℕ → List ℕ) (first q : List (List ℕ))
       → ((k : ℕ) → k < l.span.count
       → get_or l.answers k [] ≡ decryption (get_or l.initial.blocks (l.span.from + k) []))
-      → AreUnchainedBelow decryption l.sizes first q l.initial.vectors l.initial.blocks l.span.from
-      → AreUnchainedBelow decryption l.sizes first q l.vectors l.blocks (l.span.from + l.k);
+      → AreCbcDecryptedBelow decryption l.sizes first q l.initial.vectors l.initial.blocks l.span.from
+      → AreCbcDecryptedBelow decryption l.sizes first q l.vectors l.blocks (l.span.from + l.k);
 }

@@ -1,7 +1,7 @@
 use Rattle.std.proofs.Common.{ℕ, List, Bool, ap, ◌∙◌}
 use Rattle.des_fast.specs.HalfBlocks.{half_blocks_of}
 use Rattle.des_fast.specs.SideBySide.{keys_of}
-use Rattle.des_fast.proofs.HalfPasses.{after, answer_by-three}
+use Rattle.des_fast.proofs.HalfPasses.{after, block_by_keys-three}
 use Rattle.des_fast.proofs.PassDirections.{through-keys}
 use Rattle.des_fast.proofs.tdes.ThreePassesSingleDesBlockTransform.process_block.Goals as goal
 
@@ -11,7 +11,7 @@ returns g c =
     let k1 : List (List Bool) = keys_of passes.first in
     let k2 : List (List Bool) = keys_of passes.second in
     let k3 : List (List Bool) = keys_of passes.third in
-    answer_by-three k1 k2 k3 c.args.block.now c.into_block.result
+    block_by_keys-three k1 k2 k3 c.args.block.now c.into_block.result
     (half_blocks_of c.after_rounds-halves.result) (half_blocks_of c.after_rounds-halves-2.result)
     (half_blocks_of c.after_rounds.result)
     (c.after_rounds-halves.ensures ∙ ap (after k1) c.of_block.ensures.halves)

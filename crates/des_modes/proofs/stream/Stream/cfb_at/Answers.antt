@@ -6,12 +6,11 @@ use Rattle.des_modes.proofs.StreamPlaces.{IsPlace-cfb, mode_by-cfb}
 use Rattle.des_modes.proofs.stream.Stream.cfb_at.Goals as goal
 
 pub returns-clause-begun : goal.returns-clause-begun
-returns-clause-begun c =
-    (
-      refl,
-      inr (inr (omega arith, omega (arith, c.requires.short))),
-      rw (mode_by-cfb c.args.segment c.requires.some) (omega (arith, c.requires.some, c.new.ensures.used)),
-    )
+returns-clause-begun c = (
+  refl,
+  inr (inr (omega arith, omega (arith, c.requires.short))),
+  rw (mode_by-cfb c.args.segment c.requires.some) (omega (arith, c.requires.some, c.new.ensures.used)),
+)
 
 pub returns-clause-place : goal.returns-clause-place
 returns-clause-place c encryption iv p d is_iv bytes whole holds made =

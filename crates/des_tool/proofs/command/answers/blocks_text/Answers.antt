@@ -12,7 +12,7 @@ use Rattle.des_tool.specs.Ciphers.{IsMadeBy, in_direction}
 use Rattle.des_tool.specs.Digits.{bytes_of_digits}
 use Rattle.des_tool.specs.Request.{key_size_of}
 use Rattle.des_tool.proofs.BlockTexts.{IsTextOf-made}
-use Rattle.des_tool.proofs.KeyGraphs.{encryption_by, decryption_by, AnswerBy-cipher}
+use Rattle.des_tool.proofs.KeyGraphs.{encryption_by, decryption_by, HasGraphs-cipher}
 use Rattle.des_tool.proofs.command.answers.blocks_text.Goals as goal
 
 -- a text of what the key makes of blocks is one under its relation
@@ -23,8 +23,8 @@ under_relation : (cipher : Cipher) (direction : Direction) (key digits : List �
     → IfOk result (λ text. IsTextOf (AnswersEach (ReadIn direction (relation_of cipher key))) digits text.items)
 under_relation cipher direction key digits result =
     IfOk-weaker result _ _ (λ text. IsTextOf-made direction (encryption_by cipher) (decryption_by cipher)
-    (key_size_of cipher) key (relation_of cipher key) (λ is_key. (AnswerBy-cipher cipher key is_key).encryption)
-    (λ is_key. (AnswerBy-cipher cipher key is_key).decryption) digits text.items)
+    (key_size_of cipher) key (relation_of cipher key) (λ is_key. (HasGraphs-cipher cipher key is_key).encryption)
+    (λ is_key. (HasGraphs-cipher cipher key is_key).decryption) digits text.items)
 
 pub returns-in-Des-clause-answer : goal.returns-in-Des-clause-answer
 returns-in-Des-clause-answer c =

@@ -9,7 +9,7 @@ passes-requires g c = omega (arith, lane_keys-le _ _ g.met.S.Slice.small_gaps g.
 pub cbc_decrypt-requires : goal.cbc_decrypt-requires
 cbc_decrypt-requires g c = omega (arith, pass_slices-le _ _ g.met.S.Slice.small_gaps g.met.S.Slice.few_bytes)
 
-pub returns-clause-unchained : goal.returns-clause-unchained
-returns-clause-unchained g c encrypted decrypted are =
-    c.cbc_decrypt.ensures.unchained decrypted
+pub returns-clause-cbc_decrypted : goal.returns-clause-cbc_decrypted
+returns-clause-cbc_decrypted g c encrypted decrypted are =
+    c.cbc_decrypt.ensures.cbc_decrypted decrypted
     (subst (λ passes. AreSlicesFor g.S.Slice.BATCH g.S.Slice.bit passes decrypted) (sym c.passes.ensures) are.decryption)

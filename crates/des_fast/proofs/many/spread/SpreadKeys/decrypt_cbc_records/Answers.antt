@@ -6,9 +6,9 @@ use Rattle.des_fast.proofs.many.spread.SpreadKeys.decrypt_cbc_records.Goals as g
 pub passes-requires : goal.passes-requires
 passes-requires g c = omega (arith, lane_keys-le _ _ g.met.S.Slice.small_gaps g.met.S.Slice.few_bytes)
 
-pub returns-clause-unchained : goal.returns-clause-unchained
-returns-clause-unchained g c encrypted decrypted are =
-    c.cbc_decrypt.ensures.unchained decrypted
+pub returns-clause-cbc_decrypted : goal.returns-clause-cbc_decrypted
+returns-clause-cbc_decrypted g c encrypted decrypted are =
+    c.cbc_decrypt.ensures.cbc_decrypted decrypted
     (subst (λ passes. AreSlicesFor g.S.Slice.BATCH g.S.Slice.bit passes decrypted) (sym c.passes.ensures) are.decryption)
 
 pub returns-clause-goes_on : goal.returns-clause-goes_on

@@ -4,10 +4,10 @@ use Rattle.std.proofs.Math.ListN.{set}
 use Rattle.std.proofs.lemmas.Bool.{cases_lt, cases_eq}
 use Rattle.std.proofs.lemmas.List.{get_or-set_same, get_or-set_other}
 use Rattle.des.specs.Cbc.{xor_blocks}
-use Rattle.des_fast.specs.Records.{start, UnchainsEach, GoOn}
-use Rattle.des_fast.specs.RecordStates.{HasBlock, cipher_before, IsUnchained, AreUnchainedBelow}
+use Rattle.des_fast.specs.Records.{start, CbcDecryptsEach, GoOn}
+use Rattle.des_fast.specs.RecordStates.{HasBlock, cipher_before, IsCbcDecrypted, AreCbcDecryptedBelow}
 use Rattle.des_fast.proofs.RecordPlaces.{end-le, end-within, records-apart}
-use Rattle.des_fast.proofs.AnsweredRecords.{IsAnswered-none, IsAnswered-kept, IsAnswered-more, Unchains-from_answered, next_vector-unchained}
+use Rattle.des_fast.proofs.AnsweredRecords.{IsAnswered-none, IsAnswered-kept, IsAnswered-more, CbcDecrypts-from_answered, next_vector-cbc_decrypted}
 
 -- a block more of another record
 reached-other : (sizes : List ℕ) (k m place : ℕ) → k < length sizes → m < length sizes → k ≢ m
@@ -24,13 +24,13 @@ reached-other sizes k m place in_k in_m other from to =
     ]
 
 -- a block more, of record m
-pub AreUnchainedBelow-more : (f : List ℕ → List ℕ) (sizes : List ℕ) (first q vectors blocks : List (List ℕ))
+pub AreCbcDecryptedBelow-more : (f : List ℕ → List ℕ) (sizes : List ℕ) (first q vectors blocks : List (List ℕ))
     (m place : ℕ) (answer : List ℕ) → HasBlock sizes m place → length vectors ≡ length sizes
     → length blocks ≡ sum sizes → answer ≡ f (get_or blocks place [])
-    → AreUnchainedBelow f sizes first q vectors blocks place
-    → AreUnchainedBelow f sizes first q (set vectors m (get_or blocks place []))
+    → AreCbcDecryptedBelow f sizes first q vectors blocks place
+    → AreCbcDecryptedBelow f sizes first q (set vectors m (get_or blocks place []))
     (set blocks place (xor_blocks answer (get_or vectors m []))) (place + 1)
-AreUnchainedBelow-more f sizes first q vectors blocks m place answer has in_vectors in_blocks answered are k inside =
+AreCbcDecryptedBelow-more f sizes first q vectors blocks m place answer has in_vectors in_blocks answered are k inside =
     let there : m < length sizes = has.there in
     let from : start sizes m ≤ place = has.from in
     let to : place < start sizes m + get_or sizes m 0 = has.to in
@@ -45,13 +45,13 @@ AreUnchainedBelow-more f sizes first q vectors blocks m place answer has in_vect
           let before : ℕ → List ℕ = cipher_before (get_or first m []) q (start sizes m) in
           let so_far : min n size ≡ n = omega arith in
           let next : n + 1 ≡ min (place + 1 - start sizes m) size = omega arith in
-          let is : IsUnchained f sizes first q vectors blocks m n =
-          subst (λ (l : ℕ). IsUnchained f sizes first q vectors blocks m l) so_far (are m there) in
+          let is : IsCbcDecrypted f sizes first q vectors blocks m n =
+          subst (λ (l : ℕ). IsCbcDecrypted f sizes first q vectors blocks m l) so_far (are m there) in
           let block : old ≡ get_or q (start sizes m + n) [] =
           ap (λ (l : ℕ). get_or blocks l []) (sym at) ∙ is.left n (omega arith) (omega arith) in
-          subst (λ (l : ℕ). IsUnchained f sizes first q (set vectors m old) (set blocks place new) l
+          subst (λ (l : ℕ). IsCbcDecrypted f sizes first q (set vectors m old) (set blocks place new) l
           (min (place + 1 - start sizes l) (get_or sizes l 0))) (sym same)
-          (subst (λ (l : ℕ). IsUnchained f sizes first q (set vectors m old) (set blocks place new) m l) next
+          (subst (λ (l : ℕ). IsCbcDecrypted f sizes first q (set vectors m old) (set blocks place new) m l) next
           (IsAnswered-more before (λ j. xor_blocks (f (get_or q (start sizes m + j) [])) (before j)) q blocks
           (set blocks place new) (start sizes m) size (get_or vectors m []) (get_or (set vectors m old) m []) n
           (omega arith)
@@ -61,7 +61,7 @@ AreUnchainedBelow-more f sizes first q vectors blocks m place answer has in_vect
           ∙ ap₂ xor_blocks (answered ∙ ap f block) is.end)
           (λ j low other. get_or-set_other blocks place (start sizes m + j) new [] (λ is. other (omega arith))) is))
       | inr other ↦
-          subst (λ (l : ℕ). IsUnchained f sizes first q (set vectors m old) (set blocks place new) k l)
+          subst (λ (l : ℕ). IsCbcDecrypted f sizes first q (set vectors m old) (set blocks place new) k l)
           (reached-other sizes k m place inside there other from to)
           (IsAnswered-kept _ _ q blocks (set blocks place new) (start sizes k) (get_or sizes k 0)
           (get_or vectors k []) (get_or (set vectors m old) k [])
@@ -73,35 +73,35 @@ AreUnchainedBelow-more f sizes first q vectors blocks m place answer has in_vect
     ]
 
 -- none
-pub AreUnchainedBelow-none : (f : List ℕ → List ℕ) (sizes : List ℕ) (vectors blocks : List (List ℕ))
-    → AreUnchainedBelow f sizes vectors blocks vectors blocks 0
-AreUnchainedBelow-none f sizes vectors blocks k inside =
+pub AreCbcDecryptedBelow-none : (f : List ℕ → List ℕ) (sizes : List ℕ) (vectors blocks : List (List ℕ))
+    → AreCbcDecryptedBelow f sizes vectors blocks vectors blocks 0
+AreCbcDecryptedBelow-none f sizes vectors blocks k inside =
     let none : 0 ≡ min (0 - start sizes k) (get_or sizes k 0) = omega arith in
-    subst (λ (n : ℕ). IsUnchained f sizes vectors blocks vectors blocks k n) none
+    subst (λ (n : ℕ). IsCbcDecrypted f sizes vectors blocks vectors blocks k n) none
     (IsAnswered-none _ _ blocks (start sizes k) (get_or sizes k 0) (get_or vectors k []) refl)
 
 -- a record that is out of its chain
 record-all : (f : List ℕ → List ℕ) (sizes : List ℕ) (first q vectors blocks : List (List ℕ)) (place k : ℕ)
-    → k < length sizes → sum sizes ≤ place → AreUnchainedBelow f sizes first q vectors blocks place
-    → IsUnchained f sizes first q vectors blocks k (get_or sizes k 0)
+    → k < length sizes → sum sizes ≤ place → AreCbcDecryptedBelow f sizes first q vectors blocks place
+    → IsCbcDecrypted f sizes first q vectors blocks k (get_or sizes k 0)
 record-all f sizes first q vectors blocks place k inside all are =
     let reached : min (place - start sizes k) (get_or sizes k 0) ≡ get_or sizes k 0 =
     omega (arith, end-within sizes k inside) in
-    subst (λ (n : ℕ). IsUnchained f sizes first q vectors blocks k n) reached (are k inside)
+    subst (λ (n : ℕ). IsCbcDecrypted f sizes first q vectors blocks k n) reached (are k inside)
 
 -- all
-pub UnchainsEach-all : (f : List ℕ → List ℕ) (sizes : List ℕ) (first q vectors blocks : List (List ℕ)) (place : ℕ)
+pub CbcDecryptsEach-all : (f : List ℕ → List ℕ) (sizes : List ℕ) (first q vectors blocks : List (List ℕ)) (place : ℕ)
     → length first ≡ length sizes → length q ≡ sum sizes → length blocks ≡ length q → length q ≤ place
-    → AreUnchainedBelow f sizes first q vectors blocks place → UnchainsEach f sizes first q blocks
-UnchainsEach-all f sizes first q vectors blocks place count whole same all are k below =
-    Unchains-from_answered f (get_or first k []) (get_or vectors k []) q blocks (start sizes k) (get_or sizes k 0)
+    → AreCbcDecryptedBelow f sizes first q vectors blocks place → CbcDecryptsEach f sizes first q blocks
+CbcDecryptsEach-all f sizes first q vectors blocks place count whole same all are k below =
+    CbcDecrypts-from_answered f (get_or first k []) (get_or vectors k []) q blocks (start sizes k) (get_or sizes k 0)
     (omega (arith, end-within sizes k (omega arith))) same
     (record-all f sizes first q vectors blocks place k (omega arith) (omega arith) are)
 
-pub GoOn-unchained : (f : List ℕ → List ℕ) (sizes : List ℕ) (first q vectors blocks : List (List ℕ)) (place : ℕ)
+pub GoOn-cbc_decrypted : (f : List ℕ → List ℕ) (sizes : List ℕ) (first q vectors blocks : List (List ℕ)) (place : ℕ)
     → length first ≡ length sizes → length q ≡ sum sizes → length q ≤ place
-    → AreUnchainedBelow f sizes first q vectors blocks place → GoOn sizes first q vectors
-GoOn-unchained f sizes first q vectors blocks place count whole all are k below =
-    next_vector-unchained _ (get_or first k []) (get_or vectors k []) q blocks (start sizes k) (get_or sizes k 0)
+    → AreCbcDecryptedBelow f sizes first q vectors blocks place → GoOn sizes first q vectors
+GoOn-cbc_decrypted f sizes first q vectors blocks place count whole all are k below =
+    next_vector-cbc_decrypted _ (get_or first k []) (get_or vectors k []) q blocks (start sizes k) (get_or sizes k 0)
     (omega (arith, end-within sizes k (omega arith)))
     (record-all f sizes first q vectors blocks place k (omega arith) (omega arith) are)
