@@ -13,7 +13,7 @@ ghost use Rattle.des_context.specs.CipherTypeLaws.{RelatesByLength, RelatesByLen
 use des::cipher::Relating;
 use des::tdes::{self, Ede2, Ede3};
 use des_fast::box_lookup::BoxLookup;
-use des_fast::round_keys;
+use des_fast::round_keys::from_words;
 use des_fast::single::Des;
 
 /// A type of cipher: DES, or triple DES in the EDE form.
@@ -70,7 +70,7 @@ impl<W: BoxLookup> ContextCipher for Des<W> {
 
     #[inline(always)]
     fn of(context: &[u64]) -> Des<W> {
-        round_keys::from_words(context, 1)
+        from_words(context, 1)
     }
 
     ghost relates_by_length = { λ _ key made. RelatesByLength-cipher_type cipher_types.Des key made.0.0 };
@@ -87,10 +87,7 @@ impl<W: BoxLookup> ContextCipher for Ede2<Des<W>> {
 
     #[inline(always)]
     fn of(context: &[u64]) -> Ede2<Des<W>> {
-        tdes::of_two(
-            round_keys::from_words(context, 1),
-            round_keys::from_words(context, 2),
-        )
+        tdes::of_two(from_words(context, 1), from_words(context, 2))
     }
 
     ghost relates_by_length = { λ _ key made. RelatesByLength-cipher_type cipher_types.Ede2 key made.0.0 };
@@ -108,9 +105,9 @@ impl<W: BoxLookup> ContextCipher for Ede3<Des<W>> {
     #[inline(always)]
     fn of(context: &[u64]) -> Ede3<Des<W>> {
         tdes::of_three(
-            round_keys::from_words(context, 1),
-            round_keys::from_words(context, 2),
-            round_keys::from_words(context, 3),
+            from_words(context, 1),
+            from_words(context, 2),
+            from_words(context, 3),
         )
     }
 
