@@ -2209,10 +2209,10 @@
 	.size	"des::des::DesBlockCipherDecrypt::decrypt_block", .Lfunc_end11-"des::des::DesBlockCipherDecrypt::decrypt_block"
 	.cfi_endproc
 
-	.section	".text.des_tool::command::digits::parse_cipher_key::<#0c02a947b5b6cf13>","ax",@progbits
+	.section	".text.des_tool::command::digits::parse_cipher_key::<#a8eb65aea54fc756>","ax",@progbits
 	.p2align	2
-	.type	"des_tool::command::digits::parse_cipher_key::<#0c02a947b5b6cf13>",@function
-"des_tool::command::digits::parse_cipher_key::<#0c02a947b5b6cf13>":
+	.type	"des_tool::command::digits::parse_cipher_key::<#a8eb65aea54fc756>",@function
+"des_tool::command::digits::parse_cipher_key::<#a8eb65aea54fc756>":
 	.cfi_startproc
 	hint	#25
 	.cfi_negate_ra_state
@@ -2424,7 +2424,7 @@
 	.cfi_restore_state
 	brk	#0x1
 .Lfunc_end12:
-	.size	"des_tool::command::digits::parse_cipher_key::<#0c02a947b5b6cf13>", .Lfunc_end12-"des_tool::command::digits::parse_cipher_key::<#0c02a947b5b6cf13>"
+	.size	"des_tool::command::digits::parse_cipher_key::<#a8eb65aea54fc756>", .Lfunc_end12-"des_tool::command::digits::parse_cipher_key::<#a8eb65aea54fc756>"
 	.cfi_endproc
 
 	.section	".text.des_tool::command::digits::parse_vector","ax",@progbits
@@ -4653,7 +4653,7 @@ cukvashe_main:
 	strb	wzr, [sp, #760]
 	str	xzr, [sp, #752]
 	stp	q0, q0, [sp, #1008]
-	bl	"des_tool::command::digits::parse_cipher_key::<#0c02a947b5b6cf13>"
+	bl	"des_tool::command::digits::parse_cipher_key::<#a8eb65aea54fc756>"
 	ldrb	w8, [sp, #1264]
 	cbnz	w8, .LBB17_359
 	add	x0, sp, #1664
@@ -5409,7 +5409,7 @@ cukvashe_main:
 	str	q0, [sp, #1632]
 	str	xzr, [sp, #1648]
 	stp	q0, q0, [sp, #240]
-	bl	"des_tool::command::digits::parse_cipher_key::<#0c02a947b5b6cf13>"
+	bl	"des_tool::command::digits::parse_cipher_key::<#a8eb65aea54fc756>"
 	ldrb	w8, [sp, #1264]
 	cbz	w8, .LBB17_360
 .LBB17_359:

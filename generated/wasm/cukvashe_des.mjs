@@ -21,8 +21,8 @@ export const BLOCK_SIZE = 8;
 export const TAG_SIZE = 8;
 
 // The SHA-256 of the modules that this file was built with: the one of a 64-bit memory, and the same of a 32-bit memory.
-const MODULE_SUM = "39a76d3e1ae316793418170f792332ec751183864118ff1164e0792d29b0ce0a";
-const NARROW_SUM = "616b2409fccdd3098ee08281ae17aa11a6193465fb6769747ed146fe6d6ce3b7";
+const MODULE_SUM = "11d19470f62a9b0b583b9024fcf7edb9afbe03e245393ad1586e436ee0c40e89";
+const NARROW_SUM = "8743d0e87066974526e37e64ecd1238b69613382fa7d6de01a8af24087e71a5a";
 
 // The bytes of the module's stack, which lies at its address 0. `build` links it so.
 const STACK_SIZE = 131072;
@@ -820,12 +820,12 @@ class Cipher extends Keyed {
 
   encryptCbc(data, ...named) {
     const [iv] = afterData("encryptCbc(data, { iv })", named, ["iv"]);
-    return answered(this, "internal_encrypt_cbc", data, [vectorOf(iv)]);
+    return applied(this, "internal_encrypt_cbc", data, [vectorOf(iv)]);
   }
 
   decryptCbc(data, ...named) {
     const [iv] = afterData("decryptCbc(data, { iv })", named, ["iv"]);
-    return answered(this, "internal_decrypt_cbc", data, [vectorOf(iv)]);
+    return applied(this, "internal_decrypt_cbc", data, [vectorOf(iv)]);
   }
 
   encryptCtr(data, ...named) {
@@ -861,11 +861,11 @@ class Cipher extends Keyed {
 
 function ecb(cipher, call, data, more) {
   refuseMore(more, "ECB takes data alone, and no initialization vector");
-  return answered(cipher, call, data, []);
+  return applied(cipher, call, data, []);
 }
 
 /** What a call makes of data, in place, with or without a vector. */
-function answered(cipher, call, data, vectors) {
+function applied(cipher, call, data, vectors) {
   const bytes = bytesOf(data, "data");
   return inside((memory) => {
     const { kind, context } = memory.state(cipher, Cipher);
@@ -1031,7 +1031,7 @@ function bitsOf(bits) {
   return (mode, bytes) => {
     if (mode !== CFB1) throw new SegmentSize("bits are taken with segments of 1 bit alone");
     if (Number.isInteger(bits) && bits >= 0 && bits <= 8 * bytes.length) return [BigInt(bits)];
-    throw new DataLength(`${bytes.length} bytes have fewer bits than that`);
+    throw new DataLength(`the number of bits is a whole number from 0 to ${8 * bytes.length}`);
   };
 }
 
@@ -1837,15 +1837,15 @@ export function openSalted(cipher, password, data, options = {}, ...more) {
 
 export function encryptEach(cipher, keys, blocks, ...more) {
   refuseMore(more);
-  return answeredEach("internal_encrypt_each", cipher, keys, blocks);
+  return appliedEach("internal_encrypt_each", cipher, keys, blocks);
 }
 
 export function decryptEach(cipher, keys, blocks, ...more) {
   refuseMore(more);
-  return answeredEach("internal_decrypt_each", cipher, keys, blocks);
+  return appliedEach("internal_decrypt_each", cipher, keys, blocks);
 }
 
-function answeredEach(call, cipher, keys, blocks) {
+function appliedEach(call, cipher, keys, blocks) {
   const { keySize } = cipherOf(cipher);
   const given = listOf(blocks, BLOCK_SIZE, BlockLength, "blocks");
   const keyBytes = listOf(keys, keySize, KeyLength, "keys");
@@ -1897,13 +1897,13 @@ function recorded(name, call, cipher, blocks, named) {
   const form = `${name}(cipher, blocks, { vectors, counts })`;
   const [vectors, counts] = afterData(form, named, ["vectors", "counts"]);
   const sizes = numbersOf(counts, "counts");
-  const chains = listOf(vectors, BLOCK_SIZE, VectorLength, "vectors");
+  const starts = listOf(vectors, BLOCK_SIZE, VectorLength, "vectors");
   const given = listOf(blocks, BLOCK_SIZE, BlockLength, "blocks");
-  if (chains.length / BLOCK_SIZE !== sizes.length) throw new CountMismatch("the numbers of vectors and counts differ");
+  if (starts.length / BLOCK_SIZE !== sizes.length) throw new CountMismatch("the numbers of vectors and counts differ");
   return inside((memory) => {
     const { kind, context } = memory.state(cipher, Cipher);
     const [at, count] = memory.list(given, BLOCK_SIZE);
-    const laid = [...contextAt(kind, memory.put(context)), ...memory.list(chains, BLOCK_SIZE)];
+    const laid = [...contextAt(kind, memory.put(context)), ...memory.list(starts, BLOCK_SIZE)];
     const length = BigInt(given.length);
     if (memory.ask(call, ...laid, memory.words(sizes), BigInt(sizes.length), at, count, length) !== OK) {
       throw new CountMismatch("the counts do not add up to the number of blocks");

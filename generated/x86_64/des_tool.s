@@ -1841,7 +1841,7 @@
 	movq	%r15, %rdi
 	movq	%r12, %rsi
 	movq	%rbp, %rdx
-	callq	"des_tool::command::digits::parse_cipher_key::<#0c02a947b5b6cf13>"
+	callq	"des_tool::command::digits::parse_cipher_key::<#a8eb65aea54fc756>"
 	cmpb	$0, 272(%rsp)
 	je	.LBB0_399
 .LBB0_390:
@@ -1862,7 +1862,7 @@
 	movq	%r12, %rdi
 	movq	%r13, %rsi
 	movq	%r15, %rdx
-	callq	"des_tool::command::digits::parse_cipher_key::<#0c02a947b5b6cf13>"
+	callq	"des_tool::command::digits::parse_cipher_key::<#a8eb65aea54fc756>"
 	cmpb	$0, 272(%rsp)
 	je	.LBB0_403
 	movb	$1, %bl
@@ -5970,10 +5970,10 @@
 	.size	"des::des::DesBlockCipherDecrypt::decrypt_block", .Lfunc_end11-"des::des::DesBlockCipherDecrypt::decrypt_block"
 	.cfi_endproc
 
-	.section	".text.des_tool::command::digits::parse_cipher_key::<#0c02a947b5b6cf13>","ax",@progbits
+	.section	".text.des_tool::command::digits::parse_cipher_key::<#a8eb65aea54fc756>","ax",@progbits
 	.p2align	4
-	.type	"des_tool::command::digits::parse_cipher_key::<#0c02a947b5b6cf13>",@function
-"des_tool::command::digits::parse_cipher_key::<#0c02a947b5b6cf13>":
+	.type	"des_tool::command::digits::parse_cipher_key::<#a8eb65aea54fc756>",@function
+"des_tool::command::digits::parse_cipher_key::<#a8eb65aea54fc756>":
 	.cfi_startproc
 	pushq	%r15
 	.cfi_def_cfa_offset 16
@@ -6201,7 +6201,7 @@
 	.cfi_def_cfa_offset 1488
 	ud2
 .Lfunc_end12:
-	.size	"des_tool::command::digits::parse_cipher_key::<#0c02a947b5b6cf13>", .Lfunc_end12-"des_tool::command::digits::parse_cipher_key::<#0c02a947b5b6cf13>"
+	.size	"des_tool::command::digits::parse_cipher_key::<#a8eb65aea54fc756>", .Lfunc_end12-"des_tool::command::digits::parse_cipher_key::<#a8eb65aea54fc756>"
 	.cfi_endproc
 
 	.section	".text.des_tool::command::digits::parse_vector","ax",@progbits
