@@ -1,11 +1,12 @@
-//! The initial and the final permutation of four blocks side by side, in the words of a vector. For
-//! one block `halves` has the same, by `des::utils`, and tells the layout of the halves.
+//! The initial and the final permutation of two blocks side by side. Each of their rows is a column
+//! of the 64 bits, one bit of each byte, which a vector gives at once. For one block `halves` has
+//! the same, by `des::utils`, and tells the layout of the halves.
 
-ghost use Rattle.std.specs.Prelude.{◌≡◌, ◌<◌, ◌^◌, ◌++◌, ℕ, List, map, take, drop};
+ghost use Rattle.std.specs.Prelude.{◌≡◌, ◌<◌, ◌+◌, ◌-◌, ◌/◌, ◌%◌, ◌^◌, ◌++◌, ℕ, length, take, drop, slice_index};
+ghost use Rattle.std.specs.Int.{bit_at};
 ghost use Rattle.des.specs.Bits.{bits_of, bits_of_bytes, bits_of_word, select};
 ghost use Rattle.des.specs.Tables.{initial_permutation, final_permutation};
-ghost use Rattle.des.specs.Blocks.{block_of_bits};
-ghost use Rattle.des.specs.SwapForms.{delta_swapped};
+ghost use Rattle.des.specs.Blocks.{IsBlock};
 ghost use Rattle.des_fast.specs.Groups.{half_of};
 ghost use Rattle.des_fast.specs.HalfBlocks.{first_halves, last_block};
 ghost use Rattle.des_fast.specs.SideBySide.{AreExpansions, lane};
@@ -13,99 +14,147 @@ ghost use Rattle.des_fast.specs.Slices.{InEachBlock};
 
 use std::simd::prelude::*;
 
-// What `des::utils::delta_swap` makes of each word.
+// The bytes of a word whose columns are the bytes of its final permutation, from the last to the
+// first, for each of two words.
+const ROWS: [usize; 16] = [4, 0, 5, 1, 6, 2, 7, 3, 12, 8, 13, 9, 14, 10, 15, 11];
+
+// The first bytes of eight numbers of two bytes, and then the second.
+const FIRST_AND_SECOND: [usize; 16] = [0, 2, 4, 6, 8, 10, 12, 14, 1, 3, 5, 7, 9, 11, 13, 15];
+
+// The most significant bits of sixteen bytes, that of the first byte in the last place.
 #[inline(always)]
-fn delta_swap(words: u64x4, delta: u64, mask: u64) -> u64x4
-    requires { delta < 64 }
-    ensures { result ≡ map (λ word. delta_swapped word delta mask) words }
+fn column(bytes: u8x16) -> u64
+    ensures within { result < 2 ^ 16 }
+    ensures bits { (i : ℕ) → i < 16 → bit_at result i ≡ bit_at (slice_index bytes i) 7 }
 {
-    let b = (words ^ (words >> delta)) & u64x4::splat(mask);
-    words ^ b ^ (b << delta)
+    bytes.simd_ge(u8x16::splat(0x80)).to_bitmask()
 }
 
-// The initial permutation of each word.
+// The bits of sixteen bytes: those of number k + 1 of each byte at k, that of the first byte in the
+// last place.
 #[inline(always)]
-fn ip(words: u64x4) -> u64x4
-    ensures { InEachBlock 4 (λ b. bits_of_word (lane b result)
-        ≡ select initial_permutation (bits_of_word (lane b words))) }
+fn columns(bytes: u8x16) -> [u64; 8]
+    ensures within { (k : ℕ) → k < 8 → slice_index result k < 2 ^ 16 }
+    ensures bits { (k i : ℕ) → k < 8 → i < 16
+        → bit_at (slice_index result k) i ≡ bit_at (slice_index bytes i) (7 - k) }
 {
-    let words = delta_swap(words, 9, 0x0055005500550055);
-    let words = delta_swap(words, 18, 0x0000333300003333);
-    let words = delta_swap(words, 36, 0x000000000f0f0f0f);
-    let words = delta_swap(words, 24, 0x00000000ff00ff00);
-    delta_swap(words, 24, 0x000000ff000000ff)
+    let from_second = bytes + bytes;
+    let from_third = from_second + from_second;
+    let from_fourth = from_third + from_third;
+    let from_fifth = from_fourth + from_fourth;
+    let from_sixth = from_fifth + from_fifth;
+    let from_seventh = from_sixth + from_sixth;
+    let last = from_seventh + from_seventh;
+    [
+        column(bytes),
+        column(from_second),
+        column(from_third),
+        column(from_fourth),
+        column(from_fifth),
+        column(from_sixth),
+        column(from_seventh),
+        column(last),
+    ]
 }
 
-// The final permutation of each word.
+// The first bytes of numbers of two bytes, the least significant, and then the second.
 #[inline(always)]
-fn fp(words: u64x4) -> u64x4
-    ensures { InEachBlock 4 (λ b. bits_of_word (lane b result)
-        ≡ select final_permutation (bits_of_word (lane b words))) }
+fn bytes_of(numbers: [u64; 8]) -> u8x16
+    requires { (k : ℕ) → k < 8 → slice_index numbers k < 2 ^ 16 }
+    ensures first { (k : ℕ) → k < 8 → slice_index result k ≡ slice_index numbers k % 256 }
+    ensures second { (k : ℕ) → k < 8 → slice_index result (8 + k) ≡ slice_index numbers k / 256 }
 {
-    let words = delta_swap(words, 24, 0x000000ff000000ff);
-    let words = delta_swap(words, 24, 0x00000000ff00ff00);
-    let words = delta_swap(words, 36, 0x000000000f0f0f0f);
-    let words = delta_swap(words, 18, 0x0000333300003333);
-    delta_swap(words, 9, 0x0055005500550055)
+    let first = numbers[0] | (numbers[1] << 16) | (numbers[2] << 32) | (numbers[3] << 48);
+    let second = numbers[4] | (numbers[5] << 16) | (numbers[6] << 32) | (numbers[7] << 48);
+    let bytes: u8x16 = u64x2::from_array([first, second]).to_le_bytes();
+    bytes.swizzle(FIRST_AND_SECOND)
+}
+
+// The words of the initial permutation of two blocks.
+#[inline(always)]
+fn ip(first: &[u8; 8], second: &[u8; 8]) -> u64x2
+    ensures first { bits_of_word (lane 0 result)
+        ≡ select initial_permutation (bits_of_bytes first.now) }
+    ensures second { bits_of_word (lane 1 result)
+        ≡ select initial_permutation (bits_of_bytes second.now) }
+{
+    let blocks = u64x2::from_array([u64::from_le_bytes(*first), u64::from_le_bytes(*second)]);
+    let c = columns(blocks.to_le_bytes());
+    u64x2::from_le_bytes(bytes_of([c[6], c[4], c[2], c[0], c[7], c[5], c[3], c[1]]))
+}
+
+// The blocks of the final permutation of two words.
+#[inline(always)]
+fn fp(words: u64x2) -> ([u8; 8], [u8; 8])
+    ensures are_blocks { IsBlock result.0 × IsBlock result.1 }
+    ensures first { bits_of_bytes result.0 ≡ select final_permutation (bits_of_word (lane 0 words)) }
+    ensures second { bits_of_bytes result.1 ≡ select final_permutation (bits_of_word (lane 1 words)) }
+{
+    let bytes: u8x16 = words.to_le_bytes();
+    let c = columns(bytes.swizzle(ROWS));
+    let bytes = bytes_of([c[7], c[6], c[5], c[4], c[3], c[2], c[1], c[0]]);
+    let blocks: u64x2 = u64x2::from_le_bytes(bytes);
+    let [first, second] = blocks.to_array();
+    (first.to_le_bytes(), second.to_le_bytes())
 }
 
 // What `Halves::of_block` makes of each word.
 #[inline(always)]
-fn split(words: u64x4) -> (u64x4, u64x4)
-    ensures left { AreExpansions 4 lane result.0 }
-    ensures right { AreExpansions 4 lane result.1 }
-    ensures left_half { InEachBlock 4 (λ b. half_of (lane b result.0)
+fn split(words: u64x2) -> (u64x2, u64x2)
+    ensures left { AreExpansions 2 lane result.0 }
+    ensures right { AreExpansions 2 lane result.1 }
+    ensures left_half { InEachBlock 2 (λ b. half_of (lane b result.0)
         ≡ take 32 (bits_of_word (lane b words))) }
-    ensures right_half { InEachBlock 4 (λ b. half_of (lane b result.1)
+    ensures right_half { InEachBlock 2 (λ b. half_of (lane b result.1)
         ≡ drop 32 (bits_of_word (lane b words))) }
 {
-    let odd = ((words >> 3) & u64x4::splat(0x1f3f3f3f1f3f3f3f))
-        | ((words << 29) & u64x4::splat(0x2000000020000000));
-    let even = ((words << 1) & u64x4::splat(0x3f3f3f3e3f3f3f3e))
-        | ((words >> 31) & u64x4::splat(0x0000000100000001));
+    let odd = ((words >> 3) & u64x2::splat(0x1f3f3f3f1f3f3f3f))
+        | ((words << 29) & u64x2::splat(0x2000000020000000));
+    let even = ((words << 1) & u64x2::splat(0x3f3f3f3e3f3f3f3e))
+        | ((words >> 31) & u64x2::splat(0x0000000100000001));
     (
-        (odd & u64x4::splat(0x3f3f3f3f00000000)) | (even >> 32),
-        (odd << 32) | (even & u64x4::splat(0x000000003f3f3f3f)),
+        (odd & u64x2::splat(0x3f3f3f3f00000000)) | (even >> 32),
+        (odd << 32) | (even & u64x2::splat(0x000000003f3f3f3f)),
     )
 }
 
-/// The halves that the rounds of the blocks of four words begin with.
+/// The halves that the rounds of two blocks begin with.
 #[inline(always)]
-pub(crate) fn halves_of(words: u64x4) -> (u64x4, u64x4)
-    ensures left { AreExpansions 4 lane result.0 }
-    ensures right { AreExpansions 4 lane result.1 }
-    ensures halves { InEachBlock 4 (λ b. (block : List ℕ)
-        → bits_of_bytes block ≡ bits_of_word (lane b words)
-        → (half_of (lane b result.0), half_of (lane b result.1)) ≡ first_halves block) }
+pub(crate) fn halves_of(first: &[u8; 8], second: &[u8; 8]) -> (u64x2, u64x2)
+    ensures left { AreExpansions 2 lane result.0 }
+    ensures right { AreExpansions 2 lane result.1 }
+    ensures first { (half_of (lane 0 result.0), half_of (lane 0 result.1)) ≡ first_halves first.now }
+    ensures second { (half_of (lane 1 result.0), half_of (lane 1 result.1))
+        ≡ first_halves second.now }
 {
-    split(ip(words))
+    split(ip(first, second))
 }
 
 // What `HalfBlock::word` makes of each.
 #[inline(always)]
-fn words_of(halves: u64x4) -> u64x4
-    ensures within { InEachBlock 4 (λ b. lane b result < 2 ^ 32) }
-    ensures halves { InEachBlock 4 (λ b. bits_of 32 (lane b result) ≡ half_of (lane b halves)) }
+fn words_of(halves: u64x2) -> u64x2
+    ensures within { InEachBlock 2 (λ b. lane b result < 2 ^ 32) }
+    ensures halves { InEachBlock 2 (λ b. bits_of 32 (lane b result) ≡ half_of (lane b halves)) }
 {
-    ((halves >> 29) & u64x4::splat(0x00000000f0f0f0f0))
-        | ((halves >> 1) & u64x4::splat(0x000000000f0f0f0f))
+    ((halves >> 29) & u64x2::splat(0x00000000f0f0f0f0))
+        | ((halves >> 1) & u64x2::splat(0x000000000f0f0f0f))
 }
 
 // What `Halves::word` makes of the words of halves.
 #[inline(always)]
-fn join(left: u64x4, right: u64x4) -> u64x4
-    requires { InEachBlock 4 (λ b. lane b right < 2 ^ 32) }
-    ensures { InEachBlock 4 (λ b. bits_of_word (lane b result)
+fn join(left: u64x2, right: u64x2) -> u64x2
+    requires { InEachBlock 2 (λ b. lane b right < 2 ^ 32) }
+    ensures { InEachBlock 2 (λ b. bits_of_word (lane b result)
         ≡ bits_of 32 (lane b left) ++ bits_of 32 (lane b right)) }
 {
     (left << 32) | right
 }
 
-/// The words of the blocks that the halves after the rounds make.
+/// The blocks that the halves after the rounds make.
 #[inline(always)]
-pub(crate) fn words_of_halves(left: u64x4, right: u64x4) -> u64x4
-    ensures { InEachBlock 4 (λ b. block_of_bits (bits_of_word (lane b result))
-        ≡ last_block (half_of (lane b left), half_of (lane b right))) }
+pub(crate) fn blocks_of(left: u64x2, right: u64x2) -> ([u8; 8], [u8; 8])
+    ensures first { result.0 ≡ last_block (half_of (lane 0 left), half_of (lane 0 right)) }
+    ensures second { result.1 ≡ last_block (half_of (lane 1 left), half_of (lane 1 right)) }
 {
     fp(join(words_of(right), words_of(left)))
 }
