@@ -23,7 +23,8 @@ pub mod CipherFunctionByGroups
 pub mod XoredLists
 pub mod XoredWords
 pub mod GroupWords
-pub mod FourWords
+pub mod TwoWords
+pub mod Columns
 pub mod GroupBytes
 pub mod TableTests
 pub mod WordMaps

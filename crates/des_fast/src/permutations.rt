@@ -2,11 +2,10 @@
 //! of the 64 bits, one bit of each byte, which a vector gives at once. For one block `halves` has
 //! the same, by `des::utils`, and tells the layout of the halves.
 
-ghost use Rattle.std.specs.Prelude.{◌≡◌, ◌<◌, ◌+◌, ◌-◌, ◌/◌, ◌%◌, ◌^◌, ◌++◌, ℕ, length, take, drop, slice_index};
+ghost use Rattle.std.specs.Prelude.{◌≡◌, ◌<◌, ◌+◌, ◌-◌, ◌*◌, ◌/◌, ◌%◌, ◌^◌, ◌++◌, ℕ, map, take, drop, slice_index};
 ghost use Rattle.std.specs.Int.{bit_at};
 ghost use Rattle.des.specs.Bits.{bits_of, bits_of_bytes, bits_of_word, select};
 ghost use Rattle.des.specs.Tables.{initial_permutation, final_permutation};
-ghost use Rattle.des.specs.Blocks.{IsBlock};
 ghost use Rattle.des_fast.specs.Groups.{half_of};
 ghost use Rattle.des_fast.specs.HalfBlocks.{first_halves, last_block};
 ghost use Rattle.des_fast.specs.SideBySide.{AreExpansions, lane};
@@ -14,14 +13,17 @@ ghost use Rattle.des_fast.specs.Slices.{InEachBlock};
 
 use std::simd::prelude::*;
 
-// The bytes of a word whose columns are the bytes of its final permutation, from the last to the
-// first, for each of two words.
+// The bytes of two blocks, one after the other.
+const BOTH: [usize; 16] = [0, 1, 2, 3, 4, 5, 6, 7, 8, 9, 10, 11, 12, 13, 14, 15];
+
+// The bytes of two words in the order in which their columns are the bytes of the final
+// permutation.
 const ROWS: [usize; 16] = [4, 0, 5, 1, 6, 2, 7, 3, 12, 8, 13, 9, 14, 10, 15, 11];
 
 // The first bytes of eight numbers of two bytes, and then the second.
 const FIRST_AND_SECOND: [usize; 16] = [0, 2, 4, 6, 8, 10, 12, 14, 1, 3, 5, 7, 9, 11, 13, 15];
 
-// The most significant bits of sixteen bytes, that of the first byte in the last place.
+// The most significant bit of each of sixteen bytes, that of the first byte in the last place.
 #[inline(always)]
 fn column(bytes: u8x16) -> u64
     ensures within { result < 2 ^ 16 }
@@ -30,8 +32,7 @@ fn column(bytes: u8x16) -> u64
     bytes.simd_ge(u8x16::splat(0x80)).to_bitmask()
 }
 
-// The bits of sixteen bytes: those of number k + 1 of each byte at k, that of the first byte in the
-// last place.
+// The columns of sixteen bytes: the bits 1 to 8 of each, as `column` has the first of them.
 #[inline(always)]
 fn columns(bytes: u8x16) -> [u64; 8]
     ensures within { (k : ℕ) → k < 8 → slice_index result k < 2 ^ 16 }
@@ -57,15 +58,30 @@ fn columns(bytes: u8x16) -> [u64; 8]
     ]
 }
 
-// The first bytes of numbers of two bytes, the least significant, and then the second.
+// A number with another of two bytes after it.
+#[inline(always)]
+fn joined(number: u64, last: u64) -> u64
+    requires number { number < 2 ^ 48 }
+    requires last { last < 2 ^ 16 }
+    ensures { result ≡ number * 2 ^ 16 + last }
+{
+    (number << 16) | last
+}
+
+// The least significant bytes of numbers of two bytes, and then the most significant ones.
 #[inline(always)]
 fn bytes_of(numbers: [u64; 8]) -> u8x16
     requires { (k : ℕ) → k < 8 → slice_index numbers k < 2 ^ 16 }
-    ensures first { (k : ℕ) → k < 8 → slice_index result k ≡ slice_index numbers k % 256 }
-    ensures second { (k : ℕ) → k < 8 → slice_index result (8 + k) ≡ slice_index numbers k / 256 }
+    ensures { result ≡ map (λ number. number % 256) numbers ++ map (λ number. number / 256) numbers }
 {
-    let first = numbers[0] | (numbers[1] << 16) | (numbers[2] << 32) | (numbers[3] << 48);
-    let second = numbers[4] | (numbers[5] << 16) | (numbers[6] << 32) | (numbers[7] << 48);
+    let first = joined(
+        joined(joined(numbers[3], numbers[2]), numbers[1]),
+        numbers[0],
+    );
+    let second = joined(
+        joined(joined(numbers[7], numbers[6]), numbers[5]),
+        numbers[4],
+    );
     let bytes: u8x16 = u64x2::from_array([first, second]).to_le_bytes();
     bytes.swizzle(FIRST_AND_SECOND)
 }
@@ -78,24 +94,25 @@ fn ip(first: &[u8; 8], second: &[u8; 8]) -> u64x2
     ensures second { bits_of_word (lane 1 result)
         ≡ select initial_permutation (bits_of_bytes second.now) }
 {
-    let blocks = u64x2::from_array([u64::from_le_bytes(*first), u64::from_le_bytes(*second)]);
-    let c = columns(blocks.to_le_bytes());
+    let first = u8x8::from_array(*first);
+    let second = u8x8::from_array(*second);
+    let c = columns(first.shuffle(second, BOTH));
     u64x2::from_le_bytes(bytes_of([c[6], c[4], c[2], c[0], c[7], c[5], c[3], c[1]]))
 }
 
 // The blocks of the final permutation of two words.
 #[inline(always)]
 fn fp(words: u64x2) -> ([u8; 8], [u8; 8])
-    ensures are_blocks { IsBlock result.0 × IsBlock result.1 }
     ensures first { bits_of_bytes result.0 ≡ select final_permutation (bits_of_word (lane 0 words)) }
     ensures second { bits_of_bytes result.1 ≡ select final_permutation (bits_of_word (lane 1 words)) }
 {
     let bytes: u8x16 = words.to_le_bytes();
     let c = columns(bytes.swizzle(ROWS));
-    let bytes = bytes_of([c[7], c[6], c[5], c[4], c[3], c[2], c[1], c[0]]);
-    let blocks: u64x2 = u64x2::from_le_bytes(bytes);
-    let [first, second] = blocks.to_array();
-    (first.to_le_bytes(), second.to_le_bytes())
+    let blocks = bytes_of([c[7], c[6], c[5], c[4], c[3], c[2], c[1], c[0]]);
+    (
+        blocks.extract::<0, 8>().to_array(),
+        blocks.extract::<8, 8>().to_array(),
+    )
 }
 
 // What `Halves::of_block` makes of each word.

@@ -1,32 +1,5 @@
-use Rattle.std.proofs.Common.{◌≡◌, ℕ, List, map, get_or, refl, ap, ◌∙◌, arith}
-use Rattle.std.proofs.lemmas.List.{get_or-map}
-use Rattle.des.specs.Bits.{bits_of_word}
-use Rattle.des.specs.SwapForms.{delta_swapped, swap_form_of_ip}
-use Rattle.des.proofs.SwappedWords.{bits_of_word-swap_form_of_ip}
-use Rattle.des_fast.proofs.FourWords.{four_words, lane-fits}
+use Rattle.std.proofs.Common.{◌∙◌, ap, arith}
 use Rattle.des_fast.proofs.permutations.ip.Goals as goal
-use Rattle.des_fast.proofs.permutations.ip.Goals.{After-delta_swap}
 
--- a step in each word
-abbrev swapped : ℕ → ℕ → List ℕ → List ℕ
-swapped delta mask words = map (λ word. delta_swapped word delta mask) words
-
-in-each : (c : After-delta_swap) → c.delta_swap.result ≡ map swap_form_of_ip c.args.words
-in-each c =
-    let steps = four_words (λ words.
-    swapped 24 0x000000ff000000ff
-    (swapped 24 0x00000000ff00ff00
-    (swapped 36 0x000000000f0f0f0f
-    (swapped 18 0x0000333300003333
-    (swapped 9 0x0055005500550055 words))))
-    ≡ map swap_form_of_ip words)
-    (λ x y z w. refl) c.args.words c.fits-words.0 in
-    cc
-
-pub returns : goal.returns
-returns c b within =
-    let words : List ℕ = c.args.words in
-    let word : ℕ = get_or words b 0 in
-    ap (λ (made : List ℕ). bits_of_word (get_or made b 0)) (in-each c)
-    ∙ ap bits_of_word (get_or-map swap_form_of_ip words b 0 0 (omega (arith, c.fits-words.0)))
-    ∙ bits_of_word-swap_form_of_ip word (lane-fits words c.fits-words b within)
+pub returns-clause-first : goal.returns-clause-first
+returns-clause-first c = let i = c.bytes_of.type_inv in ?

@@ -3,7 +3,7 @@ use Rattle.std.specs.Simd.Lanes.{zip2, Each1}
 use Rattle.des.specs.Bits.{bits_of_word}
 use Rattle.des_fast.proofs.HalfExpansions.{IsExpansionOf}
 use Rattle.des_fast.proofs.HalfMaps.{left_groups, right_groups, IsExpansionOf-left_groups, IsExpansionOf-right_groups}
-use Rattle.des_fast.proofs.FourWords.{lane-each, lane-fits, shifted_left, shifted_right, under_mask}
+use Rattle.des_fast.proofs.TwoWords.{lane-each, lane-fits, shifted_left, shifted_right, under_mask}
 use Rattle.des_fast.proofs.permutations.split.Goals as goal
 
 -- the groups 1, 3, 5 and 7 of each half, and the groups 2, 4, 6 and 8
@@ -23,16 +23,16 @@ left words = zip2 bit_or (under_mask 0x3f3f3f3f00000000 (odd words)) (shifted_ri
 abbrev right : List ℕ → List ℕ
 right words = zip2 bit_or (shifted_left 32 (odd words)) (under_mask 0x000000003f3f3f3f (even words))
 
-left-lane : (words : List ℕ) → (length words ≡ 4) × Each1 (Fits w64) words → (b : ℕ) → b < 4
+left-lane : (words : List ℕ) → (length words ≡ 2) × Each1 (Fits w64) words → (b : ℕ) → b < 2
     → IsExpansionOf (get_or (left words) b 0) (take 32 (bits_of_word (get_or words b 0)))
 left-lane words are b within =
-    rw (lane-each left left_groups.of (λ x y z w. refl) words are.0 b within)
+    rw (lane-each left left_groups.of (λ x y. refl) words are.0 b within)
     (IsExpansionOf-left_groups (get_or words b 0) (lane-fits words are b within))
 
-right-lane : (words : List ℕ) → (length words ≡ 4) × Each1 (Fits w64) words → (b : ℕ) → b < 4
+right-lane : (words : List ℕ) → (length words ≡ 2) × Each1 (Fits w64) words → (b : ℕ) → b < 2
     → IsExpansionOf (get_or (right words) b 0) (drop 32 (bits_of_word (get_or words b 0)))
 right-lane words are b within =
-    rw (lane-each right right_groups.of (λ x y z w. refl) words are.0 b within)
+    rw (lane-each right right_groups.of (λ x y. refl) words are.0 b within)
     (IsExpansionOf-right_groups (get_or words b 0) (lane-fits words are b within))
 
 pub returns-clause-left : goal.returns-clause-left

@@ -1,0 +1,86 @@
+-- The columns of eight bytes, from the bit of each that is shifted into the first place to the bytes that they are the rows of.
+use Rattle.std.proofs.Common.{◌≡◌, ℕ, zero, suc, ◌+◌, ◌-◌, ◌*◌, ◌/◌, ◌%◌, ◌^◌, ◌<◌, ◌==◌, nat_lt, true, lit≤, List, [], ◌∷◌, ◌++◌, Bool, length, map, reverse, get_or, refl, sym, ap, ap₂, ◌∙◌, arith, shr-shr, append_assoc}
+use Rattle.std.specs.Int.{bit_at}
+use Rattle.std.specs.List.{flat_map, list_all}
+use Rattle.std.specs.Simd.Lanes.{Each1, zip2, chunk, number_l, digits_l, all_below}
+use Rattle.std.proofs.lemmas.Bool.{and_parts, ltb-true}
+use Rattle.std.proofs.lemmas.Simd.{get_or_wider, length-chunk, Each1-chunk}
+use Rattle.des.specs.Bits.{bits_of, bits_of_bytes, bits_of_word, select}
+use Rattle.des.specs.Tables.{initial_permutation, final_permutation}
+use Rattle.des.specs.Laws.BitLists.{bits_of-cat}
+
+-- ---- the bytes doubled
+
+abbrev pub twice : List ℕ → List ℕ
+twice bytes = zip2 (λ a b. (a + b) % 2 ^ 8) bytes bytes
+
+get_or-twice : (bytes : List ℕ) (i : ℕ)
+    → get_or (twice bytes) i 0 ≡ (get_or bytes i 0 + get_or bytes i 0) % 2 ^ 8
+get_or-twice [] i = refl
+get_or-twice (byte ∷ bytes) zero = refl
+get_or-twice (byte ∷ bytes) (suc i) = get_or-twice bytes i
+
+-- each bit of a byte goes one place to the left
+bit_at-double : (x j : ℕ) → j < 7 → bit_at ((x + x) % 2 ^ 8) (suc j) ≡ bit_at x j
+bit_at-double x (suc (suc (suc (suc (suc (suc (suc j))))))) below = absurd (omega arith)
+bit_at-double x j below = omega arith
+
+-- the bytes doubled some times
+abbrev pub doubled : ℕ → List ℕ → List ℕ
+doubled zero bytes = bytes
+doubled (suc k) bytes = twice (doubled k bytes)
+
+-- a bit has gone as many places
+bit_at-doubled : (k i j : ℕ) (bytes : List ℕ) → k + j < 8
+    → bit_at (get_or (doubled k bytes) i 0) (k + j) ≡ bit_at (get_or bytes i 0) j
+bit_at-doubled zero i j bytes below = ap (bit_at (get_or bytes i 0)) (omega arith)
+bit_at-doubled (suc k) i j bytes below =
+    ap₂ bit_at (get_or-twice (doubled k bytes) i) (omega arith)
+    ∙ bit_at-double (get_or (doubled k bytes) i 0) (k + j) (omega arith)
+    ∙ bit_at-doubled k i j bytes (omega arith)
+
+-- and bit k + 1 stands in the first place
+pub first-doubled : (k i : ℕ) (bytes : List ℕ) → k < 8
+    → bit_at (get_or (doubled k bytes) i 0) 7 ≡ bit_at (get_or bytes i 0) (7 - k)
+first-doubled k i bytes below =
+    let last : 7 ≡ k + (7 - k) = omega arith in
+    ap (bit_at (get_or (doubled k bytes) i 0)) last ∙ bit_at-doubled k i (7 - k) bytes (omega arith)
+
+-- ---- rows
+
+-- a number whose bits are those of number k, from 0, of eight bytes, the first byte's the least significant
+abbrev pub IsColumn : (ℕ → ℕ) → ℕ → ℕ → Type 0
+IsColumn byte k number = (i : ℕ) → i < 8 → bit_at number i ≡ bit_at (byte i) (7 - k)
+
+-- these bits from the last byte to the first
+abbrev column : (ℕ → ℕ) → ℕ → List Bool
+column byte k = map (λ i. bit_at (byte i) (7 - k) == 1) (7 ∷ 6 ∷ 5 ∷ 4 ∷ 3 ∷ 2 ∷ 1 ∷ 0 ∷ [])
+
+bits_of-column : (byte : ℕ → ℕ) (k number : ℕ) → IsColumn byte k number → bits_of 8 number ≡ column byte k
+unfolding bits_of
+bits_of-column byte k number is =
+    rw (is 7 (lit≤ tt), is 6 (lit≤ tt), is 5 (lit≤ tt), is 4 (lit≤ tt)) (
+    rw (is 3 (lit≤ tt), is 2 (lit≤ tt), is 1 (lit≤ tt), is 0 (lit≤ tt)) refl)
+
+-- bytes that are columns
+rows : (number byte : ℕ → ℕ) → ((k : ℕ) → k < 8 → IsColumn byte k (number k)) → (order : List ℕ)
+    → list_all (λ k. nat_lt k 8) order ≡ true → bits_of_bytes (map number order) ≡ flat_map (column byte) order
+unfolding bits_of_bytes
+rows number byte are [] below = refl
+rows number byte are (k ∷ order) below =
+    let parts = and_parts (nat_lt k 8) _ below in
+    ap₂ ◌++◌ (bits_of-column byte k (number k) (are k (ltb-true _ _ parts.0))) (rows number byte are order parts.1)
+
+-- the columns in the order of the initial permutation
+pub initial : (number byte : ℕ → ℕ) → ((k : ℕ) → k < 8 → IsColumn byte k (number k))
+    → bits_of_bytes (map number (1 ∷ 3 ∷ 5 ∷ 7 ∷ 0 ∷ 2 ∷ 4 ∷ 6 ∷ []))
+    ≡ select initial_permutation (bits_of_bytes (map byte (0 ∷ 1 ∷ 2 ∷ 3 ∷ 4 ∷ 5 ∷ 6 ∷ 7 ∷ [])))
+unfolding bits_of bits_of_bytes select
+initial number byte are = rows number byte are (1 ∷ 3 ∷ 5 ∷ 7 ∷ 0 ∷ 2 ∷ 4 ∷ 6 ∷ []) refl
+
+-- and of the final one, of bytes in the order of their rows
+pub final : (number byte : ℕ → ℕ) → ((k : ℕ) → k < 8 → IsColumn byte k (number k))
+    → bits_of_bytes (map number (7 ∷ 6 ∷ 5 ∷ 4 ∷ 3 ∷ 2 ∷ 1 ∷ 0 ∷ []))
+    ≡ select final_permutation (bits_of_bytes (map byte (6 ∷ 4 ∷ 2 ∷ 0 ∷ 7 ∷ 5 ∷ 3 ∷ 1 ∷ [])))
+unfolding bits_of bits_of_bytes select
+final number byte are = rows number byte are (7 ∷ 6 ∷ 5 ∷ 4 ∷ 3 ∷ 2 ∷ 1 ∷ 0 ∷ []) refl
