@@ -1,13 +1,17 @@
 -- The columns of eight bytes, from the bit of each that is shifted into the first place to the bytes that they are the rows of.
 use Rattle.std.proofs.Common.{◌≡◌, ℕ, zero, suc, ◌+◌, ◌-◌, ◌*◌, ◌/◌, ◌%◌, ◌^◌, ◌<◌, ◌==◌, nat_lt, true, lit≤, List, [], ◌∷◌, ◌++◌, Bool, length, map, reverse, get_or, refl, sym, ap, ap₂, ◌∙◌, arith, shr-shr, append_assoc}
-use Rattle.std.specs.Int.{bit_at}
+use Rattle.std.specs.Int.{w64, bit_at, byte_at, to_le_bytes, to_be_bytes}
 use Rattle.std.specs.List.{flat_map, list_all}
 use Rattle.std.specs.Simd.Lanes.{Each1, zip2, chunk, number_l, digits_l, all_below}
+use Rattle.std.proofs.lemmas.Nat.{shr_split}
+use Rattle.std.proofs.lemmas.Nat.Bits.{bit_at_cat_low}
 use Rattle.std.proofs.lemmas.Bool.{and_parts, ltb-true}
-use Rattle.std.proofs.lemmas.Simd.{get_or_wider, length-chunk, Each1-chunk}
+use Rattle.std.proofs.lemmas.Simd.{get_or_narrower, below_from_Fits, pick_l_whole}
 use Rattle.des.specs.Bits.{bits_of, bits_of_bytes, bits_of_word, select}
 use Rattle.des.specs.Tables.{initial_permutation, final_permutation}
-use Rattle.des.specs.Laws.BitLists.{bits_of-cat}
+use Rattle.des.specs.Laws.BitLists.{bits_of_bytes-to_be}
+use Rattle.des_fast.proofs.SliceBits.{IsSlice}
+use Rattle.des_fast.proofs.PlacedBytes.{byte_at-is, number_byte}
 
 -- ---- the bytes doubled
 
@@ -52,6 +56,21 @@ first-doubled k i bytes below =
 abbrev pub IsColumn : (ℕ → ℕ) → ℕ → ℕ → Type 0
 IsColumn byte k number = (i : ℕ) → i < 8 → bit_at number i ≡ bit_at (byte i) (7 - k)
 
+-- numbers of sixteen bits that are those of sixteen bytes, as `columns` has them
+abbrev pub AreColumns : (ℕ → ℕ) → (ℕ → ℕ) → Type 0
+AreColumns byte number = (k i : ℕ) → k < 8 → i < 16 → bit_at (number k) i ≡ bit_at (byte i) (7 - k)
+
+-- their low bytes are the columns of the first eight bytes, their high ones those of the others
+pub IsColumn-low : (byte number : ℕ → ℕ) → AreColumns byte number → (k : ℕ) → k < 8 → IsColumn byte k (number k % 256)
+IsColumn-low byte number are k below i within =
+    sym (bit_at_cat_low (number k / 2 ^ 8) 8 (number k % 2 ^ 8) i within)
+    ∙ ap (λ (n : ℕ). bit_at n i) (shr_split (number k) 8) ∙ are k i below (omega arith)
+
+pub IsColumn-high : (byte number : ℕ → ℕ) → AreColumns byte number → (k : ℕ) → k < 8
+    → IsColumn (λ i. byte (8 + i)) k (number k / 256)
+IsColumn-high byte number are k below i within =
+    ap (λ (n : ℕ). n % 2) (shr-shr (number k) 8 i) ∙ are k (8 + i) below (omega arith)
+
 -- these bits from the last byte to the first
 abbrev column : (ℕ → ℕ) → ℕ → List Bool
 column byte k = map (λ i. bit_at (byte i) (7 - k) == 1) (7 ∷ 6 ∷ 5 ∷ 4 ∷ 3 ∷ 2 ∷ 1 ∷ 0 ∷ [])
@@ -84,3 +103,34 @@ pub final : (number byte : ℕ → ℕ) → ((k : ℕ) → k < 8 → IsColumn by
     ≡ select final_permutation (bits_of_bytes (map byte (6 ∷ 4 ∷ 2 ∷ 0 ∷ 7 ∷ 5 ∷ 3 ∷ 1 ∷ [])))
 unfolding bits_of bits_of_bytes select
 final number byte are = rows number byte are (7 ∷ 6 ∷ 5 ∷ 4 ∷ 3 ∷ 2 ∷ 1 ∷ 0 ∷ []) refl
+
+-- ---- the bytes of vectors of two words
+
+-- eight bytes are those of the number that they write
+pub to_le_bytes-number_l : (bytes : List ℕ) → length bytes ≡ 8 → Each1 (λ byte. byte < 256) bytes
+    → to_le_bytes w64 (number_l 256 bytes) ≡ bytes
+to_le_bytes-number_l bytes count are =
+    let at : (i : ℕ) → i < 8 → byte_at i (number_l 256 bytes) ≡ get_or bytes i 0 =
+    λ i below. byte_at-is i (number_l 256 bytes) ∙ number_byte bytes i (omega arith) are in
+    (λ j. at 0 (lit≤ tt) j ∷ at 1 (lit≤ tt) j ∷ at 2 (lit≤ tt) j ∷ at 3 (lit≤ tt) j
+    ∷ at 4 (lit≤ tt) j ∷ at 5 (lit≤ tt) j ∷ at 6 (lit≤ tt) j ∷ at 7 (lit≤ tt) j ∷ [])
+    ∙ pick_l_whole 0 bytes 8 count
+
+-- the bits of a word are those of its bytes from the last to the first
+pub bits_of_word-le : (word : ℕ) (bytes : List ℕ) → to_le_bytes w64 word ≡ bytes
+    → bits_of_word word ≡ bits_of_bytes (map (λ i. get_or bytes i 0) (7 ∷ 6 ∷ 5 ∷ 4 ∷ 3 ∷ 2 ∷ 1 ∷ 0 ∷ []))
+bits_of_word-le word bytes same =
+    sym (bits_of_bytes-to_be word)
+    ∙ ap (λ (bs : List ℕ). bits_of_bytes (map (λ i. get_or bs i 0) (7 ∷ 6 ∷ 5 ∷ 4 ∷ 3 ∷ 2 ∷ 1 ∷ 0 ∷ []))) same
+
+-- the bytes of a vector from the last to the first of a word
+pub bytes_of_lane : (words : List ℕ) (b : ℕ) → IsSlice 2 words → b < 2
+    → map (λ i. get_or (digits_l 256 16 (number_l (2 ^ 64) words)) (8 * b + i) 0) (7 ∷ 6 ∷ 5 ∷ 4 ∷ 3 ∷ 2 ∷ 1 ∷ 0 ∷ [])
+    ≡ to_be_bytes w64 (get_or words b 0)
+bytes_of_lane words b are within =
+    let word : ℕ = get_or words b 0 in
+    let at : (i : ℕ) → i < 8 → get_or (digits_l 256 16 (number_l (2 ^ 64) words)) (8 * b + i) 0 ≡ byte_at i word =
+    λ i below. get_or_narrower (2 ^ 64) 8 256 16 words b i refl (below_from_Fits w64 words are.1) below (omega arith)
+    ∙ sym (byte_at-is i word) in
+    λ j. at 7 (lit≤ tt) j ∷ at 6 (lit≤ tt) j ∷ at 5 (lit≤ tt) j ∷ at 4 (lit≤ tt) j
+    ∷ at 3 (lit≤ tt) j ∷ at 2 (lit≤ tt) j ∷ at 1 (lit≤ tt) j ∷ at 0 (lit≤ tt) j ∷ []

@@ -60,7 +60,7 @@ get_or-bytes i (suc k) n zero below = ap (λ (m : ℕ). byte_at m n) (omega arit
 get_or-bytes i (suc k) n (suc j) below =
     get_or-bytes (suc i) k n j (omega arith) ∙ ap (λ (m : ℕ). byte_at m n) (omega arith)
 
-byte_at-is : (i n : ℕ) → byte_at i n ≡ n / 256 ^ i % 256
+pub byte_at-is : (i n : ℕ) → byte_at i n ≡ n / 256 ^ i % 256
 byte_at-is zero n = omega arith
 byte_at-is (suc i) n = refl
 
@@ -117,11 +117,11 @@ shuffles n step t positions =
 abbrev AllBytes : List ℕ → Type 0
 AllBytes xs = Each1 (λ x. x < 256) xs
 
-digits-bytes : (n x : ℕ) → AllBytes (digits_l 256 n x)
+pub digits-bytes : (n x : ℕ) → AllBytes (digits_l 256 n x)
 digits-bytes zero x = tt
 digits-bytes (suc n) x = (omega arith, digits-bytes n (x / 256))
 
-appended-bytes : (xs ys : List ℕ) → AllBytes xs → AllBytes ys → AllBytes (xs ++ ys)
+pub appended-bytes : (xs ys : List ℕ) → AllBytes xs → AllBytes ys → AllBytes (xs ++ ys)
 appended-bytes [] ys p q = q
 appended-bytes (x ∷ xs) ys p q = (p.0, appended-bytes xs ys p.1 q)
 
@@ -130,7 +130,7 @@ get_or-byte [] i p = omega arith
 get_or-byte (x ∷ xs) zero p = p.0
 get_or-byte (x ∷ xs) (suc i) p = get_or-byte xs i p.1
 
-picked-bytes : (xs ks : List ℕ) → AllBytes xs → AllBytes (pick_l 0 xs ks)
+pub picked-bytes : (xs ks : List ℕ) → AllBytes xs → AllBytes (pick_l 0 xs ks)
 picked-bytes xs [] p = tt
 picked-bytes xs (k ∷ ks) p = (get_or-byte xs k p, picked-bytes xs ks p)
 
@@ -139,7 +139,7 @@ length-digits_l q zero x = refl
 length-digits_l q (suc n) x = ap suc (length-digits_l q n (x / q))
 
 -- byte i of the number that bytes write, the lowest first
-number_byte : (xs : List ℕ) (i : ℕ) → i < length xs → AllBytes xs → number_l 256 xs / 256 ^ i % 256 ≡ get_or xs i 0
+pub number_byte : (xs : List ℕ) (i : ℕ) → i < length xs → AllBytes xs → number_l 256 xs / 256 ^ i % 256 ≡ get_or xs i 0
 number_byte [] i within fits = absurd (omega arith)
 number_byte (x ∷ xs) zero within fits = omega (arith, fits.0)
 number_byte (x ∷ xs) (suc i) within fits =

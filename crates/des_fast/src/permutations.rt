@@ -3,9 +3,10 @@
 //! the same, by `des::utils`, and tells the layout of the halves.
 
 ghost use Rattle.std.specs.Prelude.{◌≡◌, ◌<◌, ◌+◌, ◌-◌, ◌*◌, ◌/◌, ◌%◌, ◌^◌, ◌++◌, ℕ, map, take, drop, slice_index};
-ghost use Rattle.std.specs.Int.{bit_at};
+ghost use Rattle.std.specs.Int.{w64, bit_at, to_le_bytes};
 ghost use Rattle.des.specs.Bits.{bits_of, bits_of_bytes, bits_of_word, select};
 ghost use Rattle.des.specs.Tables.{initial_permutation, final_permutation};
+ghost use Rattle.des.specs.Blocks.{block_of_bits};
 ghost use Rattle.des_fast.specs.Groups.{half_of};
 ghost use Rattle.des_fast.specs.HalfBlocks.{first_halves, last_block};
 ghost use Rattle.des_fast.specs.SideBySide.{AreExpansions, lane};
@@ -68,22 +69,23 @@ fn joined(number: u64, last: u64) -> u64
     (number << 16) | last
 }
 
-// The least significant bytes of numbers of two bytes, and then the most significant ones.
+// The words of two blocks whose rows are these columns, from the last row to the first.
 #[inline(always)]
-fn bytes_of(numbers: [u64; 8]) -> u8x16
-    requires { (k : ℕ) → k < 8 → slice_index numbers k < 2 ^ 16 }
-    ensures { result ≡ map (λ number. number % 256) numbers ++ map (λ number. number / 256) numbers }
+fn rows(columns: [u64; 8]) -> u64x2
+    requires { (k : ℕ) → k < 8 → slice_index columns k < 2 ^ 16 }
+    ensures first { to_le_bytes w64 (lane 0 result) ≡ map (λ column. column % 256) columns }
+    ensures second { to_le_bytes w64 (lane 1 result) ≡ map (λ column. column / 256) columns }
 {
+    let last = joined(
+        joined(joined(columns[3], columns[2]), columns[1]),
+        columns[0],
+    );
     let first = joined(
-        joined(joined(numbers[3], numbers[2]), numbers[1]),
-        numbers[0],
+        joined(joined(columns[7], columns[6]), columns[5]),
+        columns[4],
     );
-    let second = joined(
-        joined(joined(numbers[7], numbers[6]), numbers[5]),
-        numbers[4],
-    );
-    let bytes: u8x16 = u64x2::from_array([first, second]).to_le_bytes();
-    bytes.swizzle(FIRST_AND_SECOND)
+    let bytes: u8x16 = u64x2::from_array([last, first]).to_le_bytes();
+    u64x2::from_le_bytes(bytes.swizzle(FIRST_AND_SECOND))
 }
 
 // The words of the initial permutation of two blocks.
@@ -97,22 +99,19 @@ fn ip(first: &[u8; 8], second: &[u8; 8]) -> u64x2
     let first = u8x8::from_array(*first);
     let second = u8x8::from_array(*second);
     let c = columns(first.shuffle(second, BOTH));
-    u64x2::from_le_bytes(bytes_of([c[6], c[4], c[2], c[0], c[7], c[5], c[3], c[1]]))
+    rows([c[6], c[4], c[2], c[0], c[7], c[5], c[3], c[1]])
 }
 
 // The blocks of the final permutation of two words.
 #[inline(always)]
 fn fp(words: u64x2) -> ([u8; 8], [u8; 8])
-    ensures first { bits_of_bytes result.0 ≡ select final_permutation (bits_of_word (lane 0 words)) }
-    ensures second { bits_of_bytes result.1 ≡ select final_permutation (bits_of_word (lane 1 words)) }
+    ensures first { result.0 ≡ block_of_bits (select final_permutation (bits_of_word (lane 0 words))) }
+    ensures second { result.1 ≡ block_of_bits (select final_permutation (bits_of_word (lane 1 words))) }
 {
     let bytes: u8x16 = words.to_le_bytes();
     let c = columns(bytes.swizzle(ROWS));
-    let blocks = bytes_of([c[7], c[6], c[5], c[4], c[3], c[2], c[1], c[0]]);
-    (
-        blocks.extract::<0, 8>().to_array(),
-        blocks.extract::<8, 8>().to_array(),
-    )
+    let [first, second] = rows([c[7], c[6], c[5], c[4], c[3], c[2], c[1], c[0]]).to_array();
+    (first.to_le_bytes(), second.to_le_bytes())
 }
 
 // What `Halves::of_block` makes of each word.
