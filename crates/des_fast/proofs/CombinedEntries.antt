@@ -1,9 +1,9 @@
 -- The entries of the combined tables, and their xor for eight groups: the substitution, P and E of the groups' bits.
-use Rattle.std.proofs.Common.{◌≡◌, ℕ, ◌+◌, ◌*◌, ◌/◌, ◌<◌, List, [], ◌∷◌, Bool, length, take, drop, slice_index, slice_index_or, bit_and, bit_or, bit_xor, refl, ap, ap₂, subst, sym, ◌∙◌, arith, zero-add, lit≤}
+use Rattle.std.proofs.Common.{◌≡◌, ℕ, ◌+◌, ◌*◌, ◌<◌, List, [], ◌∷◌, Bool, length, take, drop, slice_index, slice_index_or, bit_and, bit_or, bit_xor, refl, ap, ap₂, subst, sym, ◌∙◌, arith, zero-add, lit≤}
 use Rattle.std.specs.Int.Bits.{xor_disjoint}
 use Rattle.std.specs.List.{All}
 use Rattle.std.proofs.lemmas.List.FromFn.{get_or-map-range_with_len}
-use Rattle.std.proofs.lemmas.Nat.{or_disjoint}
+use Rattle.std.proofs.lemmas.Nat.{and_assoc, or_disjoint}
 use Rattle.std.proofs.lemmas.Nat.Bits.{same_from_bits, bit_at_xor}
 use Rattle.des.specs.Bits.{bits_of, number_of, select, xor_bits}
 use Rattle.des.specs.Tables.{selection_functions, expansion, permutation}
@@ -62,27 +62,16 @@ or-apart a b m n apart a_under b_under =
     let none = ap₂ bit_and (sym a_under) (sym b_under) ∙ and-masked a b m n apart in
     or_disjoint a b none ∙ sym (xor_disjoint a b none)
 
--- also two pairs of numbers
-pairs-apart : (a b c d m n : ℕ) → bit_and m n ≡ 0
-    → bit_and a m ≡ a → bit_and b m ≡ b → bit_and c n ≡ c → bit_and d n ≡ d
-    → bit_or (bit_xor a b) (bit_xor c d) ≡ bit_xor (bit_xor a b) (bit_xor c d)
-pairs-apart a b c d m n apart a_under b_under c_under d_under =
-    or-apart (bit_xor a b) (bit_xor c d) m n apart (under-xor a b m a_under b_under) (under-xor c d n c_under d_under)
+-- numbers under a mask are under a wider one
+wider : (a m n : ℕ) → bit_and m n ≡ m → bit_and a m ≡ a → bit_and a n ≡ a
+wider a m n within under = ap (λ x. bit_and x n) (sym under) ∙ and_assoc n a m ∙ ap (bit_and a) within ∙ under
 
--- the bits that the entries of a box, from 0, and of its neighbour have
-abbrev pair_mask : ℕ → ℕ
-pair_mask i =
-    slice_index_or (0x0811180201110424 ∷ 0x1008222808022209 ∷ 0x0624041122080110 ∷ 0x2102010414241802 ∷ []) (i / 2) 0
-
--- the bits that the entries of the first, the third, the fifth and the seventh box have, from the last of them: of one,
--- of the first two and of the first three
-abbrev row_masks : ℕ → List ℕ
-row_masks joined =
-    let others : ℕ = 0x1b0d0f0f30143031 in
-    let first : ℕ = slice_index_or (0x2002000004200802 ∷ 0x2422001006280902 ∷ 0x242220300e2a0b0a ∷ []) joined 0 in
-    let second : ℕ = slice_index_or (0x0420001002080100 ∷ 0x2422001006280902 ∷ 0x242220300e2a0b0a ∷ []) joined 0 in
-    let third : ℕ = slice_index_or (0x0000202008020208 ∷ 0x0000202008020208 ∷ 0x242220300e2a0b0a ∷ []) joined 0 in
-    0x0010100001010404 ∷ others ∷ third ∷ others ∷ second ∷ others ∷ first ∷ others ∷ []
+-- the bits that the entries of each box, from 0, have
+abbrev box_mask : ℕ → ℕ
+box_mask i =
+    slice_index_or
+    (0x0010100001010404 ∷ 0x0801080200100020 ∷ 0x0000202008020208 ∷ 0x1008020800002001 ∷ 0x0420001002080100 ∷ 0x0204040120000010
+    ∷ 0x2002000004200802 ∷ 0x0100010410041000 ∷ []) i 0
 
 -- ---- their xor
 
@@ -90,10 +79,10 @@ row_masks joined =
 abbrev row : {A : Type 0} → (A → A → A) → (ℕ → A) → A
 row join x = join (join (join (join (join (join (join (x 7) (x 6)) (x 5)) (x 4)) (x 3)) (x 2)) (x 1)) (x 0)
 
--- eight words in a tree, whose middle step may be another
+-- eight words in a tree, whose first step may be another
 abbrev tree : (ℕ → ℕ → ℕ) → (ℕ → ℕ) → ℕ
-tree middle x =
-    bit_xor (middle (bit_xor (x 0) (x 1)) (bit_xor (x 2) (x 3))) (middle (bit_xor (x 4) (x 5)) (bit_xor (x 6) (x 7)))
+tree join x =
+    bit_xor (bit_xor (join (x 7) (x 5)) (join (x 3) (x 1))) (bit_xor (join (x 6) (x 4)) (join (x 2) (x 0)))
 
 tree-row : (x : ℕ → ℕ) → tree bit_xor x ≡ row bit_xor x
 tree-row x = same_from_bits _ _ (λ i. simp bit_at_xor (omega arith))
@@ -126,34 +115,40 @@ module _ (bits : List Bool) (groups : List ℕ) (within : All (λ group. group <
       (IsExpansionOf-xor (at 7 (lit≤ tt)) (at 6 (lit≤ tt))) (at 5 (lit≤ tt))) (at 4 (lit≤ tt))) (at 3 (lit≤ tt)))
       (at 2 (lit≤ tt))) (at 1 (lit≤ tt))) (at 0 (lit≤ tt)))
 
+  -- each entry has bits of its box alone
+  under : (i : ℕ) → i < 8
+      → bit_and (entry i (slice_index groups i)) (box_mask i) ≡ entry i (slice_index groups i)
+  under i below =
+      same_entries (λ i group. bit_and (entry i group) (box_mask i)) entry 8 64 i (slice_index groups i) below
+      (within i 0 (omega arith)) refl
+
   -- also in a tree where `|` joins pairs of them, which share no bit
   pub IsExpansionOf-entries :
       IsExpansionOf (tree bit_or (λ i. entry i (slice_index groups i))) (select permutation (substitute bits))
   IsExpansionOf-entries =
-      let masked : ℕ → ℕ → ℕ = λ i group. bit_and (entry i group) (pair_mask i) in
-      let under = λ (i : ℕ) (below : i < 8).
-      same_entries masked entry 8 64 i (slice_index groups i) below (within i 0 (omega arith)) refl in
-      let first = pairs-apart _ _ _ _ (pair_mask 0) (pair_mask 2) refl
-      (under 0 (lit≤ tt)) (under 1 (lit≤ tt)) (under 2 (lit≤ tt)) (under 3 (lit≤ tt)) in
-      let last = pairs-apart _ _ _ _ (pair_mask 4) (pair_mask 6) refl
-      (under 4 (lit≤ tt)) (under 5 (lit≤ tt)) (under 6 (lit≤ tt)) (under 7 (lit≤ tt)) in
-      rw (first, last, tree-row (λ i. entry i (slice_index groups i))) IsExpansionOf-row
+      let pair = λ (i j : ℕ) (below : i < 8) (under_eight : j < 8) (apart : bit_and (box_mask i) (box_mask j) ≡ 0).
+      or-apart _ _ (box_mask i) (box_mask j) apart (under i below) (under j under_eight) in
+      rw (
+        pair 7 5 (lit≤ tt) (lit≤ tt) refl,
+        pair 3 1 (lit≤ tt) (lit≤ tt) refl,
+        pair 6 4 (lit≤ tt) (lit≤ tt) refl,
+        pair 2 0 (lit≤ tt) (lit≤ tt) refl,
+        tree-row (λ i. entry i (slice_index groups i)),
+      ) IsExpansionOf-row
 
   -- also in two rows, in one of which `|` joins entries, which share no bit
   pub IsExpansionOf-rows :
       IsExpansionOf (rows bit_or (λ i. entry i (slice_index groups i))) (select permutation (substitute bits))
   IsExpansionOf-rows =
-      let mask : ℕ → ℕ → ℕ = λ joined i. slice_index_or (row_masks joined) i 0 in
-      let one = λ (i : ℕ) (below : i < 8). same_entries (λ i group. bit_and (entry i group) (mask 0 i)) entry 8 64 i
-      (slice_index groups i) below (within i 0 (omega arith)) refl in
-      let two = λ (i : ℕ) (below : i < 8). same_entries (λ i group. bit_and (entry i group) (mask 1 i)) entry 8 64 i
-      (slice_index groups i) below (within i 0 (omega arith)) refl in
-      let three = λ (i : ℕ) (below : i < 8). same_entries (λ i group. bit_and (entry i group) (mask 2 i)) entry 8 64 i
-      (slice_index groups i) below (within i 0 (omega arith)) refl in
-      let first = or-apart _ _ (mask 0 6) (mask 0 4) refl (one 6 (lit≤ tt)) (one 4 (lit≤ tt)) in
-      let second = or-apart _ _ (mask 1 6) (mask 1 2) refl
-      (under-xor _ _ (mask 1 6) (two 6 (lit≤ tt)) (two 4 (lit≤ tt))) (two 2 (lit≤ tt)) in
-      let third = or-apart _ _ (mask 2 6) (mask 2 0) refl
-      (under-xor _ _ (mask 2 6) (under-xor _ _ (mask 2 6) (three 6 (lit≤ tt)) (three 4 (lit≤ tt))) (three 2 (lit≤ tt)))
-      (three 0 (lit≤ tt)) in
+      let six : ℕ = box_mask 6 in
+      let six_four : ℕ = bit_or (box_mask 6) (box_mask 4) in
+      let six_four_two : ℕ = bit_or (bit_or (box_mask 6) (box_mask 4)) (box_mask 2) in
+      let wide = λ (n i : ℕ) (below : i < 8) (within : bit_and (box_mask i) n ≡ box_mask i).
+      wider _ (box_mask i) n within (under i below) in
+      let first = or-apart _ _ six (box_mask 4) refl (under 6 (lit≤ tt)) (under 4 (lit≤ tt)) in
+      let second = or-apart _ _ six_four (box_mask 2) refl
+      (under-xor _ _ six_four (wide six_four 6 (lit≤ tt) refl) (wide six_four 4 (lit≤ tt) refl)) (under 2 (lit≤ tt)) in
+      let third = or-apart _ _ six_four_two (box_mask 0) refl
+      (under-xor _ _ six_four_two (under-xor _ _ six_four_two (wide six_four_two 6 (lit≤ tt) refl)
+      (wide six_four_two 4 (lit≤ tt) refl)) (wide six_four_two 2 (lit≤ tt) refl)) (under 0 (lit≤ tt)) in
       rw (first, second, third, rows-row (λ i. entry i (slice_index groups i))) IsExpansionOf-row

@@ -45,13 +45,13 @@ AreChainingValues-more f block_of count_of firsts now added answers next i batch
 
 -- ---- an element of a list with a part of it written
 
-get_or-put_below : (m w : ℕ) (xs ys : List (List ℕ)) (i : ℕ) → i < m → m ≤ length xs
+pub get_or-put_below : (m w : ℕ) (xs ys : List (List ℕ)) (i : ℕ) → i < m → m ≤ length xs
     → get_or (put_mid m w xs ys) i [] ≡ get_or xs i []
 get_or-put_below m w xs ys i low within =
     get_or_append_left (take m xs) _ [] i (omega (arith, length-take-le m xs within))
     ∙ get_or-take m xs i [] low
 
-get_or-put_in : (m w : ℕ) (xs ys : List (List ℕ)) (i : ℕ) → i < length ys → m ≤ length xs
+pub get_or-put_in : (m w : ℕ) (xs ys : List (List ℕ)) (i : ℕ) → i < length ys → m ≤ length xs
     → get_or (put_mid m w xs ys) (m + i) [] ≡ get_or ys i []
 get_or-put_in m w xs ys i low within =
     let at : m + i - m ≡ i = omega arith in

@@ -32,6 +32,7 @@ pub mod CombinedEntries
 pub mod HalfExpansions
 pub mod HalfMaps
 pub mod KeyedHalves
+pub mod BesideWords
 pub mod RoundKeysByPlace
 pub mod RoundPairs
 pub mod RoundKeyPositions

@@ -13,10 +13,10 @@ use Rattle.des_fast.proofs.HalfExpansions.{IsExpansion-xor}
 use Rattle.des_fast.proofs.RoundKeysByPlace.{length-round_keys_of}
 
 -- the right half with the round key in it is a word of groups
-pub IsOfGroups-mixed : (mixed right key given : ℕ) → mixed ≡ bit_xor right given → given ≡ key → IsExpansion right
-    → IsOfGroups key → IsOfGroups mixed
-IsOfGroups-mixed mixed right key given is_mixed is_given is_expansion of_groups =
-    rw (is_mixed, is_given) (IsOfGroups-xor right key is_expansion.of_groups of_groups)
+pub IsOfGroups-mixed : (mixed right key : ℕ) → mixed ≡ bit_xor right key → IsExpansion right → IsOfGroups key
+    → IsOfGroups mixed
+IsOfGroups-mixed mixed right key is_mixed is_expansion of_groups =
+    rw is_mixed (IsOfGroups-xor right key is_expansion.of_groups of_groups)
 
 -- the half block that a round makes is an expansion
 pub IsExpansion-next : (next left change : ℕ) → next ≡ bit_xor left change → IsExpansion left → IsExpansion change
@@ -24,14 +24,14 @@ pub IsExpansion-next : (next left change : ℕ) → next ≡ bit_xor left change
 IsExpansion-next next left change is_next left_is change_is = rw is_next (IsExpansion-xor left change left_is change_is)
 
 -- and is the left half xor f of the right half and the round key
-pub half_of-next : (next left right change mixed key given : ℕ) → next ≡ bit_xor left change
-    → mixed ≡ bit_xor right given → given ≡ key → IsExpansion right
+pub half_of-next : (next left right change mixed key : ℕ) → next ≡ bit_xor left change
+    → mixed ≡ bit_xor right key → IsExpansion right
     → half_of change ≡ select permutation (substitute (bits_of_groups mixed))
     → half_of next ≡ xor_bits (half_of left) (cipher_function (half_of right) (bits_of_groups key))
 unfolding cipher_function
-half_of-next next left right change mixed key given is_next is_mixed is_given is_expansion is_change =
+half_of-next next left right change mixed key is_next is_mixed is_expansion is_change =
     let groups : bits_of_groups mixed ≡ xor_bits (select expansion (half_of right)) (bits_of_groups key) =
-    ap bits_of_groups (is_mixed ∙ ap (bit_xor right) is_given)
+    ap bits_of_groups is_mixed
     ∙ bits_of_groups-xor right key
     ∙ ap (λ bits. xor_bits bits (bits_of_groups key)) is_expansion.expanded in
     ap half_of is_next

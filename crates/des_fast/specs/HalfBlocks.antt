@@ -1,25 +1,15 @@
 -- What the round keys and the halves of the code stand for.
-use Rattle.std.specs.Prelude.{ℕ, List, Bool, map, take, drop, bit_xor}
+use Rattle.std.specs.Prelude.{ℕ, List, Bool, map, take, drop}
 use Rattle.des.specs.Bits.{bits_of_bytes, select}
 use Rattle.des.specs.Tables.{initial_permutation, final_permutation}
 use Rattle.des.specs.Blocks.{block_of_bits}
 use Rattle.des.specs.Rounds.{swapped}
 use Rattle.des_fast.specs.declared.halves.RoundKey.{RoundKey}
-use Rattle.des_fast.specs.declared.halves.KeyedHalf.{KeyedHalf}
-use Rattle.des_fast.specs.declared.halves.Halves.{Halves}
-use Rattle.des_fast.specs.Groups.{bits_of_groups, half_of}
+use Rattle.des_fast.specs.Groups.{bits_of_groups}
 
 -- the round keys, 48 bits each
 unfoldable pub round_keys_of : List RoundKey → List (List Bool)
 round_keys_of round_keys = map (λ round_key. bits_of_groups round_key.groups) round_keys
-
--- the half block of a half with a round key in it
-abbrev pub keyed_half : KeyedHalf → List Bool
-keyed_half half = half_of (bit_xor half.groups half.round_key.groups)
-
--- the two half blocks
-abbrev pub half_blocks_of : Halves → List Bool × List Bool
-half_blocks_of halves = (half_of halves.left.groups, half_of halves.right.groups)
 
 -- the halves that the rounds of a block begin with
 abbrev pub first_halves : List ℕ → List Bool × List Bool

@@ -7,6 +7,7 @@ pub mod SpreadKeys
 pub mod CombinedTables
 pub mod RoundKeyRows
 pub mod HalfBlocks
+pub mod Keyed
 pub mod Des
 pub mod KeptRoundKeys
 pub mod EachKey
@@ -18,7 +19,7 @@ pub mod RecordStates
 pub mod Laws
 pub mod GroupBytes
 pub mod SideBySide
-pub mod ThreeBlocks
-pub mod FourBlocks
+pub mod Beside
+pub mod TableBlocks
 pub mod JoinedEntries
 pub mod ChosenTerms

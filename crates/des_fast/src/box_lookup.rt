@@ -1,56 +1,86 @@
 //! How S-boxes are looked up: by tables, or without.
 
-ghost use Rattle.std.specs.Prelude.{◌≡◌};
-ghost use Rattle.des.specs.Rounds.{after_rounds};
-ghost use Rattle.des_fast.specs.Groups.{half_of};
-ghost use Rattle.des_fast.specs.HalfBlocks.{half_blocks_of, round_keys_of};
-ghost use Rattle.des_fast.specs.SideBySide.{in_direction};
+ghost use Rattle.std.specs.Prelude.{◌≡◌, ◌≤◌, ℕ, length, map};
 
-use crate::four_blocks::FourGroups;
-use crate::halves::{HalfBlock, Halves, RoundKey};
-use crate::rounds::{Groups, after_rounds};
-use crate::three_blocks::ThreeGroups;
-use std::simd::prelude::*;
+use crate::beside::Beside;
+use crate::lists::{BlockTransform, process_one, process_padded, process_side_by_side};
+use crate::table_blocks::{OneBlock, ThreeBlocks, TwoBlocks};
 
 /// How S-boxes are looked up.
 pub trait BoxLookup: Copy {
-    /// The blocks that go side by side in a list.
-    type Groups: Groups;
+    // The most blocks that go side by side in a list.
+    ghost MOST: { ℕ };
 
-    /// Those that go so if they are too few for `Groups`.
-    type FewGroups: Groups;
+    /// How many of the blocks that are left in a list go next: no clause says which number is
+    /// quickest, since only the time depends on it.
+    fn next_count(left: usize) -> usize
+        requires { 1 ≤ left }
+        ensures some { 1 ≤ result }
+        ensures few { result ≤ MOST }
+        ensures within { result ≤ left };
 
-    /// The last blocks of a list go one by one up to this number: that is quicker.
-    const ONE_BY_ONE: usize;
+    /// Takes one block through passes.
+    fn process_block<A: BlockTransform>(block: &mut [u8; 8], passes: &A)
+        ensures { block.new ≡ A.output passes.now block.old };
 
-    /// The halves of one block after sixteen rounds, with the round keys in their order or, to
-    /// decipher, from the last to the first (FIPS 46-3, enciphering and deciphering).
-    fn after_rounds(halves: Halves, round_keys: &[RoundKey; 16], deciphers: bool) -> Halves
-        ensures { half_blocks_of result
-            ≡ after_rounds (in_direction deciphers (round_keys_of round_keys.now))
-            (half_of halves.left.groups) (half_of halves.right.groups) };
+    /// Takes some blocks through passes side by side.
+    fn process_some<A: BlockTransform>(blocks: &mut [[u8; 8]], passes: &A)
+        requires some { 1 ≤ length blocks.old }
+        requires few { length blocks.old ≤ MOST }
+        ensures { blocks.new ≡ map (A.output passes.now) blocks.old };
+
+    // So many vectors of a chain are kept at once.
+    ghost at_most: { MOST ≤ 6 };
 }
 
+// The numbers of blocks that go side by side by tables.
+type Four = Beside<TwoBlocks, TwoBlocks>;
+
+type Five = Beside<Four, OneBlock>;
+
+type Six = Beside<Four, TwoBlocks>;
+
 /// By tables. The rounds of a block wait for its lookups, and those of others go on meanwhile, so
-/// that four take less than twice as long as one.
+/// that six take less than twice as long as one. More than six would not have their words in
+/// registers.
 #[derive(Clone, Copy)]
 pub struct Tables;
 
 impl BoxLookup for Tables {
-    type Groups = FourGroups;
+    ghost use Rattle.std.proofs.Common.{lit≤};
 
-    type FewGroups = ThreeGroups;
+    ghost MOST = { 6 };
 
-    const ONE_BY_ONE: usize = 1;
-
+    // The last that are more than six go in two halves: few are slower for each block.
     #[inline(always)]
-    fn after_rounds(halves: Halves, round_keys: &[RoundKey; 16], deciphers: bool) -> Halves {
-        if deciphers {
-            halves.deciphered(round_keys)
+    fn next_count(left: usize) -> usize {
+        if left <= 6 {
+            left
+        } else if left < 12 {
+            left.div_ceil(2)
         } else {
-            halves.enciphered(round_keys)
+            6
         }
     }
+
+    #[inline(always)]
+    fn process_block<A: BlockTransform>(block: &mut [u8; 8], passes: &A) {
+        process_one::<OneBlock, A>(block, passes);
+    }
+
+    #[inline(always)]
+    fn process_some<A: BlockTransform>(blocks: &mut [[u8; 8]], passes: &A) {
+        match blocks.len() {
+            1 => process_side_by_side::<OneBlock, A>(blocks, passes),
+            2 => process_side_by_side::<TwoBlocks, A>(blocks, passes),
+            3 => process_side_by_side::<ThreeBlocks, A>(blocks, passes),
+            4 => process_side_by_side::<Four, A>(blocks, passes),
+            5 => process_side_by_side::<Five, A>(blocks, passes),
+            _ => process_side_by_side::<Six, A>(blocks, passes),
+        }
+    }
+
+    ghost at_most = { lit≤ tt };
 }
 
 /// By selections between vectors: no table is read at an index that depends on the key or a block.
@@ -59,24 +89,29 @@ impl BoxLookup for Tables {
 pub struct NoTables;
 
 impl BoxLookup for NoTables {
-    type Groups = u64x4;
+    ghost use Rattle.std.proofs.Common.{lit≤};
 
-    type FewGroups = u64x4;
+    ghost MOST = { 4 };
 
-    const ONE_BY_ONE: usize = 2;
+    // The last two go one by one.
+    #[inline(always)]
+    fn next_count(left: usize) -> usize {
+        if left <= 2 { 1 } else { left.min(4) }
+    }
 
-    // Not inlined: the rounds are long, and take the halves of one block in registers.
-    #[inline(never)]
-    fn after_rounds(halves: Halves, round_keys: &[RoundKey; 16], deciphers: bool) -> Halves {
-        let (left, right) = after_rounds(
-            halves.left.groups,
-            halves.right.groups,
-            round_keys,
-            deciphers,
-        );
-        Halves {
-            left: HalfBlock { groups: left },
-            right: HalfBlock { groups: right },
+    #[inline(always)]
+    fn process_block<A: BlockTransform>(block: &mut [u8; 8], passes: &A) {
+        process_one::<u64, A>(block, passes);
+    }
+
+    #[inline(always)]
+    fn process_some<A: BlockTransform>(blocks: &mut [[u8; 8]], passes: &A) {
+        if blocks.len() == 1 {
+            process_side_by_side::<u64, A>(blocks, passes);
+        } else {
+            process_padded(blocks, passes);
         }
     }
+
+    ghost at_most = { lit≤ tt };
 }

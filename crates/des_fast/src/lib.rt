@@ -14,21 +14,22 @@
 //! the length of a list, unless the argument `no_tables` allows it.
 #![tactic(auto)]
 
+mod beside;
 pub mod box_lookup;
-mod four_blocks;
 mod halves;
 mod lists;
 pub mod many;
 pub mod no_tables;
+mod one_block;
 mod permutations;
 pub mod round_keys;
 mod rounds;
 mod schedule;
 pub mod single;
 mod slices;
+mod table_blocks;
 mod tables;
 pub mod tdes;
-mod three_blocks;
 
 use box_lookup::Tables;
 pub use tdes::{TdesEde2, TdesEde3, TdesEee2, TdesEee3};

@@ -1,32 +1,25 @@
 //! Lists of blocks, some side by side, which is faster. The last few go one by one if that is
 //! faster. Lists that CBC chained (FIPS 81, cipher block chaining mode) go so too.
 
-ghost use Rattle.std.specs.Prelude.{◌≡◌, ◌<◌, ◌≤◌, ℕ, List, [], length, map, slice_index_or};
+ghost use Rattle.std.specs.Prelude.{◌≡◌, ◌≤◌, ℕ, List, length, map};
 ghost use Rattle.std.specs.List.{All};
-ghost use Rattle.des.specs.Bits.{bits_of_bytes, bits_of_word};
 ghost use Rattle.des.specs.Blocks.{IsBlock};
 ghost use Rattle.des.specs.Cbc.{CbcDecrypts};
 ghost use Rattle.des_fast.specs.Slices.{InEachBlock};
 ghost use Rattle.des_fast.specs.Groups.{half_of};
 ghost use Rattle.des_fast.specs.HalfBlocks.{first_halves, last_block};
-ghost use Rattle.des_fast.specs.SideBySide.{AreExpansions, lane};
+ghost use Rattle.des_fast.specs.SideBySide.{AreExpansions};
 
 use crate::box_lookup::BoxLookup;
-use crate::halves::{block_of, word_of};
-use crate::permutations;
 use crate::rounds::Groups;
 use des::cbc::{self, next_vector};
 use des::cipher::are_blocks;
 use std::simd::prelude::*;
 
 /// A pass of DES, or several in a row.
-pub(crate) trait BlockTransform {
+pub trait BlockTransform {
     // The block that a block becomes.
     ghost output: { Self → List ℕ → List ℕ };
-
-    /// Takes one block through.
-    fn process_block<W: BoxLookup>(&self, block: &mut [u8; 8])
-        ensures { block.new ≡ output self.now block.old };
 
     /// Takes the halves of blocks side by side through the rounds.
     fn process_halves<G: Groups>(&self, left: G, right: G) -> (G, G)
@@ -40,84 +33,58 @@ pub(crate) trait BlockTransform {
             ≡ output self.now block) };
 }
 
-// The words of the first four blocks. A place after the last block repeats it, and what becomes
-// of it is not used.
+// Takes blocks through passes, side by side.
 #[inline(always)]
-fn words_of_blocks(blocks: &[[u8; 8]]) -> u64x4
-    requires { 1 ≤ length blocks.now }
-    ensures { InEachBlock 4 (λ b. b < length blocks.now
-        → bits_of_word (lane b result) ≡ bits_of_bytes (slice_index_or blocks.now b [])) }
-{
-    let last = blocks.len() - 1;
-    u64x4::from_array([
-        word_of(&blocks[0]),
-        word_of(&blocks[last.min(1)]),
-        word_of(&blocks[last.min(2)]),
-        word_of(&blocks[last.min(3)]),
-    ])
-}
-
-// The halves that the rounds of blocks side by side begin with.
-#[inline(always)]
-fn halves_of_blocks<G: Groups>(blocks: &[[u8; 8]]) -> (G, G)
-    requires { 1 ≤ length blocks.now }
-    ensures left { AreExpansions G.BLOCKS G.word result.0 }
-    ensures right { AreExpansions G.BLOCKS G.word result.1 }
-    ensures halves { InEachBlock G.BLOCKS (λ b. b < length blocks.now
-        → (half_of (G.word b result.0), half_of (G.word b result.1))
-        ≡ first_halves (slice_index_or blocks.now b [])) }
-{
-    let (left, right) = permutations::halves_of(words_of_blocks(blocks));
-    (G::of_words(left.to_array()), G::of_words(right.to_array()))
-}
-
-// Makes blocks those that their halves make after the rounds.
-#[inline(always)]
-fn write_blocks<G: Groups>(blocks: &mut [[u8; 8]], left: G, right: G)
-    requires some { 1 ≤ length blocks.old }
-    requires few { length blocks.old ≤ G.BLOCKS }
-    requires left { AreExpansions G.BLOCKS G.word left }
-    requires right { AreExpansions G.BLOCKS G.word right }
-    ensures count { length blocks.new ≡ length blocks.old }
-    ensures written { (b : ℕ) → b < length blocks.old → slice_index_or blocks.new b []
-        ≡ last_block (half_of (G.word b left), half_of (G.word b right)) }
-{
-    let last = blocks.len() - 1;
-    let left = u64x4::from_array(left.into_words());
-    let right = u64x4::from_array(right.into_words());
-    let words = permutations::words_of_halves(left, right).to_array();
-    // The last place first: places after the last block repeat it, and are written over.
-    blocks[last.min(3)] = block_of(words[3]);
-    blocks[last.min(2)] = block_of(words[2]);
-    blocks[last.min(1)] = block_of(words[1]);
-    blocks[0] = block_of(words[0]);
-}
-
-// Takes some blocks through passes, side by side.
-fn process_side_by_side<G: Groups, A: BlockTransform>(blocks: &mut [[u8; 8]], passes: &A)
-    requires some { 1 ≤ length blocks.old }
-    requires few { length blocks.old ≤ G.BLOCKS }
+fn process_groups<G: Groups, A: BlockTransform>(blocks: &mut [[u8; 8]], passes: &A)
+    requires { length blocks.old ≡ G.BLOCKS }
     ensures { blocks.new ≡ map (A.output passes.now) blocks.old }
 {
-    let (left, right) = halves_of_blocks::<G>(blocks);
+    let (left, right) = G::of_blocks(blocks);
     let (left, right) = passes.process_halves(left, right);
-    write_blocks(blocks, left, right);
+    G::write_blocks(blocks, left, right);
 }
 
-// Takes some blocks through passes: one alone, and more side by side, as few of them as the lookup
-// has for as few.
-fn process_some<W: BoxLookup, A: BlockTransform>(blocks: &mut [[u8; 8]], passes: &A)
-    requires some { 1 ≤ length blocks.old }
-    requires few { length blocks.old ≤ W.Groups.BLOCKS }
+/// Takes blocks through passes, side by side. Not inlined: so each number of blocks has the registers
+/// to itself.
+#[inline(never)]
+pub(crate) fn process_side_by_side<G: Groups, A: BlockTransform>(blocks: &mut [[u8; 8]], passes: &A)
+    requires { length blocks.old ≡ G.BLOCKS }
     ensures { blocks.new ≡ map (A.output passes.now) blocks.old }
 {
-    if blocks.len() == 1 {
-        passes.process_block::<W>(&mut blocks[0]);
-    } else if blocks.len() <= <W::FewGroups as Groups>::BLOCKS {
-        process_side_by_side::<W::FewGroups, A>(blocks, passes);
-    } else {
-        process_side_by_side::<W::Groups, A>(blocks, passes);
-    }
+    process_groups::<G, A>(blocks, passes);
+}
+
+/// Takes two to four blocks through passes as four side by side: the last block is repeated, and what
+/// becomes of that is not used.
+pub(crate) fn process_padded<A: BlockTransform>(blocks: &mut [[u8; 8]], passes: &A)
+    requires some { 1 ≤ length blocks.old }
+    requires few { length blocks.old ≤ 4 }
+    ensures { blocks.new ≡ map (A.output passes.now) blocks.old }
+{
+    let last = blocks.len() - 1;
+    let mut four = [
+        blocks[0],
+        blocks[last.min(1)],
+        blocks[last.min(2)],
+        blocks[last],
+    ];
+    process_side_by_side::<u64x4, A>(&mut four, passes);
+    // The last place first: places after the last block repeat it, and are written over.
+    blocks[last] = four[3];
+    blocks[last.min(2)] = four[2];
+    blocks[last.min(1)] = four[1];
+    blocks[0] = four[0];
+}
+
+/// Takes one block through passes.
+#[inline(always)]
+pub(crate) fn process_one<G: Groups, A: BlockTransform>(block: &mut [u8; 8], passes: &A)
+    requires { G.BLOCKS ≡ 1 }
+    ensures { block.new ≡ A.output passes.now block.old }
+{
+    let mut one = [*block];
+    process_groups::<G, A>(&mut one, passes);
+    *block = one[0];
 }
 
 // Takes some blocks that CBC chained from `iv` through passes, and out of the chain: each is xored
@@ -128,33 +95,21 @@ fn decrypt_cbc_part<W: BoxLookup, A: BlockTransform>(
     passes: &A,
 )
     requires some { 1 ≤ length blocks.old }
-    requires few { length blocks.old ≤ W.Groups.BLOCKS }
+    requires few { length blocks.old ≤ W.MOST }
     ensures { CbcDecrypts (A.output passes.now) iv.now blocks.old blocks.new }
 {
     let last = blocks.len() - 1;
-    let before = [*iv, blocks[0], blocks[last.min(1)], blocks[last.min(2)]];
-    process_some::<W, A>(blocks, passes);
+    let before = [
+        *iv,
+        blocks[0],
+        blocks[last.min(1)],
+        blocks[last.min(2)],
+        blocks[last.min(3)],
+        blocks[last.min(4)],
+    ];
+    W::process_some(blocks, passes);
     'xored: for k in 0..blocks.len() {
         cbc::xor(&mut blocks[k], &before[k]);
-    }
-}
-
-// How many of the blocks that are left go next: no clause says where one by one begins, or where
-// twice a few are quicker than what fits and the rest, since only the time depends on it.
-fn next_count<W: BoxLookup>(left: usize) -> usize
-    requires { 1 ≤ left }
-    ensures some { 1 ≤ result }
-    ensures few { result ≤ W.Groups.BLOCKS }
-    ensures within { result ≤ left }
-{
-    let most = <W::Groups as Groups>::BLOCKS;
-    let few = <W::FewGroups as Groups>::BLOCKS.min(most);
-    if left <= W::ONE_BY_ONE {
-        1
-    } else if left == 2 * few {
-        few
-    } else {
-        most.min(left)
     }
 }
 
@@ -166,8 +121,8 @@ pub(crate) fn process<W: BoxLookup, A: BlockTransform>(blocks: &mut [[u8; 8]], p
     are_blocks(blocks);
     let mut from = 0;
     'parts: while from < blocks.len() {
-        let count = next_count::<W>(blocks.len() - from);
-        process_some::<W, A>(&mut blocks[from..from + count], passes);
+        let count = W::next_count(blocks.len() - from);
+        W::process_some(&mut blocks[from..from + count], passes);
         from += count;
     }
 }
@@ -186,7 +141,7 @@ pub(crate) fn decrypt_cbc<W: BoxLookup, A: BlockTransform>(
     let mut before = *iv;
     let mut from = 0;
     'parts: while from < blocks.len() {
-        let count = next_count::<W>(blocks.len() - from);
+        let count = W::next_count(blocks.len() - from);
         let part = &mut blocks[from..from + count];
         let next = next_vector(&before, part);
         decrypt_cbc_part::<W, A>(part, &before, passes);

@@ -1,64 +1,67 @@
-//! The rounds, of one block or of some side by side.
+//! The rounds of some blocks side by side.
 //!
 //! A half block is kept as its expansion E in a word of groups, as in `halves`.
 
-ghost use Rattle.std.specs.Prelude.{◌≡◌, ◌<◌, ◌≤◌, ◌-◌, ℕ, [], min, slice_index_or};
-ghost use Rattle.des.specs.Bits.{xor_bits};
-ghost use Rattle.des.specs.CipherFunction.{cipher_function};
+ghost use Rattle.std.specs.Prelude.{◌≡◌, ◌<◌, ◌≤◌, ℕ, [], length, slice_index_or, bit_xor};
+ghost use Rattle.des.specs.Bits.{select, xor_bits};
+ghost use Rattle.des.specs.Tables.{permutation};
+ghost use Rattle.des.specs.CipherFunction.{cipher_function, substitute};
 ghost use Rattle.des.specs.Rounds.{after_rounds};
 ghost use Rattle.des_fast.specs.Slices.{InEachBlock};
-ghost use Rattle.des_fast.specs.Groups.{IsExpansion, bits_of_groups, half_of};
-ghost use Rattle.des_fast.specs.HalfBlocks.{round_keys_of};
+ghost use Rattle.des_fast.specs.Groups.{IsOfGroups, bits_of_groups, half_of};
+ghost use Rattle.des_fast.specs.HalfBlocks.{round_keys_of, first_halves, last_block};
 ghost use Rattle.des_fast.specs.SideBySide.{AreExpansions, in_direction};
 
 use crate::halves::RoundKey;
-use crate::tables::substitute_in_rows;
 
 /// A word of groups of each of some blocks.
 pub trait Groups: Copy {
-    /// The number of blocks.
-    const BLOCKS: usize;
-
+    // The number of blocks.
     ghost BLOCKS: { ℕ };
 
     // The word of block b, from 0.
     ghost word: { ℕ → Self → ℕ };
 
-    /// The half blocks that a round makes: these, the left halves, xor f of the right halves and the
-    /// round key (FIPS 46-3, enciphering).
-    fn next(self, right: Self, round_key: RoundKey) -> Self
-        requires left { AreExpansions BLOCKS word self }
+    /// Whether the rounds are quicker with round keys kept in the halves: those of few blocks.
+    const KEYED: bool;
+
+    /// The number of blocks: as many of these at least.
+    fn count(blocks: &[[u8; 8]]) -> usize
+        requires { BLOCKS ≤ length blocks.now }
+        ensures { result ≡ BLOCKS };
+
+    /// The halves that the rounds of the blocks begin with (FIPS 46-3, enciphering).
+    fn of_blocks(blocks: &[[u8; 8]]) -> (Self, Self)
+        requires { length blocks.now ≡ BLOCKS }
+        ensures left { AreExpansions BLOCKS word result.0 }
+        ensures right { AreExpansions BLOCKS word result.1 }
+        ensures halves { InEachBlock BLOCKS (λ b. (half_of (word b result.0), half_of (word b result.1))
+            ≡ first_halves (slice_index_or blocks.now b [])) };
+
+    /// Makes the blocks those that their halves make after the rounds (FIPS 46-3, enciphering).
+    fn write_blocks(blocks: &mut [[u8; 8]], left: Self, right: Self)
+        requires count { length blocks.old ≡ BLOCKS }
+        requires left { AreExpansions BLOCKS word left }
         requires right { AreExpansions BLOCKS word right }
+        ensures count { length blocks.new ≡ BLOCKS }
+        ensures written { InEachBlock BLOCKS (λ b. slice_index_or blocks.new b []
+            ≡ last_block (half_of (word b left), half_of (word b right))) };
+
+    /// These words, with those of the others xored in.
+    fn xor(self, others: Self) -> Self
+        ensures { InEachBlock BLOCKS (λ b. word b result ≡ bit_xor (word b self) (word b others)) };
+
+    /// These words, each with a round key xored in.
+    fn with_key(self, round_key: RoundKey) -> Self
+        ensures { InEachBlock BLOCKS (λ b. word b result ≡ bit_xor (word b self) round_key.groups) };
+
+    /// The substitution by S1 to S8 of the 48 bits in each word, and P after it, as the word of
+    /// groups of its expansion E (FIPS 46-3, cipher function).
+    fn substitute(self) -> Self
+        requires { InEachBlock BLOCKS (λ b. IsOfGroups (word b self)) }
         ensures expansions { AreExpansions BLOCKS word result }
-        ensures halves { InEachBlock BLOCKS (λ b. half_of (word b result)
-            ≡ xor_bits (half_of (word b self))
-            (cipher_function (half_of (word b right)) (bits_of_groups round_key.groups))) };
-
-    /// The first of these words, one for each block.
-    fn of_words(words: [u64; 4]) -> Self
-        ensures { InEachBlock BLOCKS (λ b. word b result ≡ slice_index_or words b 0) };
-
-    /// The words of the blocks, and then the last of them again.
-    fn into_words(self) -> [u64; 4]
-        ensures { (b : ℕ) → b < 4 → slice_index_or result b 0 ≡ word (min b (BLOCKS - 1)) self };
-
-    // There are some blocks, and at most four.
-    ghost some_blocks: { 1 ≤ BLOCKS };
-
-    ghost at_most: { BLOCKS ≤ 4 };
-}
-
-/// The half block that a round makes: the left half, xor f of the right half and the round key, by
-/// tables (FIPS 46-3, enciphering).
-#[inline(always)]
-pub(crate) fn next(left: u64, right: u64, round_key: RoundKey) -> u64
-    requires left { IsExpansion left }
-    requires right { IsExpansion right }
-    ensures expansion { IsExpansion result }
-    ensures half { half_of result ≡ xor_bits (half_of left)
-        (cipher_function (half_of right) (bits_of_groups round_key.groups)) }
-{
-    left ^ substitute_in_rows(right ^ round_key.groups)
+        ensures substituted { InEachBlock BLOCKS (λ b. half_of (word b result)
+            ≡ select permutation (substitute (bits_of_groups (word b self)))) };
 }
 
 // The round key of a round, from 0, in the order of enciphering or of deciphering.
@@ -73,6 +76,20 @@ fn round_key_of(round_keys: &[RoundKey; 16], deciphers: bool, round: usize) -> R
     } else {
         round_keys[round]
     }
+}
+
+// The half blocks that a round makes: the left halves, xor f of the right halves and the round key
+// (FIPS 46-3, enciphering).
+#[inline(always)]
+fn next<G: Groups>(left: G, right: G, round_key: RoundKey) -> G
+    requires left { AreExpansions G.BLOCKS G.word left }
+    requires right { AreExpansions G.BLOCKS G.word right }
+    ensures expansions { AreExpansions G.BLOCKS G.word result }
+    ensures halves { InEachBlock G.BLOCKS (λ b. half_of (G.word b result)
+        ≡ xor_bits (half_of (G.word b left))
+        (cipher_function (half_of (G.word b right)) (bits_of_groups round_key.groups))) }
+{
+    left.xor(right.with_key(round_key).substitute())
 }
 
 // Sixteen rounds in one direction. It is inlined if the direction is known, so that no round asks
@@ -91,10 +108,119 @@ fn rounds<G: Groups>(left: G, right: G, round_keys: &[RoundKey; 16], deciphers: 
     let mut next_left = left;
     let mut next_right = right;
     for i in 0..8usize {
-        next_left = next_left.next(next_right, round_key_of(round_keys, deciphers, 2 * i));
-        next_right = next_right.next(next_left, round_key_of(round_keys, deciphers, 2 * i + 1));
+        next_left = next(
+            next_left,
+            next_right,
+            round_key_of(round_keys, deciphers, 2 * i),
+        );
+        next_right = next(
+            next_right,
+            next_left,
+            round_key_of(round_keys, deciphers, 2 * i + 1),
+        );
     }
     (next_left, next_right)
+}
+
+// Half blocks with a round key xored in. Those that a round makes have that of the round after it, so
+// that what the lookups of one round add up to are the indexes of the next.
+#[derive(Clone, Copy)]
+struct Keyed<G> {
+    groups: G,
+    round_key: RoundKey,
+}
+
+impl<G: Groups> Keyed<G> {
+    ghost use Rattle.des_fast.specs.Keyed.{AreKeyed, keyed_half};
+
+    fn new(groups: G, round_key: RoundKey) -> Keyed<G>
+        requires { AreExpansions G.BLOCKS G.word groups }
+        ensures keyed { AreKeyed G.BLOCKS G.word result }
+        ensures halves { InEachBlock G.BLOCKS (λ b. keyed_half G.word b result
+            ≡ half_of (G.word b groups)) }
+        ensures key { result.round_key ≡ round_key }
+    {
+        Keyed {
+            groups: groups.with_key(round_key),
+            round_key,
+        }
+    }
+
+    // The half blocks themselves.
+    fn halves(self) -> G
+        requires { AreKeyed G.BLOCKS G.word self }
+        ensures expansions { AreExpansions G.BLOCKS G.word result }
+        ensures halves { InEachBlock G.BLOCKS (λ b. half_of (G.word b result)
+            ≡ keyed_half G.word b self) }
+    {
+        self.groups.with_key(self.round_key)
+    }
+
+    // These half blocks with another round key. The xor of the two keys waits for no lookup.
+    fn with_key(self, round_key: RoundKey) -> Keyed<G>
+        requires { AreKeyed G.BLOCKS G.word self }
+        ensures keyed { AreKeyed G.BLOCKS G.word result }
+        ensures halves { InEachBlock G.BLOCKS (λ b. keyed_half G.word b result
+            ≡ keyed_half G.word b self) }
+        ensures key { result.round_key ≡ round_key }
+    {
+        Keyed {
+            groups: self.groups.with_key(self.round_key.xor(round_key)),
+            round_key,
+        }
+    }
+
+    // The half blocks that a round makes: these, the left halves, xor f of the right halves and the
+    // round key in them.
+    fn next(self, right: Keyed<G>) -> Keyed<G>
+        requires left { AreKeyed G.BLOCKS G.word self }
+        requires right { AreKeyed G.BLOCKS G.word right }
+        ensures keyed { AreKeyed G.BLOCKS G.word result }
+        ensures halves { InEachBlock G.BLOCKS (λ b. keyed_half G.word b result
+            ≡ xor_bits (keyed_half G.word b self)
+            (cipher_function (keyed_half G.word b right) (bits_of_groups right.round_key.groups))) }
+        ensures key { result.round_key ≡ self.round_key }
+    {
+        Keyed {
+            groups: self.groups.xor(right.groups.substitute()),
+            round_key: self.round_key,
+        }
+    }
+}
+
+// Sixteen rounds in one direction, with the round keys kept in the halves: quicker if few blocks go
+// side by side, which wait for their lookups.
+#[inline(always)]
+fn keyed_rounds<G: Groups>(
+    left: G,
+    right: G,
+    round_keys: &[RoundKey; 16],
+    deciphers: bool,
+) -> (G, G)
+    requires left { AreExpansions G.BLOCKS G.word left }
+    requires right { AreExpansions G.BLOCKS G.word right }
+    ensures left { AreExpansions G.BLOCKS G.word result.0 }
+    ensures right { AreExpansions G.BLOCKS G.word result.1 }
+    ensures halves { InEachBlock G.BLOCKS (λ b.
+        (half_of (G.word b result.0), half_of (G.word b result.1))
+        ≡ after_rounds (in_direction deciphers (round_keys_of round_keys.now))
+        (half_of (G.word b left)) (half_of (G.word b right))) }
+{
+    let mut keyed_left = Keyed::new(left, round_key_of(round_keys, deciphers, 1));
+    let mut keyed_right = Keyed::new(right, round_key_of(round_keys, deciphers, 0));
+    // `right_after` are the right halves with the key of their next turn, made while `keyed_right` is
+    // looked up by: were the key changed between two rounds, the second would wait for it. The last
+    // index wraps round: after the last round no key is next, and `halves` takes that out.
+    let mut right_after = keyed_right.with_key(round_key_of(round_keys, deciphers, 2));
+    for i in 0..7usize {
+        keyed_left = keyed_left.next(keyed_right);
+        keyed_right = right_after.next(keyed_left);
+        keyed_left = keyed_left.with_key(round_key_of(round_keys, deciphers, 2 * i + 3));
+        right_after = keyed_right.with_key(round_key_of(round_keys, deciphers, (2 * i + 4) % 16));
+    }
+    keyed_left = keyed_left.next(keyed_right);
+    keyed_right = right_after.next(keyed_left);
+    (keyed_left.halves(), keyed_right.halves())
 }
 
 /// The halves after sixteen rounds, with the round keys in their order or, to decipher, from the
@@ -116,9 +242,10 @@ pub(crate) fn after_rounds<G: Groups>(
         ≡ after_rounds (in_direction deciphers (round_keys_of round_keys.now))
         (half_of (G.word b left)) (half_of (G.word b right))) }
 {
-    if deciphers {
-        rounds(left, right, round_keys, true)
-    } else {
-        rounds(left, right, round_keys, false)
+    match (G::KEYED, deciphers) {
+        (true, true) => keyed_rounds(left, right, round_keys, true),
+        (true, false) => keyed_rounds(left, right, round_keys, false),
+        (false, true) => rounds(left, right, round_keys, true),
+        (false, false) => rounds(left, right, round_keys, false),
     }
 }

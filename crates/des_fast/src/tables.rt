@@ -185,16 +185,16 @@ pub(crate) fn substitute(word: u64) -> u64
     // Entries of different boxes share no bit, so `|` joins them as `^` does. Of one operation
     // alone the compiler makes a row, where each waits for the one before it; of both it keeps the
     // tree.
-    let first = (TABLES[0][group[0]] ^ TABLES[1][group[1]])
-        | (TABLES[2][group[2]] ^ TABLES[3][group[3]]);
-    let last = (TABLES[4][group[4]] ^ TABLES[5][group[5]])
-        | (TABLES[6][group[6]] ^ TABLES[7][group[7]]);
-    first ^ last
+    let even = (TABLES[7][group[7]] | TABLES[5][group[5]])
+        ^ (TABLES[3][group[3]] | TABLES[1][group[1]]);
+    let odd = (TABLES[6][group[6]] | TABLES[4][group[4]])
+        ^ (TABLES[2][group[2]] | TABLES[0][group[0]]);
+    even ^ odd
 }
 
-/// Substitutes so, with the entries joined in two rows: fewer steps, of which each waits for the one
-/// before it. It is quicker if other blocks have steps to go on with meanwhile. The compiler begins
-/// the row of `^` with what the caller adds, and keeps that of `|` apart.
+/// Substitutes so, with the entries joined in two rows, which is quicker for three blocks side by
+/// side: fewer steps, of which each waits for the one before it. The compiler begins the row of `^`
+/// with what the caller adds, and keeps that of `|` apart.
 #[inline]
 pub(crate) fn substitute_in_rows(word: u64) -> u64
     requires { IsOfGroups word }

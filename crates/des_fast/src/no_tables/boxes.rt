@@ -14,6 +14,7 @@ ghost use Rattle.des_fast.specs.Groups.{IsOfGroups, IsExpansion, bits_of_groups,
 ghost use Rattle.des_fast.specs.GroupBytes.{box_of_byte, in_order};
 
 use crate::halves::{RoundKey, word_of};
+use crate::one_block::{block_of_halves, halves_of_block};
 use crate::rounds::Groups;
 use std::simd::prelude::*;
 
@@ -128,32 +129,41 @@ const FIRST: [u8; 16] = [16, 16, 16, 16, 16, 16, 16, 16, 32, 32, 32, 32, 32, 32,
 
 /// One block.
 impl Groups for u64 {
-    ghost use Rattle.std.proofs.Common.{lit≤};
-
-    const BLOCKS: usize = 1;
-
     ghost BLOCKS = { 1 };
 
     ghost word = { λ b groups. groups };
 
+    const KEYED: bool = true;
+
     #[inline(always)]
-    fn next(self, right: u64, round_key: RoundKey) -> u64 {
-        self ^ substitute(right ^ round_key.groups)
+    fn count(blocks: &[[u8; 8]]) -> usize {
+        1
     }
 
     #[inline(always)]
-    fn of_words(words: [u64; 4]) -> u64 {
-        words[0]
+    fn of_blocks(blocks: &[[u8; 8]]) -> (u64, u64) {
+        halves_of_block(&blocks[0])
     }
 
     #[inline(always)]
-    fn into_words(self) -> [u64; 4] {
-        [self; 4]
+    fn write_blocks(blocks: &mut [[u8; 8]], left: u64, right: u64) {
+        blocks[0] = block_of_halves(left, right);
     }
 
-    ghost some_blocks = { lit≤ tt };
+    #[inline(always)]
+    fn xor(self, others: u64) -> u64 {
+        self ^ others
+    }
 
-    ghost at_most = { lit≤ tt };
+    #[inline(always)]
+    fn with_key(self, round_key: RoundKey) -> u64 {
+        self ^ round_key.groups
+    }
+
+    #[inline(always)]
+    fn substitute(self) -> u64 {
+        substitute(self)
+    }
 }
 
 /// The substitution by S1 to S8 of the 48 bits in a word of groups, and P after it, as the word of

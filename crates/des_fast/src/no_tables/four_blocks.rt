@@ -7,11 +7,12 @@
 //! A lookup by a shuffle would be one operation, but the default processor has none and would read
 //! memory.
 
-ghost use Rattle.std.specs.Prelude.{◌≡◌, ◌<◌, ◌≤◌, ◌+◌, ◌-◌, ◌*◌, ◌^◌, ◌++◌, ℕ, suc, List, length, slice_index, slice_index_or, bit_xor};
+ghost use Rattle.std.specs.Prelude.{◌≡◌, ◌<◌, ◌≤◌, ◌+◌, ◌-◌, ◌*◌, ◌^◌, ◌++◌, ℕ, suc, List, length, slice_index};
 ghost use Rattle.std.specs.Int.{w64, to_be_bytes};
 ghost use Rattle.des.specs.Bits.{bits_of, bits_of_word, select};
 ghost use Rattle.des.specs.Tables.{expansion, permutation};
 ghost use Rattle.des.specs.CipherFunction.{box_entry, substitute};
+ghost use Rattle.des_fast.specs.SideBySide.{lane};
 ghost use Rattle.des_fast.specs.Slices.{InEachBlock};
 ghost use Rattle.des_fast.specs.Groups.{IsOfGroups, IsExpansion, bits_of_groups, half_of, positions_in_word};
 ghost use Rattle.des_fast.specs.GroupBytes.{box_of_byte};
@@ -19,6 +20,7 @@ ghost use Rattle.des_fast.specs.ChosenTerms.{AreMasks, AreSums, AreChoices};
 ghost use Rattle.des_fast.specs.JoinedEntries.{entry_order, entry_bits, joined_bits, first_entries, second_entries};
 
 use crate::halves::RoundKey;
+use crate::permutations::{blocks_of, halves_of};
 use crate::rounds::Groups;
 use std::simd::prelude::*;
 
@@ -39,58 +41,77 @@ static TERMS: [u64; 32] = [
 
 /// Four blocks.
 impl Groups for u64x4 {
-    ghost use Rattle.std.proofs.Common.{lit≤};
-
-    const BLOCKS: usize = 4;
-
     ghost BLOCKS = { 4 };
 
-    ghost word = { λ b groups. slice_index_or groups b 0 };
+    ghost word = { lane };
+
+    const KEYED: bool = false;
 
     #[inline(always)]
-    fn next(self, right: u64x4, round_key: RoundKey) -> u64x4 {
-        xor(self, substitute(xor(right, same(round_key.groups))))
+    fn count(blocks: &[[u8; 8]]) -> usize {
+        4
     }
 
     #[inline(always)]
-    fn of_words(words: [u64; 4]) -> u64x4 {
-        u64x4::from_array(words)
+    fn of_blocks(blocks: &[[u8; 8]]) -> (u64x4, u64x4) {
+        let (left, right) = halves_of(&blocks[0], &blocks[1]);
+        let (more_left, more_right) = halves_of(&blocks[2], &blocks[3]);
+        (pairs(left, more_left), pairs(right, more_right))
     }
 
     #[inline(always)]
-    fn into_words(self) -> [u64; 4] {
-        self.to_array()
+    fn write_blocks(blocks: &mut [[u8; 8]], left: u64x4, right: u64x4) {
+        let (first, second) = blocks_of(left.extract::<0, 2>(), right.extract::<0, 2>());
+        let (third, fourth) = blocks_of(left.extract::<2, 2>(), right.extract::<2, 2>());
+        blocks[0] = first;
+        blocks[1] = second;
+        blocks[2] = third;
+        blocks[3] = fourth;
     }
 
-    ghost some_blocks = { lit≤ tt };
+    #[inline(always)]
+    fn xor(self, others: u64x4) -> u64x4 {
+        self ^ others
+    }
 
-    ghost at_most = { lit≤ tt };
+    #[inline(always)]
+    fn with_key(self, round_key: RoundKey) -> u64x4 {
+        self.xor(same(round_key.groups))
+    }
+
+    #[inline(always)]
+    fn substitute(self) -> u64x4 {
+        substitute(self)
+    }
 }
 
 // One word, for each block.
 #[inline(always)]
 fn same(groups: u64) -> u64x4
-    ensures { InEachBlock 4 (λ b. slice_index_or result b 0 ≡ groups) }
+    ensures { InEachBlock 4 (λ b. lane b result ≡ groups) }
 {
     u64x4::splat(groups)
 }
 
+// The words of two vectors, one after another.
 #[inline(always)]
-fn xor(first: u64x4, second: u64x4) -> u64x4
-    ensures { InEachBlock 4 (λ b. slice_index_or result b 0
-        ≡ bit_xor (slice_index_or first b 0) (slice_index_or second b 0)) }
+fn pairs(first: u64x2, second: u64x2) -> u64x4
+    ensures first { InEachBlock 2 (λ b. lane b result ≡ lane b first) }
+    ensures second { InEachBlock 2 (λ b. lane (2 + b) result ≡ lane b second) }
 {
-    first ^ second
+    let [a, b] = first.to_array();
+    let [c, d] = second.to_array();
+    u64x4::from_array([a, b, c, d])
 }
 
 /// The substitution by S1 to S8 of the 48 bits in each word of groups, and P after it, as the word
 /// of groups of its expansion E (FIPS 46-3, cipher function).
 #[inline(always)]
 fn substitute(groups: u64x4) -> u64x4
-    requires { InEachBlock 4 (λ b. IsOfGroups (slice_index_or groups b 0)) }
-    ensures expansion { InEachBlock 4 (λ b. IsExpansion (slice_index_or result b 0)) }
-    ensures substituted { InEachBlock 4 (λ b. half_of (slice_index_or result b 0)
-        ≡ select permutation (substitute (bits_of_groups (slice_index_or groups b 0)))) }
+    requires { InEachBlock 4 (λ b. IsOfGroups (lane b groups)) }
+    ensures expansion { InEachBlock 4 (λ b. IsExpansion (lane b result)) }
+    ensures substituted { InEachBlock 4 (λ b. half_of (lane b result)
+        ≡ select permutation (substitute (bits_of_groups (lane b groups)))) }
 {
     let words = groups.to_array();
     let entries = joined(chosen(words[0], words[1], words[2], words[3]));

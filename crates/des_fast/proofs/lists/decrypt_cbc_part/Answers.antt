@@ -3,17 +3,21 @@ use Rattle.std.proofs.lemmas.List.{length-map, get_or-map}
 use Rattle.des.specs.Cbc.{xor_blocks, CbcDecrypts}
 use Rattle.des_fast.proofs.lists.decrypt_cbc_part.Goals as goal
 
--- of four vectors, those of a block's place and of the places before it: a place after the last repeats it
-vector-at : (iv : List ℕ) (old : List (List ℕ)) (second third m : ℕ) → m < length old → m < 4
-    → (2 < length old → second ≡ 1) → (3 < length old → third ≡ 2)
-    → get_or (iv ∷ get_or old 0 [] ∷ get_or old second [] ∷ get_or old third [] ∷ []) m [] ≡ get_or (iv ∷ old) m []
-vector-at iv old second third zero below few at_second at_third = refl
-vector-at iv old second third (suc zero) below few at_second at_third = refl
-vector-at iv old second third (suc (suc zero)) below few at_second at_third =
-    ap (λ (k : ℕ). get_or old k []) (at_second below)
-vector-at iv old second third (suc (suc (suc zero))) below few at_second at_third =
-    ap (λ (k : ℕ). get_or old k []) (at_third below)
-vector-at iv old second third (suc (suc (suc (suc m)))) below few at_second at_third = absurd (omega arith)
+-- of six vectors, those of a block's place and of the places before it: a place after the last repeats it
+vector-at : (iv : List ℕ) (old : List (List ℕ)) (a b c d m : ℕ) → m < length old → m < 6
+    → (2 < length old → a ≡ 1) → (3 < length old → b ≡ 2) → (4 < length old → c ≡ 3) → (5 < length old → d ≡ 4)
+    → let at = λ (n : ℕ). get_or old n [] in
+    get_or (iv ∷ at 0 ∷ at a ∷ at b ∷ at c ∷ at d ∷ []) m [] ≡ get_or (iv ∷ old) m []
+vector-at iv old a b c d zero below few at_a at_b at_c at_d = refl
+vector-at iv old a b c d (suc zero) below few at_a at_b at_c at_d = refl
+vector-at iv old a b c d (suc (suc zero)) below few at_a at_b at_c at_d = ap (λ (k : ℕ). get_or old k []) (at_a below)
+vector-at iv old a b c d (suc (suc (suc zero))) below few at_a at_b at_c at_d =
+    ap (λ (k : ℕ). get_or old k []) (at_b below)
+vector-at iv old a b c d (suc (suc (suc (suc zero)))) below few at_a at_b at_c at_d =
+    ap (λ (k : ℕ). get_or old k []) (at_c below)
+vector-at iv old a b c d (suc (suc (suc (suc (suc zero))))) below few at_a at_b at_c at_d =
+    ap (λ (k : ℕ). get_or old k []) (at_d below)
+vector-at iv old a b c d (suc (suc (suc (suc (suc (suc m)))))) below few at_a at_b at_c at_d = absurd (omega arith)
 
 -- answers that are xored with the vectors are out of the chain
 CbcDecrypts-xored : (f : List ℕ → List ℕ) (iv : List ℕ) (old answers vectors new : List (List ℕ)) → answers ≡ map f old
@@ -34,10 +38,13 @@ pub returns : goal.returns
 returns g c =
     let iv : List ℕ = c.args.iv.now in
     let old : List (List ℕ) = c.args.blocks.now in
-    let vectors : List (List ℕ) = iv ∷ get_or old 0 [] ∷ get_or old c.min.result [] ∷ get_or old c.min-2.result [] ∷ [] in
+    let at = λ (n : ℕ). get_or old n [] in
+    let vectors : List (List ℕ) =
+    iv ∷ at 0 ∷ at c.min.result ∷ at c.min-2.result ∷ at c.min-3.result ∷ at c.min-4.result ∷ [] in
     CbcDecrypts-xored (g.A.BlockTransform.output c.args.passes.now) iv old c.process_some.new.blocks vectors _
     c.process_some.ensures c.xored.invariant.count
     (λ m below. c.xored.invariant.done m (omega (arith, c.xored.invariant.count)))
-    (λ m below. vector-at iv old c.min.result c.min-2.result m below
-    (omega (arith, c.requires.few, g.met.W.Groups.Groups.at_most)) (λ more. omega (arith, c.min.ensures))
-    (λ more. omega (arith, c.min-2.ensures)))
+    (λ m below. vector-at iv old c.min.result c.min-2.result c.min-3.result c.min-4.result m below
+    (omega (arith, c.requires.few, g.met.W.BoxLookup.at_most)) (λ more. omega (arith, c.min.ensures))
+    (λ more. omega (arith, c.min-2.ensures)) (λ more. omega (arith, c.min-3.ensures))
+    (λ more. omega (arith, c.min-4.ensures)))
