@@ -4,7 +4,7 @@ ghost use Rattle.std.specs.Prelude.{◌+◌};
 ghost use Rattle.des_fast.specs.Beside.{word_beside};
 
 use crate::halves::RoundKey;
-use crate::rounds::Groups;
+use crate::rounds::{Groups, after_rounds};
 
 /// Words of groups of some blocks, and then those of others.
 #[derive(Clone, Copy)]
@@ -17,8 +17,6 @@ impl<A: Groups, B: Groups> Groups for Beside<A, B> {
     ghost BLOCKS = { A.BLOCKS + B.BLOCKS };
 
     ghost word = { word_beside A.BLOCKS A.word B.word };
-
-    const KEYED: bool = false;
 
     #[inline(always)]
     fn count(blocks: &[[u8; 8]]) -> usize {
@@ -71,5 +69,15 @@ impl<A: Groups, B: Groups> Groups for Beside<A, B> {
             first: self.first.substitute(),
             second: self.second.substitute(),
         }
+    }
+
+    #[inline(always)]
+    fn after_rounds(
+        left: Beside<A, B>,
+        right: Beside<A, B>,
+        round_keys: &[RoundKey; 16],
+        deciphers: bool,
+    ) -> (Beside<A, B>, Beside<A, B>) {
+        after_rounds(left, right, round_keys, deciphers)
     }
 }

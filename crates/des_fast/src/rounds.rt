@@ -22,9 +22,6 @@ pub trait Groups: Copy {
     // The word of block b, from 0.
     ghost word: { ℕ → Self → ℕ };
 
-    /// Whether the rounds are quicker with round keys kept in the halves: those of few blocks.
-    const KEYED: bool;
-
     /// The number of blocks: as many of these at least.
     fn count(blocks: &[[u8; 8]]) -> usize
         requires { BLOCKS ≤ length blocks.now }
@@ -62,6 +59,23 @@ pub trait Groups: Copy {
         ensures expansions { AreExpansions BLOCKS word result }
         ensures substituted { InEachBlock BLOCKS (λ b. half_of (word b result)
             ≡ select permutation (substitute (bits_of_groups (word b self)))) };
+
+    /// The halves after sixteen rounds, with the round keys in their order or, to decipher, from the
+    /// last to the first (FIPS 46-3, enciphering and deciphering).
+    fn after_rounds(
+        left: Self,
+        right: Self,
+        round_keys: &[RoundKey; 16],
+        deciphers: bool,
+    ) -> (Self, Self)
+        requires left { AreExpansions BLOCKS word left }
+        requires right { AreExpansions BLOCKS word right }
+        ensures left { AreExpansions BLOCKS word result.0 }
+        ensures right { AreExpansions BLOCKS word result.1 }
+        ensures halves { InEachBlock BLOCKS (λ b.
+            (half_of (word b result.0), half_of (word b result.1))
+            ≡ after_rounds (in_direction deciphers (round_keys_of round_keys.now))
+            (half_of (word b left)) (half_of (word b right))) };
 }
 
 // The round key of a round, from 0, in the order of enciphering or of deciphering.
@@ -133,6 +147,7 @@ struct Keyed<G> {
 impl<G: Groups> Keyed<G> {
     ghost use Rattle.des_fast.specs.Keyed.{AreKeyed, keyed_half};
 
+    #[inline(always)]
     fn new(groups: G, round_key: RoundKey) -> Keyed<G>
         requires { AreExpansions G.BLOCKS G.word groups }
         ensures keyed { AreKeyed G.BLOCKS G.word result }
@@ -147,6 +162,7 @@ impl<G: Groups> Keyed<G> {
     }
 
     // The half blocks themselves.
+    #[inline(always)]
     fn halves(self) -> G
         requires { AreKeyed G.BLOCKS G.word self }
         ensures expansions { AreExpansions G.BLOCKS G.word result }
@@ -157,6 +173,7 @@ impl<G: Groups> Keyed<G> {
     }
 
     // These half blocks with another round key. The xor of the two keys waits for no lookup.
+    #[inline(always)]
     fn with_key(self, round_key: RoundKey) -> Keyed<G>
         requires { AreKeyed G.BLOCKS G.word self }
         ensures keyed { AreKeyed G.BLOCKS G.word result }
@@ -172,6 +189,7 @@ impl<G: Groups> Keyed<G> {
 
     // The half blocks that a round makes: these, the left halves, xor f of the right halves and the
     // round key in them.
+    #[inline(always)]
     fn next(self, right: Keyed<G>) -> Keyed<G>
         requires left { AreKeyed G.BLOCKS G.word self }
         requires right { AreKeyed G.BLOCKS G.word right }
@@ -188,8 +206,7 @@ impl<G: Groups> Keyed<G> {
     }
 }
 
-// Sixteen rounds in one direction, with the round keys kept in the halves: quicker if few blocks go
-// side by side, which wait for their lookups.
+// Sixteen rounds in one direction, with the round keys kept in the halves.
 #[inline(always)]
 fn keyed_rounds<G: Groups>(
     left: G,
@@ -223,9 +240,8 @@ fn keyed_rounds<G: Groups>(
     (keyed_left.halves(), keyed_right.halves())
 }
 
-/// The halves after sixteen rounds, with the round keys in their order or, to decipher, from the
-/// last to the first (FIPS 46-3, enciphering and deciphering). Inlined, since three passes in a row
-/// would else take the halves through memory.
+/// The halves after sixteen rounds. Inlined, since three passes in a row would else take the halves
+/// through memory.
 #[inline(always)]
 pub(crate) fn after_rounds<G: Groups>(
     left: G,
@@ -242,10 +258,34 @@ pub(crate) fn after_rounds<G: Groups>(
         ≡ after_rounds (in_direction deciphers (round_keys_of round_keys.now))
         (half_of (G.word b left)) (half_of (G.word b right))) }
 {
-    match (G::KEYED, deciphers) {
-        (true, true) => keyed_rounds(left, right, round_keys, true),
-        (true, false) => keyed_rounds(left, right, round_keys, false),
-        (false, true) => rounds(left, right, round_keys, true),
-        (false, false) => rounds(left, right, round_keys, false),
+    if deciphers {
+        rounds(left, right, round_keys, true)
+    } else {
+        rounds(left, right, round_keys, false)
+    }
+}
+
+/// The same, with the round keys kept in the halves: quicker if few blocks go side by side, which wait
+/// for their lookups.
+#[inline(always)]
+pub(crate) fn after_keyed_rounds<G: Groups>(
+    left: G,
+    right: G,
+    round_keys: &[RoundKey; 16],
+    deciphers: bool,
+) -> (G, G)
+    requires left { AreExpansions G.BLOCKS G.word left }
+    requires right { AreExpansions G.BLOCKS G.word right }
+    ensures left { AreExpansions G.BLOCKS G.word result.0 }
+    ensures right { AreExpansions G.BLOCKS G.word result.1 }
+    ensures halves { InEachBlock G.BLOCKS (λ b.
+        (half_of (G.word b result.0), half_of (G.word b result.1))
+        ≡ after_rounds (in_direction deciphers (round_keys_of round_keys.now))
+        (half_of (G.word b left)) (half_of (G.word b right))) }
+{
+    if deciphers {
+        keyed_rounds(left, right, round_keys, true)
+    } else {
+        keyed_rounds(left, right, round_keys, false)
     }
 }

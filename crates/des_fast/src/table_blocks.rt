@@ -5,7 +5,7 @@ ghost use Rattle.des_fast.specs.TableBlocks.{word_of_one, word_of_two, word_of_t
 use crate::halves::RoundKey;
 use crate::one_block::{block_of_halves, halves_of_block};
 use crate::permutations::{blocks_of, halves_of};
-use crate::rounds::Groups;
+use crate::rounds::{Groups, after_keyed_rounds};
 use crate::tables::{substitute, substitute_in_rows};
 use std::simd::prelude::*;
 
@@ -19,8 +19,6 @@ impl Groups for OneBlock {
     ghost BLOCKS = { 1 };
 
     ghost word = { word_of_one };
-
-    const KEYED: bool = true;
 
     #[inline(always)]
     fn count(blocks: &[[u8; 8]]) -> usize {
@@ -58,6 +56,16 @@ impl Groups for OneBlock {
             word: substitute(self.word),
         }
     }
+
+    #[inline(always)]
+    fn after_rounds(
+        left: OneBlock,
+        right: OneBlock,
+        round_keys: &[RoundKey; 16],
+        deciphers: bool,
+    ) -> (OneBlock, OneBlock) {
+        after_keyed_rounds(left, right, round_keys, deciphers)
+    }
 }
 
 /// A word of groups of each of two blocks.
@@ -71,8 +79,6 @@ impl Groups for TwoBlocks {
     ghost BLOCKS = { 2 };
 
     ghost word = { word_of_two };
-
-    const KEYED: bool = true;
 
     #[inline(always)]
     fn count(blocks: &[[u8; 8]]) -> usize {
@@ -128,6 +134,16 @@ impl Groups for TwoBlocks {
             second: substitute(self.second),
         }
     }
+
+    #[inline(always)]
+    fn after_rounds(
+        left: TwoBlocks,
+        right: TwoBlocks,
+        round_keys: &[RoundKey; 16],
+        deciphers: bool,
+    ) -> (TwoBlocks, TwoBlocks) {
+        after_keyed_rounds(left, right, round_keys, deciphers)
+    }
 }
 
 /// A word of groups of each of three blocks.
@@ -142,8 +158,6 @@ impl Groups for ThreeBlocks {
     ghost BLOCKS = { 3 };
 
     ghost word = { word_of_three };
-
-    const KEYED: bool = true;
 
     #[inline(always)]
     fn count(blocks: &[[u8; 8]]) -> usize {
@@ -205,5 +219,15 @@ impl Groups for ThreeBlocks {
             second: substitute_in_rows(self.second),
             third: substitute_in_rows(self.third),
         }
+    }
+
+    #[inline(always)]
+    fn after_rounds(
+        left: ThreeBlocks,
+        right: ThreeBlocks,
+        round_keys: &[RoundKey; 16],
+        deciphers: bool,
+    ) -> (ThreeBlocks, ThreeBlocks) {
+        after_keyed_rounds(left, right, round_keys, deciphers)
     }
 }

@@ -15,7 +15,7 @@ ghost use Rattle.des_fast.specs.GroupBytes.{box_of_byte, in_order};
 
 use crate::halves::{RoundKey, word_of};
 use crate::one_block::{block_of_halves, halves_of_block};
-use crate::rounds::Groups;
+use crate::rounds::{Groups, after_keyed_rounds};
 use std::simd::prelude::*;
 
 // The entries of the boxes S1, S3, S5, S7, S2, S4, S6 and S8, in the order of the groups in a word:
@@ -133,8 +133,6 @@ impl Groups for u64 {
 
     ghost word = { λ b groups. groups };
 
-    const KEYED: bool = true;
-
     #[inline(always)]
     fn count(blocks: &[[u8; 8]]) -> usize {
         1
@@ -163,6 +161,16 @@ impl Groups for u64 {
     #[inline(always)]
     fn substitute(self) -> u64 {
         substitute(self)
+    }
+
+    #[inline(always)]
+    fn after_rounds(
+        left: u64,
+        right: u64,
+        round_keys: &[RoundKey; 16],
+        deciphers: bool,
+    ) -> (u64, u64) {
+        after_keyed_rounds(left, right, round_keys, deciphers)
     }
 }
 

@@ -21,7 +21,7 @@ ghost use Rattle.des_fast.specs.JoinedEntries.{entry_order, entry_bits, joined_b
 
 use crate::halves::RoundKey;
 use crate::permutations::{blocks_of, halves_of};
-use crate::rounds::Groups;
+use crate::rounds::{Groups, after_rounds};
 use std::simd::prelude::*;
 
 // The terms of the entries, each box in the byte of its group: in the second half of the byte for
@@ -44,8 +44,6 @@ impl Groups for u64x4 {
     ghost BLOCKS = { 4 };
 
     ghost word = { lane };
-
-    const KEYED: bool = false;
 
     #[inline(always)]
     fn count(blocks: &[[u8; 8]]) -> usize {
@@ -82,6 +80,16 @@ impl Groups for u64x4 {
     #[inline(always)]
     fn substitute(self) -> u64x4 {
         substitute(self)
+    }
+
+    #[inline(always)]
+    fn after_rounds(
+        left: u64x4,
+        right: u64x4,
+        round_keys: &[RoundKey; 16],
+        deciphers: bool,
+    ) -> (u64x4, u64x4) {
+        after_rounds(left, right, round_keys, deciphers)
     }
 }
 
