@@ -1,8 +1,8 @@
 -- The columns of eight bytes, from the bit of each that is shifted into the first place to the bytes that they are the rows of.
-use Rattle.std.proofs.Common.{◌≡◌, ℕ, zero, suc, ◌+◌, ◌-◌, ◌*◌, ◌/◌, ◌%◌, ◌^◌, ◌<◌, ◌==◌, nat_lt, true, lit≤, List, [], ◌∷◌, ◌++◌, Bool, length, map, reverse, get_or, refl, sym, ap, ap₂, ◌∙◌, arith, shr-shr, append_assoc}
+use Rattle.std.proofs.Common.{◌≡◌, ℕ, zero, suc, ◌+◌, ◌-◌, ◌*◌, ◌/◌, ◌%◌, ◌^◌, ◌<◌, ◌==◌, nat_lt, true, lit≤, List, [], ◌∷◌, ◌++◌, Bool, length, map, get_or, refl, sym, ap, ap₂, ◌∙◌, arith, shr-shr}
 use Rattle.std.specs.Int.{w64, bit_at, byte_at, to_le_bytes, to_be_bytes}
 use Rattle.std.specs.List.{flat_map, list_all}
-use Rattle.std.specs.Simd.Lanes.{Each1, zip2, chunk, number_l, digits_l, all_below}
+use Rattle.std.specs.Simd.Lanes.{Each1, zip2, number_l, digits_l}
 use Rattle.std.proofs.lemmas.Nat.{shr_split}
 use Rattle.std.proofs.lemmas.Nat.Bits.{bit_at_cat_low}
 use Rattle.std.proofs.lemmas.Bool.{and_parts, ltb-true}

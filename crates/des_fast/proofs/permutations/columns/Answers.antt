@@ -1,4 +1,4 @@
-use Rattle.std.proofs.Common.{ℕ, zero, suc, List, lit≤, ◌∙◌, arith}
+use Rattle.std.proofs.Common.{zero, suc, ◌∙◌, arith}
 use Rattle.des_fast.proofs.Columns.{first-doubled}
 use Rattle.des_fast.proofs.permutations.columns.Goals as goal
 

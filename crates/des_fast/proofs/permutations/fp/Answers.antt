@@ -1,4 +1,4 @@
-use Rattle.std.proofs.Common.{◌≡◌, ℕ, ◌+◌, ◌/◌, ◌%◌, ◌^◌, ◌<◌, List, ◌++◌, get_or, lit≤, sym, ap, ◌∙◌}
+use Rattle.std.proofs.Common.{ℕ, ◌+◌, ◌/◌, ◌%◌, ◌^◌, List, ◌++◌, get_or, lit≤, sym, ap, ◌∙◌}
 use Rattle.std.specs.Simd.Lanes.{pick_l, digits_l, number_l}
 use Rattle.des.specs.Bits.{bits_of_bytes, select}
 use Rattle.des.specs.Tables.{final_permutation}

@@ -1,4 +1,4 @@
-use Rattle.std.proofs.Common.{◌≡◌, ℕ, ◌+◌, ◌/◌, ◌%◌, ◌<◌, List, [], ◌∷◌, ◌++◌, map, get_or, lit≤, take, drop, ap, ◌∙◌, arith, length-append, take_at, drop_at, take_all}
+use Rattle.std.proofs.Common.{ℕ, ◌+◌, ◌/◌, ◌%◌, List, ◌++◌, get_or, take, ap, ◌∙◌, arith, length-append, take_at, drop_at, take_all}
 use Rattle.std.specs.Simd.Lanes.{pick_l}
 use Rattle.std.proofs.lemmas.Simd.{pick_l-range_with_len}
 use Rattle.des.specs.Bits.{bits_of_bytes, select}

@@ -1,4 +1,4 @@
-use Rattle.std.proofs.Common.{◌≡◌, ℕ, ◌+◌, ◌*◌, ◌/◌, ◌%◌, ◌^◌, ◌<◌, List, [], ◌∷◌, ◌++◌, length, map, get_or, lit≤, refl, subst, ap, ◌∙◌, arith, take, take_at, drop_at, take_all}
+use Rattle.std.proofs.Common.{◌≡◌, ℕ, ◌+◌, ◌*◌, ◌/◌, ◌%◌, ◌^◌, ◌<◌, List, [], ◌∷◌, ◌++◌, map, get_or, lit≤, refl, ap, ◌∙◌, arith, take, take_at, drop_at, take_all}
 use Rattle.std.specs.Int.{w64, to_le_bytes}
 use Rattle.std.specs.Simd.Lanes.{Each1, chunk, number_l, digits_l, pick_l}
 use Rattle.std.proofs.lemmas.List.{length-map}
