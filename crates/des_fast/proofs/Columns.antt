@@ -1,6 +1,6 @@
 -- The columns of eight bytes, from the bit of each that is shifted into the first place to the bytes that they are the rows of.
 use Rattle.std.proofs.Common.{◌≡◌, ℕ, zero, suc, ◌+◌, ◌-◌, ◌*◌, ◌/◌, ◌%◌, ◌^◌, ◌<◌, ◌==◌, nat_lt, true, lit≤, List, [], ◌∷◌, ◌++◌, Bool, length, map, get_or, refl, sym, ap, ap₂, ◌∙◌, arith, shr-shr}
-use Rattle.std.specs.Int.{w64, bit_at, byte_at, to_le_bytes, to_be_bytes}
+use Rattle.std.specs.Int.{w64, bit_at, byte_at, to_le_bytes}
 use Rattle.std.specs.List.{flat_map, list_all}
 use Rattle.std.specs.Simd.Lanes.{Each1, zip2, number_l, digits_l}
 use Rattle.std.proofs.lemmas.Nat.{shr_split}
@@ -9,6 +9,7 @@ use Rattle.std.proofs.lemmas.Bool.{and_parts, ltb-true}
 use Rattle.std.proofs.lemmas.Simd.{get_or_narrower, below_from_Fits, pick_l_whole}
 use Rattle.des.specs.Bits.{bits_of, bits_of_bytes, bits_of_word, select}
 use Rattle.des.specs.Tables.{initial_permutation, final_permutation}
+use Rattle.des_fast.specs.Groups.{half_positions}
 use Rattle.des.specs.Laws.BitLists.{bits_of_bytes-to_be}
 use Rattle.des_fast.proofs.SliceBits.{IsSlice}
 use Rattle.des_fast.proofs.PlacedBytes.{byte_at-is, number_byte}
@@ -81,28 +82,34 @@ bits_of-column byte k number is =
     rw (is 7 (lit≤ tt), is 6 (lit≤ tt), is 5 (lit≤ tt), is 4 (lit≤ tt)) (
     rw (is 3 (lit≤ tt), is 2 (lit≤ tt), is 1 (lit≤ tt), is 0 (lit≤ tt)) refl)
 
--- bytes that are columns
-rows : (number byte : ℕ → ℕ) → ((k : ℕ) → k < 8 → IsColumn byte k (number k)) → (order : List ℕ)
-    → list_all (λ k. nat_lt k 8) order ≡ true → bits_of_bytes (map number order) ≡ flat_map (column byte) order
+-- bytes that are columns, and more after them
+rows : (number byte : ℕ → ℕ) → ((k : ℕ) → k < 8 → IsColumn byte k (number k)) → (order more : List ℕ)
+    → list_all (λ k. nat_lt k 8) order ≡ true
+    → bits_of_bytes (map number order ++ more) ≡ flat_map (column byte) order ++ bits_of_bytes more
 unfolding bits_of_bytes
-rows number byte are [] below = refl
-rows number byte are (k ∷ order) below =
+rows number byte are [] more below = refl
+rows number byte are (k ∷ order) more below =
     let parts = and_parts (nat_lt k 8) _ below in
-    ap₂ ◌++◌ (bits_of-column byte k (number k) (are k (ltb-true _ _ parts.0))) (rows number byte are order parts.1)
+    ap₂ ◌++◌ (bits_of-column byte k (number k) (are k (ltb-true _ _ parts.0))) (rows number byte are order more parts.1)
 
 -- the columns in the order of the initial permutation
 pub initial : (number byte : ℕ → ℕ) → ((k : ℕ) → k < 8 → IsColumn byte k (number k))
     → bits_of_bytes (map number (1 ∷ 3 ∷ 5 ∷ 7 ∷ 0 ∷ 2 ∷ 4 ∷ 6 ∷ []))
     ≡ select initial_permutation (bits_of_bytes (map byte (0 ∷ 1 ∷ 2 ∷ 3 ∷ 4 ∷ 5 ∷ 6 ∷ 7 ∷ [])))
 unfolding bits_of bits_of_bytes select
-initial number byte are = rows number byte are (1 ∷ 3 ∷ 5 ∷ 7 ∷ 0 ∷ 2 ∷ 4 ∷ 6 ∷ []) refl
+initial number byte are = rows number byte are (1 ∷ 3 ∷ 5 ∷ 7 ∷ 0 ∷ 2 ∷ 4 ∷ 6 ∷ []) [] refl
 
--- and of the final one, of bytes in the order of their rows
-pub final : (number byte : ℕ → ℕ) → ((k : ℕ) → k < 8 → IsColumn byte k (number k))
-    → bits_of_bytes (map number (7 ∷ 6 ∷ 5 ∷ 4 ∷ 3 ∷ 2 ∷ 1 ∷ 0 ∷ []))
-    ≡ select final_permutation (bits_of_bytes (map byte (6 ∷ 4 ∷ 2 ∷ 0 ∷ 7 ∷ 5 ∷ 3 ∷ 1 ∷ [])))
+-- those of the groups of two halves, from the last to the first, in that of the final one
+pub final : (e even o odd : ℕ → ℕ) → ((k : ℕ) → k < 8 → IsColumn even k (e k)) → ((k : ℕ) → k < 8 → IsColumn odd k (o k))
+    → let half : (ℕ → ℕ) → List Bool = λ place.
+    select half_positions (bits_of_bytes (map (λ i. odd (place i)) (3 ∷ 2 ∷ 1 ∷ 0 ∷ []) ++ map (λ i. even (place i)) (3 ∷ 2 ∷ 1 ∷ 0 ∷ []))) in
+    bits_of_bytes (map e (6 ∷ 5 ∷ 4 ∷ 3 ∷ []) ++ map o (6 ∷ 5 ∷ 4 ∷ 3 ∷ []))
+    ≡ select final_permutation (half (λ i. 2 * i) ++ half (λ i. 2 * i + 1))
 unfolding bits_of bits_of_bytes select
-final number byte are = rows number byte are (7 ∷ 6 ∷ 5 ∷ 4 ∷ 3 ∷ 2 ∷ 1 ∷ 0 ∷ []) refl
+final e even o odd are_even are_odd =
+    rows e even are_even (6 ∷ 5 ∷ 4 ∷ 3 ∷ []) (map o (6 ∷ 5 ∷ 4 ∷ 3 ∷ [])) refl
+    ∙ ap (λ bits. flat_map (column even) (6 ∷ 5 ∷ 4 ∷ 3 ∷ []) ++ bits)
+    (rows o odd are_odd (6 ∷ 5 ∷ 4 ∷ 3 ∷ []) [] refl)
 
 -- ---- the bytes of vectors of two words
 
@@ -123,14 +130,16 @@ bits_of_word-le word bytes same =
     sym (bits_of_bytes-to_be word)
     ∙ ap (λ (bs : List ℕ). bits_of_bytes (map (λ i. get_or bs i 0) (7 ∷ 6 ∷ 5 ∷ 4 ∷ 3 ∷ 2 ∷ 1 ∷ 0 ∷ []))) same
 
--- the bytes of a vector from the last to the first of a word
-pub bytes_of_lane : (words : List ℕ) (b : ℕ) → IsSlice 2 words → b < 2
-    → map (λ i. get_or (digits_l 256 16 (number_l (2 ^ 64) words)) (8 * b + i) 0) (7 ∷ 6 ∷ 5 ∷ 4 ∷ 3 ∷ 2 ∷ 1 ∷ 0 ∷ [])
-    ≡ to_be_bytes w64 (get_or words b 0)
-bytes_of_lane words b are within =
+-- so are the bits of the bytes of a word of a vector
+pub bits_of_lane : (words : List ℕ) (b : ℕ) → IsSlice 2 words → b < 2
+    → bits_of_bytes (map (λ i. get_or (digits_l 256 16 (number_l (2 ^ 64) words)) (8 * b + i) 0)
+    (7 ∷ 6 ∷ 5 ∷ 4 ∷ 3 ∷ 2 ∷ 1 ∷ 0 ∷ []))
+    ≡ bits_of_word (get_or words b 0)
+bits_of_lane words b are within =
     let word : ℕ = get_or words b 0 in
     let at : (i : ℕ) → i < 8 → get_or (digits_l 256 16 (number_l (2 ^ 64) words)) (8 * b + i) 0 ≡ byte_at i word =
     λ i below. get_or_narrower (2 ^ 64) 8 256 16 words b i refl (below_from_Fits w64 words are.1) below (omega arith)
     ∙ sym (byte_at-is i word) in
-    λ j. at 7 (lit≤ tt) j ∷ at 6 (lit≤ tt) j ∷ at 5 (lit≤ tt) j ∷ at 4 (lit≤ tt) j
-    ∷ at 3 (lit≤ tt) j ∷ at 2 (lit≤ tt) j ∷ at 1 (lit≤ tt) j ∷ at 0 (lit≤ tt) j ∷ []
+    ap bits_of_bytes (λ j. at 7 (lit≤ tt) j ∷ at 6 (lit≤ tt) j ∷ at 5 (lit≤ tt) j ∷ at 4 (lit≤ tt) j
+    ∷ at 3 (lit≤ tt) j ∷ at 2 (lit≤ tt) j ∷ at 1 (lit≤ tt) j ∷ at 0 (lit≤ tt) j ∷ [])
+    ∙ bits_of_bytes-to_be word

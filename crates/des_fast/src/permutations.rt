@@ -17,12 +17,16 @@ use std::simd::prelude::*;
 // The bytes of two blocks, one after the other.
 const BOTH: [usize; 16] = [0, 1, 2, 3, 4, 5, 6, 7, 8, 9, 10, 11, 12, 13, 14, 15];
 
-// The bytes of two words in the order in which their columns are the bytes of the final
-// permutation.
-const ROWS: [usize; 16] = [4, 0, 5, 1, 6, 2, 7, 3, 12, 8, 13, 9, 14, 10, 15, 11];
+// The groups 1, 3, 5 and 7 of two halves, a group of the one and then of the other, from the last to
+// the first, in the first words of both and then in the second.
+const ODD_GROUPS: [usize; 16] = [4, 20, 5, 21, 6, 22, 7, 23, 12, 28, 13, 29, 14, 30, 15, 31];
 
-// The first bytes of eight numbers of two bytes, and then the second.
-const FIRST_AND_SECOND: [usize; 16] = [0, 2, 4, 6, 8, 10, 12, 14, 1, 3, 5, 7, 9, 11, 13, 15];
+// The groups 2, 4, 6 and 8.
+const EVEN_GROUPS: [usize; 16] = [0, 16, 1, 17, 2, 18, 3, 19, 8, 24, 9, 25, 10, 26, 11, 27];
+
+// Every other byte of two vectors.
+#[rattlefmt::skip]
+const EVERY_OTHER: [usize; 16] = [0, 2, 4, 6, 8, 10, 12, 14, 16, 18, 20, 22, 24, 26, 28, 30];
 
 // The most significant bit of each of sixteen bytes, that of the first byte in the last place.
 #[inline(always)]
@@ -84,8 +88,10 @@ fn rows(columns: [u64; 8]) -> u64x2
         joined(joined(columns[7], columns[6]), columns[5]),
         columns[4],
     );
-    let bytes: u8x16 = u64x2::from_array([last, first]).to_le_bytes();
-    u64x2::from_le_bytes(bytes.swizzle(FIRST_AND_SECOND))
+    let words = u64x2::from_array([last, first]);
+    let low: u8x16 = words.to_le_bytes();
+    let high: u8x16 = (words >> 8).to_le_bytes();
+    u64x2::from_le_bytes(low.shuffle(high, EVERY_OTHER))
 }
 
 // The words of the initial permutation of two blocks.
@@ -100,18 +106,6 @@ fn ip(first: &[u8; 8], second: &[u8; 8]) -> u64x2
     let second = u8x8::from_array(*second);
     let c = columns(first.shuffle(second, BOTH));
     rows([c[6], c[4], c[2], c[0], c[7], c[5], c[3], c[1]])
-}
-
-// The blocks of the final permutation of two words.
-#[inline(always)]
-fn fp(words: u64x2) -> ([u8; 8], [u8; 8])
-    ensures first { result.0 ≡ block_of_bits (select final_permutation (bits_of_word (lane 0 words))) }
-    ensures second { result.1 ≡ block_of_bits (select final_permutation (bits_of_word (lane 1 words))) }
-{
-    let bytes: u8x16 = words.to_le_bytes();
-    let c = columns(bytes.swizzle(ROWS));
-    let [first, second] = rows([c[7], c[6], c[5], c[4], c[3], c[2], c[1], c[0]]).to_array();
-    (first.to_le_bytes(), second.to_le_bytes())
 }
 
 // What `Halves::of_block` makes of each word.
@@ -146,31 +140,18 @@ pub(crate) fn halves_of(first: &[u8; 8], second: &[u8; 8]) -> (u64x2, u64x2)
     split(ip(first, second))
 }
 
-// What `HalfBlock::word` makes of each.
-#[inline(always)]
-fn words_of(halves: u64x2) -> u64x2
-    ensures within { InEachBlock 2 (λ b. lane b result < 2 ^ 32) }
-    ensures halves { InEachBlock 2 (λ b. bits_of 32 (lane b result) ≡ half_of (lane b halves)) }
-{
-    ((halves >> 29) & u64x2::splat(0x00000000f0f0f0f0))
-        | ((halves >> 1) & u64x2::splat(0x000000000f0f0f0f))
-}
-
-// What `Halves::word` makes of the words of halves.
-#[inline(always)]
-fn join(left: u64x2, right: u64x2) -> u64x2
-    requires { InEachBlock 2 (λ b. lane b right < 2 ^ 32) }
-    ensures { InEachBlock 2 (λ b. bits_of_word (lane b result)
-        ≡ bits_of 32 (lane b left) ++ bits_of 32 (lane b right)) }
-{
-    (left << 32) | right
-}
-
 /// The blocks that the halves after the rounds make.
 #[inline(always)]
 pub(crate) fn blocks_of(left: u64x2, right: u64x2) -> ([u8; 8], [u8; 8])
     ensures first { result.0 ≡ last_block (half_of (lane 0 left), half_of (lane 0 right)) }
     ensures second { result.1 ≡ last_block (half_of (lane 1 left), half_of (lane 1 right)) }
 {
-    fp(join(words_of(right), words_of(left)))
+    // The middle four bits of a group are the half's own: each four columns of the swapped halves
+    // are those of four groups.
+    let left: u8x16 = left.to_le_bytes();
+    let right: u8x16 = right.to_le_bytes();
+    let o = columns(right.shuffle(left, ODD_GROUPS));
+    let e = columns(right.shuffle(left, EVEN_GROUPS));
+    let [first, second] = rows([e[6], e[5], e[4], e[3], o[6], o[5], o[4], o[3]]).to_array();
+    (first.to_le_bytes(), second.to_le_bytes())
 }
