@@ -1,5 +1,5 @@
 -- The columns of eight bytes, from the bit of each that is shifted into the first place to the bytes that they are the rows of.
-use Rattle.std.proofs.Common.{◌≡◌, ℕ, zero, suc, ◌+◌, ◌-◌, ◌*◌, ◌/◌, ◌%◌, ◌^◌, ◌<◌, ◌==◌, nat_lt, true, lit≤, List, [], ◌∷◌, ◌++◌, Bool, length, map, get_or, refl, sym, ap, ap₂, ◌∙◌, arith, shr-shr}
+use Rattle.std.proofs.Common.{◌≡◌, ℕ, zero, suc, ◌+◌, ◌-◌, ◌*◌, ◌/◌, ◌%◌, ◌^◌, ◌<◌, ◌==◌, nat_lt, true, lit≤, List, [], ◌∷◌, ◌++◌, Bool, length, take, drop, map, get_or, refl, sym, ap, ap₂, ◌∙◌, arith, shr-shr}
 use Rattle.std.specs.Int.{w64, bit_at, byte_at, to_le_bytes}
 use Rattle.std.specs.List.{flat_map, list_all}
 use Rattle.std.specs.Simd.Lanes.{Each1, zip2, number_l, digits_l}
@@ -10,6 +10,7 @@ use Rattle.std.proofs.lemmas.Simd.{get_or_narrower, below_from_Fits, pick_l_whol
 use Rattle.des.specs.Bits.{bits_of, bits_of_bytes, bits_of_word, select}
 use Rattle.des.specs.Tables.{initial_permutation, final_permutation}
 use Rattle.des_fast.specs.Groups.{half_positions}
+use Rattle.des_fast.specs.HalfBlocks.{first_halves}
 use Rattle.des.specs.Laws.BitLists.{bits_of_bytes-to_be}
 use Rattle.des_fast.proofs.SliceBits.{IsSlice}
 use Rattle.des_fast.proofs.PlacedBytes.{byte_at-is, number_byte}
@@ -92,12 +93,18 @@ rows number byte are (k ∷ order) more below =
     let parts = and_parts (nat_lt k 8) _ below in
     ap₂ ◌++◌ (bits_of-column byte k (number k) (are k (ltb-true _ _ parts.0))) (rows number byte are order more parts.1)
 
--- the columns in the order of the initial permutation
-pub initial : (number byte : ℕ → ℕ) → ((k : ℕ) → k < 8 → IsColumn byte k (number k))
-    → bits_of_bytes (map number (1 ∷ 3 ∷ 5 ∷ 7 ∷ 0 ∷ 2 ∷ 4 ∷ 6 ∷ []))
-    ≡ select initial_permutation (bits_of_bytes (map byte (0 ∷ 1 ∷ 2 ∷ 3 ∷ 4 ∷ 5 ∷ 6 ∷ 7 ∷ [])))
+-- the columns in the order of the halves of the initial permutation, each half twice
+left_twice : (number byte : ℕ → ℕ) → ((k : ℕ) → k < 8 → IsColumn byte k (number k))
+    → let half = take 32 (select initial_permutation (bits_of_bytes (map byte (0 ∷ 1 ∷ 2 ∷ 3 ∷ 4 ∷ 5 ∷ 6 ∷ 7 ∷ [])))) in
+    bits_of_bytes (map number (1 ∷ 3 ∷ 5 ∷ 7 ∷ 1 ∷ 3 ∷ 5 ∷ 7 ∷ [])) ≡ half ++ half
 unfolding bits_of bits_of_bytes select
-initial number byte are = rows number byte are (1 ∷ 3 ∷ 5 ∷ 7 ∷ 0 ∷ 2 ∷ 4 ∷ 6 ∷ []) [] refl
+left_twice number byte are = rows number byte are (1 ∷ 3 ∷ 5 ∷ 7 ∷ 1 ∷ 3 ∷ 5 ∷ 7 ∷ []) [] refl
+
+right_twice : (number byte : ℕ → ℕ) → ((k : ℕ) → k < 8 → IsColumn byte k (number k))
+    → let half = drop 32 (select initial_permutation (bits_of_bytes (map byte (0 ∷ 1 ∷ 2 ∷ 3 ∷ 4 ∷ 5 ∷ 6 ∷ 7 ∷ [])))) in
+    bits_of_bytes (map number (0 ∷ 2 ∷ 4 ∷ 6 ∷ 0 ∷ 2 ∷ 4 ∷ 6 ∷ [])) ≡ half ++ half
+unfolding bits_of bits_of_bytes select
+right_twice number byte are = rows number byte are (0 ∷ 2 ∷ 4 ∷ 6 ∷ 0 ∷ 2 ∷ 4 ∷ 6 ∷ []) [] refl
 
 -- those of the groups of two halves, from the last to the first, in that of the final one
 pub final : (e even o odd : ℕ → ℕ) → ((k : ℕ) → k < 8 → IsColumn even k (e k)) → ((k : ℕ) → k < 8 → IsColumn odd k (o k))
@@ -124,11 +131,28 @@ to_le_bytes-number_l bytes count are =
     ∙ pick_l_whole 0 bytes 8 count
 
 -- the bits of a word are those of its bytes from the last to the first
-pub bits_of_word-le : (word : ℕ) (bytes : List ℕ) → to_le_bytes w64 word ≡ bytes
+bits_of_word-le : (word : ℕ) (bytes : List ℕ) → to_le_bytes w64 word ≡ bytes
     → bits_of_word word ≡ bits_of_bytes (map (λ i. get_or bytes i 0) (7 ∷ 6 ∷ 5 ∷ 4 ∷ 3 ∷ 2 ∷ 1 ∷ 0 ∷ []))
 bits_of_word-le word bytes same =
     sym (bits_of_bytes-to_be word)
     ∙ ap (λ (bs : List ℕ). bits_of_bytes (map (λ i. get_or bs i 0) (7 ∷ 6 ∷ 5 ∷ 4 ∷ 3 ∷ 2 ∷ 1 ∷ 0 ∷ []))) same
+
+-- a word of rows that are the columns of a block has each half of its initial permutation twice
+pub bits_of-left_rows : (word : ℕ) (number byte : ℕ → ℕ) (block : List ℕ)
+    → ((k : ℕ) → k < 8 → IsColumn byte k (number k)) → map byte (0 ∷ 1 ∷ 2 ∷ 3 ∷ 4 ∷ 5 ∷ 6 ∷ 7 ∷ []) ≡ block
+    → to_le_bytes w64 word ≡ map number (7 ∷ 5 ∷ 3 ∷ 1 ∷ 7 ∷ 5 ∷ 3 ∷ 1 ∷ [])
+    → bits_of_word word ≡ (first_halves block).0 ++ (first_halves block).0
+bits_of-left_rows word number byte block are same rows =
+    bits_of_word-le word _ rows ∙ left_twice number byte are
+    ∙ ap (λ (bytes : List ℕ). (first_halves bytes).0 ++ (first_halves bytes).0) same
+
+pub bits_of-right_rows : (word : ℕ) (number byte : ℕ → ℕ) (block : List ℕ)
+    → ((k : ℕ) → k < 8 → IsColumn byte k (number k)) → map byte (0 ∷ 1 ∷ 2 ∷ 3 ∷ 4 ∷ 5 ∷ 6 ∷ 7 ∷ []) ≡ block
+    → to_le_bytes w64 word ≡ map number (6 ∷ 4 ∷ 2 ∷ 0 ∷ 6 ∷ 4 ∷ 2 ∷ 0 ∷ [])
+    → bits_of_word word ≡ (first_halves block).1 ++ (first_halves block).1
+bits_of-right_rows word number byte block are same rows =
+    bits_of_word-le word _ rows ∙ right_twice number byte are
+    ∙ ap (λ (bytes : List ℕ). (first_halves bytes).1 ++ (first_halves bytes).1) same
 
 -- so are the bits of the bytes of a word of a vector
 pub bits_of_lane : (words : List ℕ) (b : ℕ) → IsSlice 2 words → b < 2

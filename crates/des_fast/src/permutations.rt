@@ -2,12 +2,10 @@
 //! of the 64 bits, one bit of each byte, which a vector gives at once. For one block `halves` has
 //! the same, by `des::utils`, and tells the layout of the halves.
 
-ghost use Rattle.std.specs.Prelude.{◌≡◌, ◌<◌, ◌+◌, ◌-◌, ◌*◌, ◌/◌, ◌%◌, ◌^◌, ◌++◌, ℕ, map, take, drop, slice_index};
+ghost use Rattle.std.specs.Prelude.{◌≡◌, ◌<◌, ◌+◌, ◌-◌, ◌*◌, ◌/◌, ◌%◌, ◌^◌, ◌++◌, ℕ, List, Bool, length, map, slice_index};
 ghost use Rattle.std.specs.Int.{w64, bit_at, to_le_bytes};
-ghost use Rattle.des.specs.Bits.{bits_of, bits_of_bytes, bits_of_word, select};
-ghost use Rattle.des.specs.Tables.{initial_permutation, final_permutation};
-ghost use Rattle.des.specs.Blocks.{block_of_bits};
-ghost use Rattle.des_fast.specs.Groups.{half_of};
+ghost use Rattle.des.specs.Bits.{bits_of_word};
+ghost use Rattle.des_fast.specs.Groups.{IsExpansion, half_of};
 ghost use Rattle.des_fast.specs.HalfBlocks.{first_halves, last_block};
 ghost use Rattle.des_fast.specs.SideBySide.{AreExpansions, lane};
 ghost use Rattle.des_fast.specs.Slices.{InEachBlock};
@@ -94,38 +92,16 @@ fn rows(columns: [u64; 8]) -> u64x2
     u64x2::from_le_bytes(low.shuffle(high, EVERY_OTHER))
 }
 
-// The words of the initial permutation of two blocks.
+// The expansions of half blocks that stand twice in each word: as in `Halves::of_block`, the groups
+// 1, 3, 5 and 7 are a half rotated right by three, the groups 2, 4, 6 and 8 one rotated left by one.
 #[inline(always)]
-fn ip(first: &[u8; 8], second: &[u8; 8]) -> u64x2
-    ensures first { bits_of_word (lane 0 result)
-        ≡ select initial_permutation (bits_of_bytes first.now) }
-    ensures second { bits_of_word (lane 1 result)
-        ≡ select initial_permutation (bits_of_bytes second.now) }
+fn expanded(words: u64x2) -> u64x2
+    ensures { InEachBlock 2 (λ b. (half : List Bool) → length half ≡ 32
+        → bits_of_word (lane b words) ≡ half ++ half
+        → IsExpansion (lane b result) × (half_of (lane b result) ≡ half)) }
 {
-    let first = u8x8::from_array(*first);
-    let second = u8x8::from_array(*second);
-    let c = columns(first.shuffle(second, BOTH));
-    rows([c[6], c[4], c[2], c[0], c[7], c[5], c[3], c[1]])
-}
-
-// What `Halves::of_block` makes of each word.
-#[inline(always)]
-fn split(words: u64x2) -> (u64x2, u64x2)
-    ensures left { AreExpansions 2 lane result.0 }
-    ensures right { AreExpansions 2 lane result.1 }
-    ensures left_half { InEachBlock 2 (λ b. half_of (lane b result.0)
-        ≡ take 32 (bits_of_word (lane b words))) }
-    ensures right_half { InEachBlock 2 (λ b. half_of (lane b result.1)
-        ≡ drop 32 (bits_of_word (lane b words))) }
-{
-    let odd = ((words >> 3) & u64x2::splat(0x1f3f3f3f1f3f3f3f))
-        | ((words << 29) & u64x2::splat(0x2000000020000000));
-    let even = ((words << 1) & u64x2::splat(0x3f3f3f3e3f3f3f3e))
-        | ((words >> 31) & u64x2::splat(0x0000000100000001));
-    (
-        (odd & u64x2::splat(0x3f3f3f3f00000000)) | (even >> 32),
-        (odd << 32) | (even & u64x2::splat(0x000000003f3f3f3f)),
-    )
+    ((words << 29) & u64x2::splat(0x3f3f3f3f00000000))
+        | ((words >> 31) & u64x2::splat(0x000000003f3f3f3f))
 }
 
 /// The halves that the rounds of two blocks begin with.
@@ -137,7 +113,12 @@ pub(crate) fn halves_of(first: &[u8; 8], second: &[u8; 8]) -> (u64x2, u64x2)
     ensures second { (half_of (lane 1 result.0), half_of (lane 1 result.1))
         ≡ first_halves second.now }
 {
-    split(ip(first, second))
+    let first = u8x8::from_array(*first);
+    let second = u8x8::from_array(*second);
+    let c = columns(first.shuffle(second, BOTH));
+    let left = rows([c[7], c[5], c[3], c[1], c[7], c[5], c[3], c[1]]);
+    let right = rows([c[6], c[4], c[2], c[0], c[6], c[4], c[2], c[0]]);
+    (expanded(left), expanded(right))
 }
 
 /// The blocks that the halves after the rounds make.
