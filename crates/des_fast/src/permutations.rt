@@ -75,8 +75,8 @@ fn joined(number: u64, last: u64) -> u64
 #[inline(always)]
 fn rows(columns: [u64; 8]) -> u64x2
     requires { (k : ℕ) → k < 8 → slice_index columns k < 2 ^ 16 }
-    ensures first { to_le_bytes w64 (lane 0 result) ≡ map (λ column. column % 256) columns }
-    ensures second { to_le_bytes w64 (lane 1 result) ≡ map (λ column. column / 256) columns }
+    ensures { InEachBlock 2 (λ b. to_le_bytes w64 (lane b result)
+        ≡ map (λ column. column / 2 ^ (8 * b) % 2 ^ 8) columns) }
 {
     let last = joined(
         joined(joined(columns[3], columns[2]), columns[1]),
