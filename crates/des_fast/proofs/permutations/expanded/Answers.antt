@@ -1,7 +1,8 @@
-use Rattle.std.proofs.Common.{◌≡◌, ℕ, ◌<◌, ◌^◌, List, [], ◌∷◌, ◌++◌, Bool, length, get_or, bit_or, refl, sym, ap, ap₂, ◌∙◌, arith, take_all}
+use Rattle.std.proofs.Common.{◌≡◌, ℕ, suc, ◌*◌, ◌/◌, ◌%◌, ◌^◌, ◌<◌, List, [], ◌∷◌, ◌++◌, Bool, length, get_or, replicate, bit_and, bit_or, w64, Fits, refl, sym, ap, ap₂, ◌∙◌, arith, take_all}
 use Rattle.std.specs.List.{flat_map, range_with_len}
 use Rattle.std.specs.Simd.Lanes.{zip2}
 use Rattle.std.proofs.lemmas.List.{map-append}
+use Rattle.std.proofs.lemmas.Simd.{pick_l_whole, Each1-get_or}
 use Rattle.des.specs.Bits.{bit, bits_of, bits_of_word, select}
 use Rattle.des.specs.Tables.{expansion}
 use Rattle.des.specs.Laws.Selections.{select-select, select-range_with_len}
@@ -9,7 +10,6 @@ use Rattle.des_fast.specs.Groups.{positions_in_word}
 use Rattle.des_fast.proofs.GroupWords.{IsOfGroups-lt}
 use Rattle.des_fast.proofs.HalfExpansions.{IsExpansionOf, IsExpansionOf-Holds}
 use Rattle.des_fast.proofs.WordMaps.{WordMap, left_under, right_under, joined, selected}
-use Rattle.des_fast.proofs.TwoWords.{lane-each, lane-fits, shifted_left, shifted_right, under_mask}
 use Rattle.des_fast.proofs.permutations.expanded.Goals as goal
 
 abbrev groups : WordMap
@@ -42,13 +42,20 @@ IsExpansionOf-groups word half below width twice =
     IsExpansionOf-Holds (groups.of word) half (IsOfGroups-lt (groups.of word) (groups.is.under word)) width
     (selected groups positions refl word below ∙ ap (select positions) twice ∙ select-positions half width)
 
+-- the same of both words
 abbrev all : List ℕ → List ℕ
 all words =
-    zip2 bit_or (under_mask 0x3f3f3f3f00000000 (shifted_left 29 words))
-    (under_mask 0x000000003f3f3f3f (shifted_right 31 words))
+    zip2 bit_or
+    (zip2 bit_and (zip2 (λ a b. a * 2 ^ b % 2 ^ 64) words (replicate 2 29)) (replicate 2 0x3f3f3f3f00000000))
+    (zip2 bit_and (zip2 (λ a b. a / 2 ^ b) words (replicate 2 31)) (replicate 2 0x000000003f3f3f3f))
+
+all-lane : (words : List ℕ) → length words ≡ 2 → (b : ℕ) → b < 2 → get_or (all words) b 0 ≡ groups.of (get_or words b 0)
+all-lane words count (suc (suc b)) within = absurd (omega arith)
+all-lane words count b within = ap (λ (ws : List ℕ). get_or (all ws) b 0) (sym (pick_l_whole 0 words 2 count))
 
 pub returns : goal.returns
 returns c b within half width twice =
     let words : List ℕ = c.args.words in
-    let is = IsExpansionOf-groups (get_or words b 0) half (lane-fits words c.fits-words b within) width twice in
-    rw (lane-each all groups.of (λ x y. refl) words c.fits-words.0 b within) (is.is_expansion, is.has_half)
+    let fits = (Each1-get_or (Fits w64) words b 0 (omega (arith, c.fits-words.0)) c.fits-words.1).fits in
+    let is = IsExpansionOf-groups (get_or words b 0) half fits width twice in
+    rw (all-lane words c.fits-words.0 b within) (is.is_expansion, is.has_half)

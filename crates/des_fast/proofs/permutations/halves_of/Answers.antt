@@ -9,11 +9,6 @@ use Rattle.des_fast.proofs.Columns.{AreColumns, AreColumns-part, column, bits_of
 use Rattle.des_fast.proofs.permutations.halves_of.Goals as goal
 use Rattle.des_fast.proofs.permutations.halves_of.Goals.{After-expanded-2}
 
-pub rows-left-requires : goal.rows-left-requires
-rows-left-requires c (suc (suc (suc (suc (suc (suc (suc (suc k)))))))) below = absurd (omega arith)
-rows-left-requires c k below =
-    c.columns-c.ensures.within (get_or (7 ∷ 5 ∷ 3 ∷ 1 ∷ 7 ∷ 5 ∷ 3 ∷ 1 ∷ []) k 0) (lit≤ tt)
-
 pub rows-right-requires : goal.rows-right-requires
 rows-right-requires c (suc (suc (suc (suc (suc (suc (suc (suc k)))))))) below = absurd (omega arith)
 rows-right-requires c k below =
