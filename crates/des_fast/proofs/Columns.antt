@@ -1,4 +1,4 @@
--- The columns of eight bytes, from the bit of each that is shifted into the first place to the bytes that they are the rows of.
+-- Columns: the bits of one number in each of eight bytes. They are the rows of the permutations.
 use Rattle.std.proofs.Common.{◌≡◌, ℕ, zero, suc, ◌+◌, ◌-◌, ◌*◌, ◌/◌, ◌%◌, ◌^◌, ◌<◌, ◌==◌, nat_lt, true, lit≤, List, [], ◌∷◌, ◌++◌, Bool, map, get_or, refl, sym, ap, ap₂, ◌∙◌, arith, shr-shr}
 use Rattle.std.specs.Int.{w64, bit_at, byte_at, to_le_bytes}
 use Rattle.std.specs.List.{flat_map, list_all}

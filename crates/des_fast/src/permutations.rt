@@ -1,6 +1,6 @@
-//! The initial and the final permutation of two blocks side by side. Each of their rows is a column
-//! of the 64 bits, one bit of each byte, which a vector gives at once. For one block `halves` has
-//! the same, by `des::utils`, and tells the layout of the halves.
+//! The initial and the final permutation of two blocks side by side. Each of their rows is a column:
+//! one bit of each of eight bytes, which a vector gives at once. For one block `halves` has the same,
+//! by `des::utils`, and tells the layout of the halves.
 
 ghost use Rattle.std.specs.Prelude.{◌≡◌, ◌<◌, ◌+◌, ◌-◌, ◌*◌, ◌/◌, ◌%◌, ◌^◌, ◌++◌, ℕ, List, Bool, length, map, slice_index};
 ghost use Rattle.std.specs.Int.{w64, bit_at, to_le_bytes};
@@ -15,11 +15,11 @@ use std::simd::prelude::*;
 // The bytes of two blocks, one after the other.
 const BOTH: [usize; 16] = [0, 1, 2, 3, 4, 5, 6, 7, 8, 9, 10, 11, 12, 13, 14, 15];
 
-// The groups 1, 3, 5 and 7 of two halves, a group of the one and then of the other, from the last to
-// the first, in the first words of both and then in the second.
+// The groups 7, 5, 3 and 1 of the words of two vectors, a group of the one and then of the other: those
+// of the first words, and then those of the second.
 const ODD_GROUPS: [usize; 16] = [4, 20, 5, 21, 6, 22, 7, 23, 12, 28, 13, 29, 14, 30, 15, 31];
 
-// The groups 2, 4, 6 and 8.
+// The groups 8, 6, 4 and 2.
 const EVEN_GROUPS: [usize; 16] = [0, 16, 1, 17, 2, 18, 3, 19, 8, 24, 9, 25, 10, 26, 11, 27];
 
 // Every other byte of two vectors.
@@ -35,7 +35,7 @@ fn column(bytes: u8x16) -> u64
     bytes.simd_ge(u8x16::splat(0x80)).to_bitmask()
 }
 
-// The columns of sixteen bytes: the bits 1 to 8 of each, as `column` has the first of them.
+// The columns of the bits 1 to 8 of sixteen bytes, each as `column` has that of bit 1.
 #[inline(always)]
 fn columns(bytes: u8x16) -> [u64; 8]
     ensures within { (k : ℕ) → k < 8 → slice_index result k < 2 ^ 16 }
@@ -116,6 +116,7 @@ pub(crate) fn halves_of(first: &[u8; 8], second: &[u8; 8]) -> (u64x2, u64x2)
     let first = u8x8::from_array(*first);
     let second = u8x8::from_array(*second);
     let c = columns(first.shuffle(second, BOTH));
+    // Bits 2, 4, 6 and 8 of the bytes make the left half, the other bits the right one.
     let left = rows([c[7], c[5], c[3], c[1], c[7], c[5], c[3], c[1]]);
     let right = rows([c[6], c[4], c[2], c[0], c[6], c[4], c[2], c[0]]);
     (expanded(left), expanded(right))
@@ -127,8 +128,8 @@ pub(crate) fn blocks_of(left: u64x2, right: u64x2) -> ([u8; 8], [u8; 8])
     ensures first { result.0 ≡ last_block (half_of (lane 0 left), half_of (lane 0 right)) }
     ensures second { result.1 ≡ last_block (half_of (lane 1 left), half_of (lane 1 right)) }
 {
-    // The middle four bits of a group are the half's own: each four columns of the swapped halves
-    // are those of four groups.
+    // The middle four bits of a group are the half's own. Those of the groups 1, 3, 5 and 7 come first
+    // in the bytes of the swapped halves, those of the groups 2, 4, 6 and 8 last.
     let left: u8x16 = left.to_le_bytes();
     let right: u8x16 = right.to_le_bytes();
     let o = columns(right.shuffle(left, ODD_GROUPS));

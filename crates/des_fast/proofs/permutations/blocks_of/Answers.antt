@@ -13,8 +13,8 @@ use Rattle.des_fast.proofs.permutations.blocks_of.Goals as goal
 use Rattle.des_fast.proofs.permutations.blocks_of.Goals.{After-to_le_bytes-2}
 
 -- the bytes of both vectors at some positions
-abbrev shuffled : List ℕ → After-to_le_bytes-2 → ℕ → ℕ
-shuffled positions c i =
+abbrev byte : List ℕ → After-to_le_bytes-2 → ℕ → ℕ
+byte positions c i =
     let bytes : List ℕ → List ℕ = λ words. digits_l 256 16 (number_l (2 ^ 64) words) in
     get_or (pick_l 0 (bytes c.args.right ++ bytes c.args.left) positions) i 0
 
@@ -28,8 +28,8 @@ bits : (c : After-to_le_bytes-2) (b : ℕ) → b < 2
 bits c (suc (suc b)) within = absurd (omega arith)
 bits c b within =
     let word : ℕ = get_or c.rows.result b 0 in
-    let even : ℕ → ℕ = shuffled EVEN_GROUPS c in
-    let odd : ℕ → ℕ = shuffled ODD_GROUPS c in
+    let even : ℕ → ℕ = byte EVEN_GROUPS c in
+    let odd : ℕ → ℕ = byte ODD_GROUPS c in
     let are_even = AreColumns-part even (λ k. get_or c.columns-e.result k 0) c.columns-e.ensures.bits b within in
     let are_odd = AreColumns-part odd (λ k. get_or c.columns-o.result k 0) c.columns-o.ensures.bits b within in
     sym (block_of_bits-bits_of_bytes (to_le_bytes w64 word) (IsBlock-to_le_bytes word))
