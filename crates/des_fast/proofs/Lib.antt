@@ -23,7 +23,6 @@ pub mod CipherFunctionByGroups
 pub mod XoredLists
 pub mod XoredWords
 pub mod GroupWords
-pub mod TwoWords
 pub mod Columns
 pub mod GroupBytes
 pub mod TableTests

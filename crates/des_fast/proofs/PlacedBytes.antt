@@ -117,11 +117,11 @@ shuffles n step t positions =
 abbrev AllBytes : List ℕ → Type 0
 AllBytes xs = Each1 (λ x. x < 256) xs
 
-pub digits-bytes : (n x : ℕ) → AllBytes (digits_l 256 n x)
+digits-bytes : (n x : ℕ) → AllBytes (digits_l 256 n x)
 digits-bytes zero x = tt
 digits-bytes (suc n) x = (omega arith, digits-bytes n (x / 256))
 
-pub appended-bytes : (xs ys : List ℕ) → AllBytes xs → AllBytes ys → AllBytes (xs ++ ys)
+appended-bytes : (xs ys : List ℕ) → AllBytes xs → AllBytes ys → AllBytes (xs ++ ys)
 appended-bytes [] ys p q = q
 appended-bytes (x ∷ xs) ys p q = (p.0, appended-bytes xs ys p.1 q)
 
@@ -130,7 +130,7 @@ get_or-byte [] i p = omega arith
 get_or-byte (x ∷ xs) zero p = p.0
 get_or-byte (x ∷ xs) (suc i) p = get_or-byte xs i p.1
 
-pub picked-bytes : (xs ks : List ℕ) → AllBytes xs → AllBytes (pick_l 0 xs ks)
+picked-bytes : (xs ks : List ℕ) → AllBytes xs → AllBytes (pick_l 0 xs ks)
 picked-bytes xs [] p = tt
 picked-bytes xs (k ∷ ks) p = (get_or-byte xs k p, picked-bytes xs ks p)
 
@@ -139,7 +139,7 @@ length-digits_l q zero x = refl
 length-digits_l q (suc n) x = ap suc (length-digits_l q n (x / q))
 
 -- byte i of the number that bytes write, the lowest first
-pub number_byte : (xs : List ℕ) (i : ℕ) → i < length xs → AllBytes xs → number_l 256 xs / 256 ^ i % 256 ≡ get_or xs i 0
+number_byte : (xs : List ℕ) (i : ℕ) → i < length xs → AllBytes xs → number_l 256 xs / 256 ^ i % 256 ≡ get_or xs i 0
 number_byte [] i within fits = absurd (omega arith)
 number_byte (x ∷ xs) zero within fits = omega (arith, fits.0)
 number_byte (x ∷ xs) (suc i) within fits =
@@ -172,33 +172,43 @@ byte_of_both n xs ys (suc zero) q is_x is_y below within =
     ∙ vector_byte n ys q is_y within
 byte_of_both n xs ys (suc (suc t)) q is_x is_y below within = absurd (omega arith)
 
--- a bit of a byte that stands at a position of the bytes of two vectors
-shuffled-bit : (n : ℕ) (positions xs ys : List ℕ) (b t from : ℕ) → IsSlice n xs → IsSlice n ys
-    → length positions ≡ 8 * n → b < 64 * n → t < 2 → from < 64 * n
-    → get_or positions (b / 8) 0 ≡ 8 * n * t + from / 8 → from % 8 ≡ b % 8
-    → bit_at_place b (shuffled n positions xs ys) ≡ bit_at_place from (get_or (xs ∷ ys ∷ []) (1 * t + 0) [])
-shuffled-bit n positions xs ys b t from is_x is_y size within in_pair inside at same =
+-- a byte that stands at a position of the bytes of two vectors
+pub shuffled-byte : (n : ℕ) (positions xs ys : List ℕ) (q t from : ℕ) → IsSlice n xs → IsSlice n ys
+    → length positions ≡ 8 * n → q < 8 * n → t < 2 → from < 8 * n → get_or positions q 0 ≡ 8 * n * t + from
+    → get_or (shuffled n positions xs ys) (q / 8) 0 / 256 ^ (q % 8) % 256
+    ≡ get_or (get_or (xs ∷ ys ∷ []) (1 * t + 0) []) (from / 8) 0 / 256 ^ (from % 8) % 256
+shuffled-byte n positions xs ys q t from is_x is_y size within in_pair inside at =
     let both : List ℕ = bytes_of n xs ++ bytes_of n ys in
     let picked : List ℕ = pick_l 0 both positions in
     let are : AllBytes picked =
     picked-bytes both positions
     (appended-bytes (bytes_of n xs) (bytes_of n ys) (digits-bytes (8 * n) _) (digits-bytes (8 * n) _)) in
     let length_is : length picked ≡ 8 * n = length-map positions _ ∙ size in
-    let i : ℕ = b / 8 % 8 in
-    let start : ℕ = 8 * (b / 64) in
+    let i : ℕ = q % 8 in
+    let start : ℕ = 8 * (q / 8) in
     let bytes : List ℕ = chunk start 8 picked in
-    let word : ℕ = get_or (shuffled n positions xs ys) (b / 64) 0 in
-    let row : List ℕ = get_or (xs ∷ ys ∷ []) (1 * t + 0) [] in
-    let byte : word / 256 ^ i % 256 ≡ get_or row (from / 8 / 8) 0 / 256 ^ (from / 8 % 8) % 256 =
-    ap (λ (x : ℕ). x / 256 ^ i % 256) (get_or_wider 256 8 (2 ^ 64) n picked (b / 64) refl are (omega arith))
+    ap (λ (x : ℕ). x / 256 ^ i % 256) (get_or_wider 256 8 (2 ^ 64) n picked (q / 8) refl are (omega arith))
     ∙ number_byte bytes i (omega (arith, length-chunk start 8 picked (omega arith))) (Each1-chunk (λ x. x < 256) start 8 picked are)
     ∙ get_or-chunk start 8 picked i 0 (omega arith)
     ∙ ap (λ (k : ℕ). get_or picked k 0) (omega arith)
-    ∙ get_or-map (λ (k : ℕ). get_or both k 0) positions (b / 8) 0 0 (omega arith)
+    ∙ get_or-map (λ (k : ℕ). get_or both k 0) positions q 0 0 (omega arith)
     ∙ ap (λ (k : ℕ). get_or both k 0) at
-    ∙ byte_of_both n xs ys t (from / 8) is_x is_y in_pair (omega arith) in
-    sym (byte_bit word i (b % 8) (omega arith) (omega arith))
-    ∙ ap₂ (λ (x r : ℕ). bit_at x (7 - r) == 1) byte (sym same)
+    ∙ byte_of_both n xs ys t from is_x is_y in_pair inside
+
+-- and a bit of it
+shuffled-bit : (n : ℕ) (positions xs ys : List ℕ) (b t from : ℕ) → IsSlice n xs → IsSlice n ys
+    → length positions ≡ 8 * n → b < 64 * n → t < 2 → from < 64 * n
+    → get_or positions (b / 8) 0 ≡ 8 * n * t + from / 8 → from % 8 ≡ b % 8
+    → bit_at_place b (shuffled n positions xs ys) ≡ bit_at_place from (get_or (xs ∷ ys ∷ []) (1 * t + 0) [])
+shuffled-bit n positions xs ys b t from is_x is_y size within in_pair inside at same =
+    let i : ℕ = b / 8 % 8 in
+    let words : List ℕ = shuffled n positions xs ys in
+    let row : List ℕ = get_or (xs ∷ ys ∷ []) (1 * t + 0) [] in
+    let lane : b / 64 ≡ b / 8 / 8 = omega arith in
+    ap (λ (l : ℕ). bit_in (get_or words l 0) (56 - 8 * i + b % 8)) lane
+    ∙ sym (byte_bit (get_or words (b / 8 / 8) 0) i (b % 8) (omega arith) (omega arith))
+    ∙ ap₂ (λ (x r : ℕ). bit_at x (7 - r) == 1)
+    (shuffled-byte n positions xs ys (b / 8) t (from / 8) is_x is_y size (omega arith) in_pair (omega arith) at) (sym same)
     ∙ byte_bit (get_or row (from / 8 / 8) 0) (from / 8 % 8) (from % 8) (omega arith) (omega arith)
     ∙ ap (λ (lane : ℕ). bit_in (get_or row lane 0) (56 - 8 * (from / 8 % 8) + from % 8)) (omega arith)
 

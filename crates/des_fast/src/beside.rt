@@ -4,7 +4,7 @@ ghost use Rattle.std.specs.Prelude.{◌+◌};
 ghost use Rattle.des_fast.specs.Beside.{word_beside};
 
 use crate::halves::RoundKey;
-use crate::rounds::{Groups, after_rounds};
+use crate::rounds::{Groups, SixteenRounds, after_rounds};
 
 /// Words of groups of some blocks, and then those of others.
 #[derive(Clone, Copy)]
@@ -70,7 +70,9 @@ impl<A: Groups, B: Groups> Groups for Beside<A, B> {
             second: self.second.substitute(),
         }
     }
+}
 
+impl<A: Groups, B: Groups> SixteenRounds for Beside<A, B> {
     #[inline(always)]
     fn after_rounds(
         left: Beside<A, B>,

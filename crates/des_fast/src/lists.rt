@@ -11,7 +11,7 @@ ghost use Rattle.des_fast.specs.HalfBlocks.{first_halves, last_block};
 ghost use Rattle.des_fast.specs.SideBySide.{AreExpansions};
 
 use crate::box_lookup::BoxLookup;
-use crate::rounds::Groups;
+use crate::rounds::SixteenRounds;
 use des::cbc::{self, next_vector};
 use des::cipher::are_blocks;
 use std::simd::prelude::*;
@@ -22,7 +22,7 @@ pub trait BlockTransform {
     ghost output: { Self → List ℕ → List ℕ };
 
     /// Takes the halves of blocks side by side through the rounds.
-    fn process_halves<G: Groups>(&self, left: G, right: G) -> (G, G)
+    fn process_halves<G: SixteenRounds>(&self, left: G, right: G) -> (G, G)
         requires left { AreExpansions G.BLOCKS G.word left }
         requires right { AreExpansions G.BLOCKS G.word right }
         ensures left { AreExpansions G.BLOCKS G.word result.0 }
@@ -35,7 +35,7 @@ pub trait BlockTransform {
 
 // Takes blocks through passes, side by side.
 #[inline(always)]
-fn process_groups<G: Groups, A: BlockTransform>(blocks: &mut [[u8; 8]], passes: &A)
+fn process_groups<G: SixteenRounds, A: BlockTransform>(blocks: &mut [[u8; 8]], passes: &A)
     requires { length blocks.old ≡ G.BLOCKS }
     ensures { blocks.new ≡ map (A.output passes.now) blocks.old }
 {
@@ -47,7 +47,10 @@ fn process_groups<G: Groups, A: BlockTransform>(blocks: &mut [[u8; 8]], passes: 
 /// Takes blocks through passes, side by side. Not inlined: so each number of blocks has the registers
 /// to itself.
 #[inline(never)]
-pub(crate) fn process_side_by_side<G: Groups, A: BlockTransform>(blocks: &mut [[u8; 8]], passes: &A)
+pub(crate) fn process_side_by_side<G: SixteenRounds, A: BlockTransform>(
+    blocks: &mut [[u8; 8]],
+    passes: &A,
+)
     requires { length blocks.old ≡ G.BLOCKS }
     ensures { blocks.new ≡ map (A.output passes.now) blocks.old }
 {
@@ -78,7 +81,7 @@ pub(crate) fn process_padded<A: BlockTransform>(blocks: &mut [[u8; 8]], passes: 
 
 /// Takes one block through passes.
 #[inline(always)]
-pub(crate) fn process_one<G: Groups, A: BlockTransform>(block: &mut [u8; 8], passes: &A)
+pub(crate) fn process_one<G: SixteenRounds, A: BlockTransform>(block: &mut [u8; 8], passes: &A)
     requires { G.BLOCKS ≡ 1 }
     ensures { block.new ≡ A.output passes.now block.old }
 {

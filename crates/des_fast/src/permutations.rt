@@ -1,13 +1,11 @@
-//! The initial and the final permutation of two blocks side by side. Each of their rows is a column
-//! of the 64 bits, one bit of each byte, which a vector gives at once. For one block `halves` has
-//! the same, by `des::utils`, and tells the layout of the halves.
+//! The initial and the final permutation of two blocks side by side. Each of their rows is a column:
+//! one bit of each of eight bytes, which a vector gives at once. For one block `halves` has the same,
+//! by `des::utils`, and tells the layout of the halves.
 
-ghost use Rattle.std.specs.Prelude.{◌≡◌, ◌<◌, ◌+◌, ◌-◌, ◌*◌, ◌/◌, ◌%◌, ◌^◌, ◌++◌, ℕ, map, take, drop, slice_index};
+ghost use Rattle.std.specs.Prelude.{◌≡◌, ◌<◌, ◌+◌, ◌-◌, ◌*◌, ◌/◌, ◌%◌, ◌^◌, ◌++◌, ℕ, List, Bool, length, map, slice_index};
 ghost use Rattle.std.specs.Int.{w64, bit_at, to_le_bytes};
-ghost use Rattle.des.specs.Bits.{bits_of, bits_of_bytes, bits_of_word, select};
-ghost use Rattle.des.specs.Tables.{initial_permutation, final_permutation};
-ghost use Rattle.des.specs.Blocks.{block_of_bits};
-ghost use Rattle.des_fast.specs.Groups.{half_of};
+ghost use Rattle.des.specs.Bits.{bits_of_word};
+ghost use Rattle.des_fast.specs.Groups.{IsExpansion, half_of};
 ghost use Rattle.des_fast.specs.HalfBlocks.{first_halves, last_block};
 ghost use Rattle.des_fast.specs.SideBySide.{AreExpansions, lane};
 ghost use Rattle.des_fast.specs.Slices.{InEachBlock};
@@ -17,12 +15,16 @@ use std::simd::prelude::*;
 // The bytes of two blocks, one after the other.
 const BOTH: [usize; 16] = [0, 1, 2, 3, 4, 5, 6, 7, 8, 9, 10, 11, 12, 13, 14, 15];
 
-// The bytes of two words in the order in which their columns are the bytes of the final
-// permutation.
-const ROWS: [usize; 16] = [4, 0, 5, 1, 6, 2, 7, 3, 12, 8, 13, 9, 14, 10, 15, 11];
+// The groups 7, 5, 3 and 1 of the words of two vectors, a group of the one and then of the other: those
+// of the first words, and then those of the second.
+const ODD_GROUPS: [usize; 16] = [4, 20, 5, 21, 6, 22, 7, 23, 12, 28, 13, 29, 14, 30, 15, 31];
 
-// The first bytes of eight numbers of two bytes, and then the second.
-const FIRST_AND_SECOND: [usize; 16] = [0, 2, 4, 6, 8, 10, 12, 14, 1, 3, 5, 7, 9, 11, 13, 15];
+// The groups 8, 6, 4 and 2.
+const EVEN_GROUPS: [usize; 16] = [0, 16, 1, 17, 2, 18, 3, 19, 8, 24, 9, 25, 10, 26, 11, 27];
+
+// Every other byte of two vectors.
+#[rattlefmt::skip]
+const EVERY_OTHER: [usize; 16] = [0, 2, 4, 6, 8, 10, 12, 14, 16, 18, 20, 22, 24, 26, 28, 30];
 
 // The most significant bit of each of sixteen bytes, that of the first byte in the last place.
 #[inline(always)]
@@ -33,7 +35,7 @@ fn column(bytes: u8x16) -> u64
     bytes.simd_ge(u8x16::splat(0x80)).to_bitmask()
 }
 
-// The columns of sixteen bytes: the bits 1 to 8 of each, as `column` has the first of them.
+// The columns of the bits 1 to 8 of sixteen bytes, each as `column` has that of bit 1.
 #[inline(always)]
 fn columns(bytes: u8x16) -> [u64; 8]
     ensures within { (k : ℕ) → k < 8 → slice_index result k < 2 ^ 16 }
@@ -73,8 +75,8 @@ fn joined(number: u64, last: u64) -> u64
 #[inline(always)]
 fn rows(columns: [u64; 8]) -> u64x2
     requires { (k : ℕ) → k < 8 → slice_index columns k < 2 ^ 16 }
-    ensures first { to_le_bytes w64 (lane 0 result) ≡ map (λ column. column % 256) columns }
-    ensures second { to_le_bytes w64 (lane 1 result) ≡ map (λ column. column / 256) columns }
+    ensures { InEachBlock 2 (λ b. to_le_bytes w64 (lane b result)
+        ≡ map (λ column. column / 2 ^ (8 * b) % 2 ^ 8) columns) }
 {
     let last = joined(
         joined(joined(columns[3], columns[2]), columns[1]),
@@ -84,54 +86,22 @@ fn rows(columns: [u64; 8]) -> u64x2
         joined(joined(columns[7], columns[6]), columns[5]),
         columns[4],
     );
-    let bytes: u8x16 = u64x2::from_array([last, first]).to_le_bytes();
-    u64x2::from_le_bytes(bytes.swizzle(FIRST_AND_SECOND))
+    let words = u64x2::from_array([last, first]);
+    let low: u8x16 = words.to_le_bytes();
+    let high: u8x16 = (words >> 8).to_le_bytes();
+    u64x2::from_le_bytes(low.shuffle(high, EVERY_OTHER))
 }
 
-// The words of the initial permutation of two blocks.
+// The expansions of half blocks that stand twice in each word: as in `Halves::of_block`, the groups
+// 1, 3, 5 and 7 are a half rotated right by three, the groups 2, 4, 6 and 8 one rotated left by one.
 #[inline(always)]
-fn ip(first: &[u8; 8], second: &[u8; 8]) -> u64x2
-    ensures first { bits_of_word (lane 0 result)
-        ≡ select initial_permutation (bits_of_bytes first.now) }
-    ensures second { bits_of_word (lane 1 result)
-        ≡ select initial_permutation (bits_of_bytes second.now) }
+fn expanded(words: u64x2) -> u64x2
+    ensures { InEachBlock 2 (λ b. (half : List Bool) → length half ≡ 32
+        → bits_of_word (lane b words) ≡ half ++ half
+        → IsExpansion (lane b result) × (half_of (lane b result) ≡ half)) }
 {
-    let first = u8x8::from_array(*first);
-    let second = u8x8::from_array(*second);
-    let c = columns(first.shuffle(second, BOTH));
-    rows([c[6], c[4], c[2], c[0], c[7], c[5], c[3], c[1]])
-}
-
-// The blocks of the final permutation of two words.
-#[inline(always)]
-fn fp(words: u64x2) -> ([u8; 8], [u8; 8])
-    ensures first { result.0 ≡ block_of_bits (select final_permutation (bits_of_word (lane 0 words))) }
-    ensures second { result.1 ≡ block_of_bits (select final_permutation (bits_of_word (lane 1 words))) }
-{
-    let bytes: u8x16 = words.to_le_bytes();
-    let c = columns(bytes.swizzle(ROWS));
-    let [first, second] = rows([c[7], c[6], c[5], c[4], c[3], c[2], c[1], c[0]]).to_array();
-    (first.to_le_bytes(), second.to_le_bytes())
-}
-
-// What `Halves::of_block` makes of each word.
-#[inline(always)]
-fn split(words: u64x2) -> (u64x2, u64x2)
-    ensures left { AreExpansions 2 lane result.0 }
-    ensures right { AreExpansions 2 lane result.1 }
-    ensures left_half { InEachBlock 2 (λ b. half_of (lane b result.0)
-        ≡ take 32 (bits_of_word (lane b words))) }
-    ensures right_half { InEachBlock 2 (λ b. half_of (lane b result.1)
-        ≡ drop 32 (bits_of_word (lane b words))) }
-{
-    let odd = ((words >> 3) & u64x2::splat(0x1f3f3f3f1f3f3f3f))
-        | ((words << 29) & u64x2::splat(0x2000000020000000));
-    let even = ((words << 1) & u64x2::splat(0x3f3f3f3e3f3f3f3e))
-        | ((words >> 31) & u64x2::splat(0x0000000100000001));
-    (
-        (odd & u64x2::splat(0x3f3f3f3f00000000)) | (even >> 32),
-        (odd << 32) | (even & u64x2::splat(0x000000003f3f3f3f)),
-    )
+    ((words << 29) & u64x2::splat(0x3f3f3f3f00000000))
+        | ((words >> 31) & u64x2::splat(0x000000003f3f3f3f))
 }
 
 /// The halves that the rounds of two blocks begin with.
@@ -143,27 +113,13 @@ pub(crate) fn halves_of(first: &[u8; 8], second: &[u8; 8]) -> (u64x2, u64x2)
     ensures second { (half_of (lane 1 result.0), half_of (lane 1 result.1))
         ≡ first_halves second.now }
 {
-    split(ip(first, second))
-}
-
-// What `HalfBlock::word` makes of each.
-#[inline(always)]
-fn words_of(halves: u64x2) -> u64x2
-    ensures within { InEachBlock 2 (λ b. lane b result < 2 ^ 32) }
-    ensures halves { InEachBlock 2 (λ b. bits_of 32 (lane b result) ≡ half_of (lane b halves)) }
-{
-    ((halves >> 29) & u64x2::splat(0x00000000f0f0f0f0))
-        | ((halves >> 1) & u64x2::splat(0x000000000f0f0f0f))
-}
-
-// What `Halves::word` makes of the words of halves.
-#[inline(always)]
-fn join(left: u64x2, right: u64x2) -> u64x2
-    requires { InEachBlock 2 (λ b. lane b right < 2 ^ 32) }
-    ensures { InEachBlock 2 (λ b. bits_of_word (lane b result)
-        ≡ bits_of 32 (lane b left) ++ bits_of 32 (lane b right)) }
-{
-    (left << 32) | right
+    let first = u8x8::from_array(*first);
+    let second = u8x8::from_array(*second);
+    let c = columns(first.shuffle(second, BOTH));
+    // Bits 2, 4, 6 and 8 of the bytes make the left half, the other bits the right one.
+    let left = rows([c[7], c[5], c[3], c[1], c[7], c[5], c[3], c[1]]);
+    let right = rows([c[6], c[4], c[2], c[0], c[6], c[4], c[2], c[0]]);
+    (expanded(left), expanded(right))
 }
 
 /// The blocks that the halves after the rounds make.
@@ -172,5 +128,12 @@ pub(crate) fn blocks_of(left: u64x2, right: u64x2) -> ([u8; 8], [u8; 8])
     ensures first { result.0 ≡ last_block (half_of (lane 0 left), half_of (lane 0 right)) }
     ensures second { result.1 ≡ last_block (half_of (lane 1 left), half_of (lane 1 right)) }
 {
-    fp(join(words_of(right), words_of(left)))
+    // The middle four bits of a group are the half's own. Those of the groups 1, 3, 5 and 7 come first
+    // in the bytes of the swapped halves, those of the groups 2, 4, 6 and 8 last.
+    let left: u8x16 = left.to_le_bytes();
+    let right: u8x16 = right.to_le_bytes();
+    let o = columns(right.shuffle(left, ODD_GROUPS));
+    let e = columns(right.shuffle(left, EVEN_GROUPS));
+    let [first, second] = rows([e[6], e[5], e[4], e[3], o[6], o[5], o[4], o[3]]).to_array();
+    (first.to_le_bytes(), second.to_le_bytes())
 }

@@ -59,7 +59,10 @@ pub trait Groups: Copy {
         ensures expansions { AreExpansions BLOCKS word result }
         ensures substituted { InEachBlock BLOCKS (λ b. half_of (word b result)
             ≡ select permutation (substitute (bits_of_groups (word b self)))) };
+}
 
+/// Groups with the form of the rounds that is quickest for so many blocks.
+pub trait SixteenRounds: Groups {
     /// The halves after sixteen rounds, with the round keys in their order or, to decipher, from the
     /// last to the first (FIPS 46-3, enciphering and deciphering).
     fn after_rounds(
@@ -68,14 +71,14 @@ pub trait Groups: Copy {
         round_keys: &[RoundKey; 16],
         deciphers: bool,
     ) -> (Self, Self)
-        requires left { AreExpansions BLOCKS word left }
-        requires right { AreExpansions BLOCKS word right }
-        ensures left { AreExpansions BLOCKS word result.0 }
-        ensures right { AreExpansions BLOCKS word result.1 }
-        ensures halves { InEachBlock BLOCKS (λ b.
-            (half_of (word b result.0), half_of (word b result.1))
+        requires left { AreExpansions Self.BLOCKS Self.word left }
+        requires right { AreExpansions Self.BLOCKS Self.word right }
+        ensures left { AreExpansions Self.BLOCKS Self.word result.0 }
+        ensures right { AreExpansions Self.BLOCKS Self.word result.1 }
+        ensures halves { InEachBlock Self.BLOCKS (λ b.
+            (half_of (Self.word b result.0), half_of (Self.word b result.1))
             ≡ after_rounds (in_direction deciphers (round_keys_of round_keys.now))
-            (half_of (word b left)) (half_of (word b right))) };
+            (half_of (Self.word b left)) (half_of (Self.word b right))) };
 }
 
 // The round key of a round, from 0, in the order of enciphering or of deciphering.

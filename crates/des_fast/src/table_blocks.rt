@@ -5,7 +5,7 @@ ghost use Rattle.des_fast.specs.TableBlocks.{word_of_one, word_of_two, word_of_t
 use crate::halves::RoundKey;
 use crate::one_block::{block_of_halves, halves_of_block};
 use crate::permutations::{blocks_of, halves_of};
-use crate::rounds::{Groups, after_keyed_rounds};
+use crate::rounds::{Groups, SixteenRounds, after_keyed_rounds};
 use crate::tables::{substitute, substitute_in_rows};
 use std::simd::prelude::*;
 
@@ -56,7 +56,9 @@ impl Groups for OneBlock {
             word: substitute(self.word),
         }
     }
+}
 
+impl SixteenRounds for OneBlock {
     #[inline(always)]
     fn after_rounds(
         left: OneBlock,
@@ -134,7 +136,9 @@ impl Groups for TwoBlocks {
             second: substitute(self.second),
         }
     }
+}
 
+impl SixteenRounds for TwoBlocks {
     #[inline(always)]
     fn after_rounds(
         left: TwoBlocks,
@@ -220,7 +224,9 @@ impl Groups for ThreeBlocks {
             third: substitute_in_rows(self.third),
         }
     }
+}
 
+impl SixteenRounds for ThreeBlocks {
     #[inline(always)]
     fn after_rounds(
         left: ThreeBlocks,

@@ -15,7 +15,7 @@ ghost use Rattle.des_fast.specs.GroupBytes.{box_of_byte, in_order};
 
 use crate::halves::{RoundKey, word_of};
 use crate::one_block::{block_of_halves, halves_of_block};
-use crate::rounds::{Groups, after_keyed_rounds};
+use crate::rounds::{Groups, SixteenRounds, after_keyed_rounds};
 use std::simd::prelude::*;
 
 // The entries of the boxes S1, S3, S5, S7, S2, S4, S6 and S8, in the order of the groups in a word:
@@ -162,7 +162,9 @@ impl Groups for u64 {
     fn substitute(self) -> u64 {
         substitute(self)
     }
+}
 
+impl SixteenRounds for u64 {
     #[inline(always)]
     fn after_rounds(
         left: u64,

@@ -21,7 +21,7 @@ ghost use Rattle.des_fast.specs.JoinedEntries.{entry_order, entry_bits, joined_b
 
 use crate::halves::RoundKey;
 use crate::permutations::{blocks_of, halves_of};
-use crate::rounds::{Groups, after_rounds};
+use crate::rounds::{Groups, SixteenRounds, after_rounds};
 use std::simd::prelude::*;
 
 // The terms of the entries, each box in the byte of its group: in the second half of the byte for
@@ -81,7 +81,9 @@ impl Groups for u64x4 {
     fn substitute(self) -> u64x4 {
         substitute(self)
     }
+}
 
+impl SixteenRounds for u64x4 {
     #[inline(always)]
     fn after_rounds(
         left: u64x4,
