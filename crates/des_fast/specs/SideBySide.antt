@@ -1,14 +1,24 @@
 -- Rounds of blocks side by side, and the order of their round keys.
-use Rattle.std.specs.Prelude.{ℕ, List, Bool, true, false, reverse, slice_index_or}
+use Rattle.std.specs.Prelude.{◌≡◌, ℕ, List, Bool, true, false, reverse, slice_index_or, bit_xor}
+use Rattle.des.specs.Bits.{select}
+use Rattle.des.specs.Tables.{permutation}
+use Rattle.des.specs.CipherFunction.{substitute}
 use Rattle.des_fast.specs.Slices.{InEachBlock}
 use Rattle.des.specs.declared.tdes.passes.Pass.{Pass}
 use Rattle.des_fast.specs.declared.single.Des.{Des}
-use Rattle.des_fast.specs.Groups.{IsExpansion}
+use Rattle.des_fast.specs.Groups.{IsExpansion, bits_of_groups, half_of}
 use Rattle.des_fast.specs.HalfBlocks.{round_keys_of}
 
 -- the words of all blocks are expansions of half blocks
 abbrev pub AreExpansions : {A : Type 0} → ℕ → (ℕ → A → ℕ) → A → Type 0
 AreExpansions blocks word groups = InEachBlock blocks (λ b. IsExpansion (word b groups))
+
+-- the next word is the left one, xor the expansion of P of the substitution of the groups in the right one
+pub record IsSubstitutedInto (left right next : ℕ) : Type 0 where
+  pub change : ℕ
+  pub joined : next ≡ bit_xor left change
+  pub expansion : IsExpansion change
+  pub substituted : half_of change ≡ select permutation (substitute (bits_of_groups right))
 
 -- round keys in the order of enciphering, or of deciphering
 abbrev pub in_direction : Bool → List (List Bool) → List (List Bool)

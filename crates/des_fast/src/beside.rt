@@ -48,14 +48,6 @@ impl<A: Groups, B: Groups> Groups for Beside<A, B> {
     }
 
     #[inline(always)]
-    fn xor(self, others: Beside<A, B>) -> Beside<A, B> {
-        Beside {
-            first: self.first.xor(others.first),
-            second: self.second.xor(others.second),
-        }
-    }
-
-    #[inline(always)]
     fn with_key(self, round_key: RoundKey) -> Beside<A, B> {
         Beside {
             first: self.first.with_key(round_key),
@@ -64,10 +56,10 @@ impl<A: Groups, B: Groups> Groups for Beside<A, B> {
     }
 
     #[inline(always)]
-    fn substitute(self) -> Beside<A, B> {
+    fn xor_substituted(self, others: Beside<A, B>) -> Beside<A, B> {
         Beside {
-            first: self.first.substitute(),
-            second: self.second.substitute(),
+            first: self.first.xor_substituted(others.first),
+            second: self.second.xor_substituted(others.second),
         }
     }
 }

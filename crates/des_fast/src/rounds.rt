@@ -3,14 +3,13 @@
 //! A half block is kept as its expansion E in a word of groups, as in `halves`.
 
 ghost use Rattle.std.specs.Prelude.{◌≡◌, ◌<◌, ◌≤◌, ℕ, [], length, slice_index_or, bit_xor};
-ghost use Rattle.des.specs.Bits.{select, xor_bits};
-ghost use Rattle.des.specs.Tables.{permutation};
-ghost use Rattle.des.specs.CipherFunction.{cipher_function, substitute};
+ghost use Rattle.des.specs.Bits.{xor_bits};
+ghost use Rattle.des.specs.CipherFunction.{cipher_function};
 ghost use Rattle.des.specs.Rounds.{after_rounds};
 ghost use Rattle.des_fast.specs.Slices.{InEachBlock};
 ghost use Rattle.des_fast.specs.Groups.{IsOfGroups, bits_of_groups, half_of};
 ghost use Rattle.des_fast.specs.HalfBlocks.{round_keys_of, first_halves, last_block};
-ghost use Rattle.des_fast.specs.SideBySide.{AreExpansions, in_direction};
+ghost use Rattle.des_fast.specs.SideBySide.{AreExpansions, IsSubstitutedInto, in_direction};
 
 use crate::halves::RoundKey;
 
@@ -44,21 +43,17 @@ pub trait Groups: Copy {
         ensures written { InEachBlock BLOCKS (λ b. slice_index_or blocks.new b []
             ≡ last_block (half_of (word b left), half_of (word b right))) };
 
-    /// These words, with those of the others xored in.
-    fn xor(self, others: Self) -> Self
-        ensures { InEachBlock BLOCKS (λ b. word b result ≡ bit_xor (word b self) (word b others)) };
-
     /// These words, each with a round key xored in.
     fn with_key(self, round_key: RoundKey) -> Self
         ensures { InEachBlock BLOCKS (λ b. word b result ≡ bit_xor (word b self) round_key.groups) };
 
-    /// The substitution by S1 to S8 of the 48 bits in each word, and P after it, as the word of
-    /// groups of its expansion E (FIPS 46-3, cipher function).
-    fn substitute(self) -> Self
-        requires { InEachBlock BLOCKS (λ b. IsOfGroups (word b self)) }
-        ensures expansions { AreExpansions BLOCKS word result }
-        ensures substituted { InEachBlock BLOCKS (λ b. half_of (word b result)
-            ≡ select permutation (substitute (bits_of_groups (word b self)))) };
+    /// These words, with the substitution by S1 to S8 of the 48 bits in each of the others xored in,
+    /// and P after it, as the word of groups of its expansion E (FIPS 46-3, cipher function). One
+    /// call has both, so that no more than a word of each block waits at a time.
+    fn xor_substituted(self, others: Self) -> Self
+        requires { InEachBlock BLOCKS (λ b. IsOfGroups (word b others)) }
+        ensures { InEachBlock BLOCKS (λ b.
+            IsSubstitutedInto (word b self) (word b others) (word b result)) };
 }
 
 /// Groups with the form of the rounds that is quickest for so many blocks.
@@ -106,7 +101,7 @@ fn next<G: Groups>(left: G, right: G, round_key: RoundKey) -> G
         ≡ xor_bits (half_of (G.word b left))
         (cipher_function (half_of (G.word b right)) (bits_of_groups round_key.groups))) }
 {
-    left.xor(right.with_key(round_key).substitute())
+    left.xor_substituted(right.with_key(round_key))
 }
 
 // Sixteen rounds in one direction. It is inlined if the direction is known, so that no round asks
@@ -203,7 +198,7 @@ impl<G: Groups> Keyed<G> {
         ensures key { result.round_key ≡ self.round_key }
     {
         Keyed {
-            groups: self.groups.xor(right.groups.substitute()),
+            groups: self.groups.xor_substituted(right.groups),
             round_key: self.round_key,
         }
     }

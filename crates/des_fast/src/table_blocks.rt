@@ -37,13 +37,6 @@ impl Groups for OneBlock {
     }
 
     #[inline(always)]
-    fn xor(self, others: OneBlock) -> OneBlock {
-        OneBlock {
-            word: self.word ^ others.word,
-        }
-    }
-
-    #[inline(always)]
     fn with_key(self, round_key: RoundKey) -> OneBlock {
         OneBlock {
             word: self.word ^ round_key.groups,
@@ -51,9 +44,9 @@ impl Groups for OneBlock {
     }
 
     #[inline(always)]
-    fn substitute(self) -> OneBlock {
+    fn xor_substituted(self, others: OneBlock) -> OneBlock {
         OneBlock {
-            word: substitute(self.word),
+            word: self.word ^ substitute(others.word),
         }
     }
 }
@@ -114,14 +107,6 @@ impl Groups for TwoBlocks {
     }
 
     #[inline(always)]
-    fn xor(self, others: TwoBlocks) -> TwoBlocks {
-        TwoBlocks {
-            first: self.first ^ others.first,
-            second: self.second ^ others.second,
-        }
-    }
-
-    #[inline(always)]
     fn with_key(self, round_key: RoundKey) -> TwoBlocks {
         TwoBlocks {
             first: self.first ^ round_key.groups,
@@ -130,10 +115,10 @@ impl Groups for TwoBlocks {
     }
 
     #[inline(always)]
-    fn substitute(self) -> TwoBlocks {
+    fn xor_substituted(self, others: TwoBlocks) -> TwoBlocks {
         TwoBlocks {
-            first: substitute(self.first),
-            second: substitute(self.second),
+            first: self.first ^ substitute(others.first),
+            second: self.second ^ substitute(others.second),
         }
     }
 }
@@ -199,15 +184,6 @@ impl Groups for ThreeBlocks {
     }
 
     #[inline(always)]
-    fn xor(self, others: ThreeBlocks) -> ThreeBlocks {
-        ThreeBlocks {
-            first: self.first ^ others.first,
-            second: self.second ^ others.second,
-            third: self.third ^ others.third,
-        }
-    }
-
-    #[inline(always)]
     fn with_key(self, round_key: RoundKey) -> ThreeBlocks {
         ThreeBlocks {
             first: self.first ^ round_key.groups,
@@ -217,11 +193,11 @@ impl Groups for ThreeBlocks {
     }
 
     #[inline(always)]
-    fn substitute(self) -> ThreeBlocks {
+    fn xor_substituted(self, others: ThreeBlocks) -> ThreeBlocks {
         ThreeBlocks {
-            first: substitute_in_rows(self.first),
-            second: substitute_in_rows(self.second),
-            third: substitute_in_rows(self.third),
+            first: self.first ^ substitute_in_rows(others.first),
+            second: self.second ^ substitute_in_rows(others.second),
+            third: self.third ^ substitute_in_rows(others.third),
         }
     }
 }

@@ -174,7 +174,7 @@ pub(crate) static TABLES: [[u64; 64]; 8] = [
 
 /// The substitution by S1 to S8 of the 48 bits in a word of groups, and P after it, as the word of
 /// groups of its expansion E (FIPS 46-3, cipher function).
-#[inline(always)]
+#[inline]
 pub(crate) fn substitute(word: u64) -> u64
     requires { IsOfGroups word }
     ensures tables { TABLES ≡ combined_tables }
@@ -195,7 +195,7 @@ pub(crate) fn substitute(word: u64) -> u64
 /// Substitutes so, with the entries joined in two rows, which is quicker for three blocks side by
 /// side: fewer steps, of which each waits for the one before it. The compiler begins the row of `^`
 /// with what the caller adds, and keeps that of `|` apart.
-#[inline(always)]
+#[inline]
 pub(crate) fn substitute_in_rows(word: u64) -> u64
     requires { IsOfGroups word }
     ensures expansion { IsExpansion result }
@@ -211,7 +211,7 @@ pub(crate) fn substitute_in_rows(word: u64) -> u64
 }
 
 // The groups of a word of groups, in their order.
-#[inline(always)]
+#[inline]
 fn groups_of(word: u64) -> [usize; 8]
     requires { IsOfGroups word }
     ensures within { All (λ group. group < 64) result }

@@ -149,18 +149,13 @@ impl Groups for u64 {
     }
 
     #[inline(always)]
-    fn xor(self, others: u64) -> u64 {
-        self ^ others
-    }
-
-    #[inline(always)]
     fn with_key(self, round_key: RoundKey) -> u64 {
         self ^ round_key.groups
     }
 
     #[inline(always)]
-    fn substitute(self) -> u64 {
-        substitute(self)
+    fn xor_substituted(self, others: u64) -> u64 {
+        self ^ substitute(others)
     }
 }
 

@@ -7,7 +7,7 @@
 //! A lookup by a shuffle would be one operation, but the default processor has none and would read
 //! memory.
 
-ghost use Rattle.std.specs.Prelude.{◌≡◌, ◌<◌, ◌≤◌, ◌+◌, ◌-◌, ◌*◌, ◌^◌, ◌++◌, ℕ, suc, List, length, slice_index};
+ghost use Rattle.std.specs.Prelude.{◌≡◌, ◌<◌, ◌≤◌, ◌+◌, ◌-◌, ◌*◌, ◌^◌, ◌++◌, ℕ, suc, List, length, slice_index, bit_xor};
 ghost use Rattle.std.specs.Int.{w64, to_be_bytes};
 ghost use Rattle.des.specs.Bits.{bits_of, bits_of_word, select};
 ghost use Rattle.des.specs.Tables.{expansion, permutation};
@@ -68,18 +68,13 @@ impl Groups for u64x4 {
     }
 
     #[inline(always)]
-    fn xor(self, others: u64x4) -> u64x4 {
-        self ^ others
-    }
-
-    #[inline(always)]
     fn with_key(self, round_key: RoundKey) -> u64x4 {
-        self.xor(same(round_key.groups))
+        xor(self, same(round_key.groups))
     }
 
     #[inline(always)]
-    fn substitute(self) -> u64x4 {
-        substitute(self)
+    fn xor_substituted(self, others: u64x4) -> u64x4 {
+        xor(self, substitute(others))
     }
 }
 
@@ -93,6 +88,13 @@ impl SixteenRounds for u64x4 {
     ) -> (u64x4, u64x4) {
         after_rounds(left, right, round_keys, deciphers)
     }
+}
+
+#[inline(always)]
+fn xor(first: u64x4, second: u64x4) -> u64x4
+    ensures { InEachBlock 4 (λ b. lane b result ≡ bit_xor (lane b first) (lane b second)) }
+{
+    first ^ second
 }
 
 // One word, for each block.
