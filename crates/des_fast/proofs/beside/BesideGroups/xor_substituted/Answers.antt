@@ -1,6 +1,5 @@
-use Rattle.std.proofs.Common.{ℕ, ◌+◌, ◌-◌, subst, inl, inr, arith}
-use Rattle.std.proofs.lemmas.Bool.{cases_lt}
-use Rattle.des_fast.proofs.BesideWords.{word_beside-first, word_beside-second}
+use Rattle.std.proofs.Common.{◌+◌, arith}
+use Rattle.des_fast.proofs.BesideWords.{word_beside-second}
 use Rattle.des_fast.proofs.beside.BesideGroups.xor_substituted.Goals as goal
 
 pub xor_substituted-requires-2 : goal.xor_substituted-requires-2
