@@ -57,8 +57,8 @@ pub(crate) fn process_side_by_side<G: SixteenRounds, A: BlockTransform>(
     process_groups::<G, A>(blocks, passes);
 }
 
-/// Takes two to four blocks through passes as four side by side: the last block is repeated, and what
-/// becomes of that is not used.
+/// Takes two to four blocks through passes as four side by side: places after the last block repeat
+/// it.
 pub(crate) fn process_padded<A: BlockTransform>(blocks: &mut [[u8; 8]], passes: &A)
     requires some { 1 ≤ length blocks.old }
     requires few { length blocks.old ≤ 4 }
@@ -72,11 +72,10 @@ pub(crate) fn process_padded<A: BlockTransform>(blocks: &mut [[u8; 8]], passes: 
         blocks[last],
     ];
     process_side_by_side::<u64x4, A>(&mut four, passes);
-    // The last place first: places after the last block repeat it, and are written over.
-    blocks[last] = four[3];
-    blocks[last.min(2)] = four[2];
-    blocks[last.min(1)] = four[1];
     blocks[0] = four[0];
+    blocks[last.min(1)] = four[1];
+    blocks[last.min(2)] = four[2];
+    blocks[last] = four[3];
 }
 
 /// Takes one block through passes.
