@@ -3,7 +3,7 @@
 ghost use Rattle.std.specs.Prelude.{◌≡◌, ◌≤◌, ℕ, length, map};
 
 use crate::beside::Beside;
-use crate::lists::{BlockTransform, process_one, process_padded, process_side_by_side};
+use crate::side_by_side::{BlockTransform, process_one, process_padded, process_side_by_side};
 use crate::table_blocks::{OneBlock, ThreeBlocks, TwoBlocks};
 
 /// How S-boxes are looked up.

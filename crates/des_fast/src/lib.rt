@@ -25,6 +25,7 @@ mod permutations;
 pub mod round_keys;
 mod rounds;
 mod schedule;
+mod side_by_side;
 pub mod single;
 mod slices;
 mod table_blocks;

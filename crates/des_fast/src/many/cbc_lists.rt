@@ -10,7 +10,8 @@ ghost use Rattle.des_fast.specs.SpreadKeys.{AreSlicesFor};
 
 use super::{LARGEST_BATCH, Slice, process};
 use crate::box_lookup::{NoTables, Tables};
-use crate::lists::{self, BlockTransform};
+use crate::lists;
+use crate::side_by_side::BlockTransform;
 use crate::slices::PassSlices;
 use des::cbc::{self, ListDecryption};
 

@@ -1,7 +1,7 @@
 -- The blocks side by side are answered, each from its halves to its last ones.
 use Rattle.std.proofs.Common.{◌<◌, sym, ◌∙◌, arith}
 use Rattle.des_fast.proofs.AnsweredBatches.{answered-at}
-use Rattle.des_fast.proofs.lists.process_groups.Goals as goal
+use Rattle.des_fast.proofs.side_by_side.process_groups.Goals as goal
 
 pub returns : goal.returns
 returns g c =
