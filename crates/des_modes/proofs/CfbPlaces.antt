@@ -7,7 +7,7 @@ use Rattle.des_modes.specs.Streams.{Xors}
 use Rattle.des_modes.specs.Cfb.{block_bit, cfb_bits, cfb_stream, input_block}
 use Rattle.des_modes.specs.States.{HoldsLastBits, IsCfbAt}
 use Rattle.des_modes.specs.declared.cfb.Register.{Register}
-use Rattle.des_modes.proofs.Pieces.{GoesByFront, Directed, ByText, Xors-directed, Xors-single, texts-map, bits_undone}
+use Rattle.des_modes.proofs.Pieces.{GoesByFront, ByText, Xors-single, texts-map}
 use Rattle.des.specs.Bits.{bits_of_bytes, xor}
 use Rattle.des.specs.Blocks.{block_of_bits}
 use Rattle.des.specs.Laws.BitLists.{length-bits_of_bytes}
@@ -198,13 +198,12 @@ module _ (E : List ℕ → List ℕ) (iv : List ℕ) (c : List Bool) (register :
 pub ByText-bit : (E : List ℕ → List ℕ) (iv old new : List ℕ) (direction : Direction) (x y : Bool) → length old ≡ 8
     → bits_of_bytes new ≡ drop 1 (bits_of_bytes old ++ ciphertext direction x y ∷ [])
     → y ≡ xor x (block_bit (E (block_of_bits (bits_of_bytes old))) 0)
-    → Directed direction (ByText xor false (HoldsLastBits iv) (cfb_bits 1 E iv) old new) (x ∷ []) (y ∷ [])
+    → ByText xor false (HoldsLastBits iv) (cfb_bits 1 E iv) direction old new (x ∷ []) (y ∷ [])
 ByText-bit E iv old new direction x y wide shifted is =
     let text = (texts-map (λ (bit : Bool). bit ∷ []) direction x y).1 in record {
       goes = λ t at. (
         register-further (bits_of_bytes iv) t _ (bits_of_bytes old) (bits_of_bytes new) at
             (subst (λ (more : List Bool). bits_of_bytes new ≡ drop (length more) (bits_of_bytes old ++ more)) text shifted),
-        Xors-directed direction (length t) _ (x ∷ []) (y ∷ []) bits_undone
-            (Xors-single (length t) _ x y (is ∙ ap (xor x) (sym (cfb_bits-next E iv t old wide at _)))),
+        Xors-single (length t) _ x y (is ∙ ap (xor x) (sym (cfb_bits-next E iv t old wide at _))),
       );
     }

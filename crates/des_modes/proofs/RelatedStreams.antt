@@ -3,7 +3,7 @@
 use Rattle.std.proofs.Common.{◌≡◌, ℕ, zero, suc, ◌+◌, ◌*◌, ◌<◌, ◌≤◌, List, ◌++◌, length, drop, refl, sym, ap, arith, length-append, length-drop, length-take-le, ◌-◌, ◌/◌, ◌%◌, ◌==◌, get_or, bit_xor, ap₂, ◌∙◌}
 use Rattle.std.proofs.lemmas.List.Elements.{All-append, All-take, All-drop}
 use Rattle.des.specs.Blocks.{AreBytes, IsBlock, block_of_bits}
-use Rattle.des.specs.Relations.{IsGraphOf}
+use Rattle.des.specs.Relations.{AgreeOnBlocks, IsGraphOf}
 use Rattle.des.specs.Laws.BlockBits.{block_of_bits-bits_of_bytes}
 use Rattle.des_modes.specs.Cfb.{Cfb, CfbBits, block_bit, cfb_bits, cfb_stream, input_bits, input_block}
 use Rattle.des_modes.specs.Streams.{Under}
@@ -16,12 +16,12 @@ use Rattle.des.specs.Laws.BitLists.{length-bits_of_bytes}
 use Rattle.des.proofs.BitParts.{bit_at-xor}
 use Rattle.des_modes.proofs.BitPlaces.{bits-window, block_bit-at, block_bit-of_byte}
 
--- by the graph of an encryption
-pub Under-from : {Answers : List ℕ → List ℕ → Type 0} {Made : (List ℕ → List ℕ) → Type 0} (encryption : List ℕ → List ℕ)
-    → IsGraphOf encryption Answers → Made encryption → Under Answers Made
-Under-from encryption graph made = record {
-  encryption = encryption;
-  answered = λ block is_block. (graph block (encryption block)).1 (is_block, refl);
+-- by an encryption that agrees with one of which the relation is the graph
+pub Under-from : {Encrypts : List ℕ → List ℕ → Type 0} {Made : (List ℕ → List ℕ) → Type 0} (e k : List ℕ → List ℕ)
+    → AgreeOnBlocks e k → IsGraphOf e Encrypts → Made k → Under Encrypts Made
+Under-from e k alike graph made = record {
+  encryption = k;
+  encrypts = λ block is. (graph block (k block)).1 (is, alike block is);
   made = made;
 }
 
@@ -30,7 +30,7 @@ pub Under-weaker : {P Q : List ℕ → List ℕ → Type 0} {Made : (List ℕ �
     → Under P Made → Under Q Made
 Under-weaker weaker under = record {
   encryption = under.encryption;
-  answered = λ block is. weaker block (under.encryption block) (under.answered block is);
+  encrypts = λ block is. weaker block (under.encryption block) (under.encrypts block is);
   made = under.made;
 }
 

@@ -159,8 +159,8 @@ unwrapped-one {E} {D} laws first words other (a ∷ wrapped) is_first are too si
     let n : ℕ = length other + 1 in
     let made : ℕ = 6 * (length (icv3 ∷ other) - 1) in
     let other_laws : Undoes under.encryption D = record {
-      undone = λ block is. ap D (under.answered block is) ∙ laws.undone block is;
-      is_block = λ block is. rw (under.answered block is) (laws.is_block block is);
+      undone = λ block is. ap D (under.encrypts block is) ∙ laws.undone block is;
+      is_block = λ block is. rw (under.encrypts block is) (laws.is_block block is);
     } in
     let count : length other ≡ length words =
     omega (arith, ap length under.made, (tw_steps-keep other_laws made n (icv3 ∷ other) (checked other too)).0) in

@@ -5,12 +5,13 @@ use Rattle.des.specs.Bits.{bits_of_bytes, xor}
 use Rattle.des.specs.Laws.BitLists.{length-bits_of_bytes}
 use Rattle.des_modes.specs.Cfb.{first_bits}
 use Rattle.des_modes.specs.Directions.{ciphertext}
-use Rattle.des_modes.proofs.Pieces.{ByText-begun, ByText-directed, texts-map, InPlace-set, Xors-whole}
+use Rattle.des_modes.specs.States.{HoldsLastBits}
+use Rattle.des_modes.proofs.Pieces.{ByText-none, ByText-joined, texts-map, InPlace-set, Xors-directed, Xors-whole, bits_undone}
 use Rattle.des_modes.proofs.CfbPlaces.{ByText-bit, cfb_bits-front}
 use Rattle.des_modes.proofs.cfb_bits.BitRegister.apply.Goals as goal
 
 pub bits-init : goal.bits-init
-bits-init g c iv = record { done = ByText-begun c.args.direction c.args.self.now.register; rest = refl }
+bits-init g c iv = record { done = ByText-none c.args.direction c.args.self.now.register; rest = refl }
 
 pub bits-preserved : goal.bits-preserved
 bits-preserved g c iv =
@@ -23,7 +24,7 @@ bits-preserved g c iv =
     let bit : c.ciphertext.result ≡ ciphertext c.args.direction (get_or now place false) (xor (get_or now place false) c.key_bit.result) =
     c.ciphertext.ensures ∙ ap₂ (ciphertext c.args.direction) c.bit_at-old.ensures written in
     InPlace-set _ false c.xor_bit.ensures within
-    (λ done. ByText-directed c.args.direction _ _ _ _ (λ t at. cfb_bits-front E iv t c.bits.self.register c.key_bit.ensures.wide at) done
+    (λ done. ByText-joined c.args.direction (λ t at. cfb_bits-front E iv t c.bits.self.register c.key_bit.ensures.wide at) done
     (ByText-bit E iv c.bits.self.register c.advance.new.self.register c.args.direction _ _ c.key_bit.ensures.wide (rw bit at c.advance.ensures)
     (ap (xor (get_or now place false)) c.key_bit.ensures.bit))) (c.bits.invariant iv)
 
@@ -32,12 +33,14 @@ returns g c =
     let E : List ℕ → List ℕ = g.C.BlockCipherEncrypt.encrypted c.args.cipher.now in
     let all : c.bits.place ≡ c.args.bits = omega arith in
     let so_far = λ (iv : List ℕ). rw all at (c.bits.invariant iv) in
+    let xored = λ (iv : List ℕ) (d : List Bool) (is : HoldsLastBits iv d c.args.self.now.register).
+    Xors-directed c.args.direction _ _ _ _ bits_undone ((so_far iv).done.goes d is).1 in
     let texts = texts-map (first_bits c.args.bits) c.args.direction c.args.bytes.now c.bits.bytes in
     record {
       after = λ iv d is. rw texts.1 ((so_far iv).done.goes d is).0;
-      xored = λ iv d is. rw (texts.0, texts.1) ((so_far iv).done.goes d is).1;
+      xored = λ iv d is. rw (texts.0, texts.1) (xored iv d is);
       whole = λ iv p d is begun.
           rw (texts.0, texts.1)
-          (Xors-whole (cfb_bits-front E iv d c.args.self.now.register (omega arith) is) begun ((so_far iv).done.goes d is).1);
+          (Xors-whole (cfb_bits-front E iv d c.args.self.now.register (omega arith) is) begun (xored iv d is));
       rest = (so_far []).rest;
     }
