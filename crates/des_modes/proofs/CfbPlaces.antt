@@ -1,5 +1,5 @@
 -- The shift register along a ciphertext, by bytes and by bits.
-use Rattle.std.proofs.Common.{◌≡◌, ℕ, ◌+◌, ◌*◌, ◌/◌, ◌%◌, ◌<◌, ◌≤◌, List, [], ◌++◌, length, get_or, take, drop, bit_xor, ap, ap₂, subst, sym, ◌∙◌, arith, append_assoc, length-append, length-drop, false, Bool, ◌∷◌}
+use Rattle.std.proofs.Common.{◌≡◌, ℕ, ◌+◌, ◌*◌, ◌/◌, ◌%◌, ◌<◌, ◌≤◌, List, [], ◌++◌, length, get_or, take, drop, bit_xor, refl, ap, ap₂, subst, sym, ◌∙◌, arith, append_assoc, length-append, length-drop, false, Bool, ◌∷◌}
 use Rattle.std.proofs.lemmas.List.{drop-drop, drop-append-le, take-append-le, take_all}
 use Rattle.std.proofs.lemmas.Nat.{div_below}
 use Rattle.std.proofs.Math.Nat.{mul-div-le, mul-add, mul-add-div, mod-add-mod, mod-eq_of_lt, div-add-mod, div-eq_of_lt, div-one, mod-one}
@@ -59,18 +59,19 @@ module _ (s : ℕ) (E : List ℕ → List ℕ) (iv c : List ℕ) (state : Regist
   same_block more = ap E (sym (window-front 8 (s * (length c / s)) iv c more length-iv (mul-div-le (length c) s)))
 
   -- between segments the register is the input block of the next
+  between : state.used ≡ 0 → length c ≡ s * (length c / s)
+  between unused = omega (arith, is.used, div-add-mod (length c) s)
+
   pub input_block-next : state.used ≡ 0 → state.register ≡ input_block s iv c (length c / s)
   input_block-next unused =
-      let place : length c ≡ s * (length c / s) = omega (arith, is.used, div-add-mod (length c) s) in
       sym (take_all 8 state.register (omega arith)) ∙ ap (take 8) is.register
-      ∙ ap (λ (n : ℕ). take 8 (drop n (iv ++ c))) place
+      ∙ ap (λ (n : ℕ). take 8 (drop n (iv ++ c))) (between unused)
 
   -- so is the one before a segment of what comes
   input_block-beyond : (bytes : List ℕ) (j : ℕ) → state.used ≡ 0
       → take 8 (drop (state.segment * j) (state.register ++ bytes)) ≡ input_block s iv (c ++ bytes) (length c / s + j)
   input_block-beyond bytes j unused =
-      let place : length c + s * j ≡ s * (length c / s + j) =
-      omega (arith, is.used, mul-add s (length c / s) j, div-add-mod (length c) s) in
+      let place : length c + s * j ≡ s * (length c / s + j) = omega (arith, between unused, mul-add s (length c / s) j) in
       ap₂ (λ (m : ℕ) (xs : List ℕ). take 8 (drop (m * j) (xs ++ bytes))) is.segment is.register
       ∙ ap (take 8) (sym (drop-further iv c bytes (length c) (s * j) (omega (arith, length-append iv c))))
       ∙ ap (λ (n : ℕ). take 8 (drop n (iv ++ (c ++ bytes)))) place
@@ -84,32 +85,24 @@ module _ (s : ℕ) (E : List ℕ → List ℕ) (iv c : List ℕ) (state : Regist
   place_at : (i : ℕ) → (state.used + i) % s ≡ (length c + i) % s
   place_at i = ap (λ (m : ℕ). (m + i) % s) is.used ∙ mod-add-mod (length c) s i
 
+  xored_at : (t : List ℕ) (i x m : ℕ) (output : List ℕ) → 1 ≤ s
+      → output ≡ E (input_block s iv t (length c / s + (state.used + i) / s)) → m ≡ (state.used + i) % s
+      → bit_xor x (get_or output m 0) ≡ bit_xor x (cfb_stream s E iv t (length c + i))
+  xored_at t i x m output some made place =
+      ap₂ (λ (block : List ℕ) (n : ℕ). bit_xor x (get_or block n 0))
+      (made ∙ ap (λ (n : ℕ). E (input_block s iv t n)) (segment_at i some)) (place ∙ place_at i)
+
   IsCfbAt-further : {next : Register} (bytes : List ℕ) → next.segment ≡ state.segment
       → next.register ≡ drop (length bytes) (state.register ++ bytes) → next.used ≡ (state.used + length bytes) % state.segment
       → (1 ≤ next.used → next.output ≡ E (input_block s iv (c ++ bytes) ((length c + length bytes) / s)))
       → IsCfbAt s E iv (c ++ bytes) next
-  IsCfbAt-further bytes segment shifted used made =
-      let size : length c + length bytes ≡ length (c ++ bytes) = sym (length-append c bytes) in record {
-        segment = segment ∙ is.segment;
-        register = register-further iv c bytes state.register _ is.register shifted;
-        used =
-            used ∙ ap (λ (k : ℕ). (state.used + length bytes) % k) is.segment ∙ place_at (length bytes)
-            ∙ ap (λ (m : ℕ). m % s) size;
-        output = λ some. made some ∙ ap (λ (m : ℕ). E (input_block s iv (c ++ bytes) (m / s))) size;
-      }
-
-  XorsFrom-outputs : (more old new : List ℕ) (outputs : ℕ → List ℕ) → 1 ≤ s → length new ≡ length old
-      → ((i : ℕ) → i < length old
-      → outputs ((state.used + i) / s) ≡ E (input_block s iv (c ++ more) (length c / s + (state.used + i) / s)))
-      → ((i : ℕ) → i < length old → get_or new i 0
-      ≡ bit_xor (get_or old i 0) (get_or (outputs ((state.used + i) / s)) ((state.used + i) % s) 0))
-      → Xors bit_xor 0 (length c) (cfb_stream s E iv (c ++ more)) old new
-  XorsFrom-outputs more old new outputs some same made xored = record {
-    count = same;
-    xored = λ i below.
-        xored i below
-        ∙ ap (bit_xor (get_or old i 0)) (ap₂ (λ (xs : List ℕ) (m : ℕ). get_or xs m 0)
-        (made i below ∙ ap (λ (m : ℕ). E (input_block s iv (c ++ more) m)) (segment_at i some)) (place_at i));
+  IsCfbAt-further bytes segment shifted used made = record {
+    segment = segment ∙ is.segment;
+    register = register-further iv c bytes state.register _ is.register shifted;
+    used =
+        rw (length-append c bytes)
+        (used ∙ ap (λ (k : ℕ). (state.used + length bytes) % k) is.segment ∙ place_at (length bytes));
+    output = rw (length-append c bytes) made;
   }
 
   -- in a segment
@@ -127,13 +120,15 @@ module _ (s : ℕ) (E : List ℕ → List ℕ) (iv c : List ℕ) (state : Regist
       → output ≡ E (input_block s iv c (length c / s)) → length new ≡ length old
       → ((i : ℕ) → i < length old → get_or new i 0 ≡ bit_xor (get_or old i 0) (get_or output (state.used + i) 0))
       → Xors bit_xor 0 (length c) (cfb_stream s E iv (c ++ more)) old new
-  XorsFrom-within more output old new some within made same xored =
-      let inside : (i : ℕ) → i < length old → state.used + i < s = λ i below. omega (arith, is.segment) in
-      XorsFrom-outputs more old new (λ j. output) some same
-      (λ i below.
-      let here : length c / s ≡ length c / s + (state.used + i) / s = omega (arith, div-eq_of_lt (inside i below)) in
-      made ∙ same_block more ∙ ap (λ (m : ℕ). E (input_block s iv (c ++ more) m)) here)
-      (λ i below. xored i below ∙ ap (λ (m : ℕ). bit_xor (get_or old i 0) (get_or output m 0)) (sym (mod-eq_of_lt (inside i below))))
+  XorsFrom-within more output old new some within made same xored = record {
+    count = same;
+    xored = λ i below.
+        let inside : state.used + i < s = omega (arith, is.segment) in
+        let here : length c / s ≡ length c / s + (state.used + i) / s = omega (arith, div-eq_of_lt inside) in
+        xored i below
+        ∙ xored_at (c ++ more) i (get_or old i 0) (state.used + i) output some
+        (made ∙ same_block more ∙ ap (λ (m : ℕ). E (input_block s iv (c ++ more) m)) here) (sym (mod-eq_of_lt inside));
+  }
 
   -- from the beginning of a segment on
   pub IsCfbAt-beyond : {next : Register} (bytes : List ℕ) → 1 ≤ s → state.used ≡ 0 → next.segment ≡ state.segment
@@ -145,8 +140,8 @@ module _ (s : ℕ) (E : List ℕ → List ℕ) (iv c : List ℕ) (state : Regist
       let place : length bytes ≡ state.used + length bytes = omega arith in
       IsCfbAt-further bytes segment shifted (used ∙ ap (λ (m : ℕ). m % state.segment) place) (λ more.
       made more ∙ ap E (input_block-beyond bytes (length bytes / state.segment) unused)
-      ∙ ap (λ (m : ℕ). E (input_block s iv (c ++ bytes) (length c / s + m))) (ap₂ ◌/◌ place is.segment)
-      ∙ ap (λ (m : ℕ). E (input_block s iv (c ++ bytes) m)) (segment_at (length bytes) some))
+      ∙ ap (λ (m : ℕ). E (input_block s iv (c ++ bytes) m))
+      (ap₂ (λ (m k : ℕ). length c / s + m / k) place is.segment ∙ segment_at (length bytes) some))
 
   pub XorsFrom-beyond : (bytes new : List ℕ) (blocks : List (List ℕ)) → 1 ≤ s → state.used ≡ 0
       → length bytes ≤ state.segment * length blocks
@@ -155,15 +150,16 @@ module _ (s : ℕ) (E : List ℕ → List ℕ) (iv c : List ℕ) (state : Regist
       → Xors bit_xor 0 0 (λ i. get_or (get_or blocks (i / state.segment) []) (i % state.segment) 0) bytes new
       → Xors bit_xor 0 (length c) (cfb_stream s E iv (c ++ bytes)) bytes new
   XorsFrom-beyond bytes new blocks some unused enough made xors =
-      let all : length bytes ≤ s * length blocks = rw is.segment at enough in
-      XorsFrom-outputs bytes bytes new (λ j. get_or blocks j []) some xors.count
-      (λ i below.
-      made _ (div_below (state.used + i) s (length blocks) some (omega arith))
-      ∙ ap E (input_block-beyond bytes ((state.used + i) / s) unused))
-      (λ i below.
-      let place : 0 + i ≡ state.used + i = omega arith in
-      xors.xored i below
-      ∙ ap₂ (λ (m k : ℕ). bit_xor (get_or bytes i 0) (get_or (get_or blocks (m / k) []) (m % k) 0)) place is.segment)
+      let all : length bytes ≤ s * length blocks = rw is.segment at enough in record {
+        count = xors.count;
+        xored = λ i below.
+            let place : 0 + i ≡ state.used + i = omega arith in
+            let j : ℕ = (state.used + i) / s in
+            xors.xored i below
+            ∙ ap₂ (λ (m k : ℕ). bit_xor (get_or bytes i 0) (get_or (get_or blocks (m / k) []) (m % k) 0)) place is.segment
+            ∙ xored_at (c ++ bytes) i (get_or bytes i 0) _ (get_or blocks j []) some
+            (made j (div_below (state.used + i) s (length blocks) some (omega arith)) ∙ ap E (input_block-beyond bytes j unused)) refl;
+      }
 
 -- ---- bits, from a place behind c on
 
