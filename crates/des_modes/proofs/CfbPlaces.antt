@@ -47,7 +47,7 @@ module _ (s : ℕ) (E : List ℕ → List ℕ) (iv c : List ℕ) (state : Regist
     (is : IsCfbAt s E iv c state) where
   -- the initialization vector has the register's width
   length-iv : length iv ≡ 8
-  length-iv = omega (arith, ap length is.register, length-drop (length c) (iv ++ c), length-append iv c)
+  length-iv = omega (arith, ap length is.place.register, length-drop (length c) (iv ++ c), length-append iv c)
 
   pub cfb_stream-front : GoesByFront (cfb_stream s E iv)
   cfb_stream-front t more i below =
@@ -60,11 +60,11 @@ module _ (s : ℕ) (E : List ℕ → List ℕ) (iv c : List ℕ) (state : Regist
 
   -- between segments the register is the input block of the next
   between : state.used ≡ 0 → length c ≡ s * (length c / s)
-  between unused = omega (arith, is.used, div-add-mod (length c) s)
+  between unused = omega (arith, is.place.used, div-add-mod (length c) s)
 
   pub input_block-next : state.used ≡ 0 → state.register ≡ input_block s iv c (length c / s)
   input_block-next unused =
-      sym (take_all 8 state.register (omega arith)) ∙ ap (take 8) is.register
+      sym (take_all 8 state.register (omega arith)) ∙ ap (take 8) is.place.register
       ∙ ap (λ (n : ℕ). take 8 (drop n (iv ++ c))) (between unused)
 
   -- so is the one before a segment of what comes
@@ -72,18 +72,18 @@ module _ (s : ℕ) (E : List ℕ → List ℕ) (iv c : List ℕ) (state : Regist
       → take 8 (drop (state.segment * j) (state.register ++ bytes)) ≡ input_block s iv (c ++ bytes) (length c / s + j)
   input_block-beyond bytes j unused =
       let place : length c + s * j ≡ s * (length c / s + j) = omega (arith, between unused, mul-add s (length c / s) j) in
-      ap₂ (λ (m : ℕ) (xs : List ℕ). take 8 (drop (m * j) (xs ++ bytes))) is.segment is.register
+      ap₂ (λ (m : ℕ) (xs : List ℕ). take 8 (drop (m * j) (xs ++ bytes))) is.segment is.place.register
       ∙ ap (take 8) (sym (drop-further iv c bytes (length c) (s * j) (omega (arith, length-append iv c))))
       ∙ ap (λ (n : ℕ). take 8 (drop n (iv ++ (c ++ bytes)))) place
 
   -- i bytes further on
   segment_at : (i : ℕ) → 1 ≤ s → length c / s + (state.used + i) / s ≡ (length c + i) / s
   segment_at i some =
-      let split : s * (length c / s) + (state.used + i) ≡ length c + i = omega (arith, is.used, div-add-mod (length c) s) in
+      let split : s * (length c / s) + (state.used + i) ≡ length c + i = omega (arith, is.place.used, div-add-mod (length c) s) in
       sym (mul-add-div some (length c / s) (state.used + i)) ∙ ap (λ (m : ℕ). m / s) split
 
   place_at : (i : ℕ) → (state.used + i) % s ≡ (length c + i) % s
-  place_at i = ap (λ (m : ℕ). (m + i) % s) is.used ∙ mod-add-mod (length c) s i
+  place_at i = ap (λ (m : ℕ). (m + i) % s) is.place.used ∙ mod-add-mod (length c) s i
 
   xored_at : (t : List ℕ) (i x m : ℕ) (output : List ℕ) → 1 ≤ s
       → output ≡ E (input_block s iv t (length c / s + (state.used + i) / s)) → m ≡ (state.used + i) % s
@@ -98,11 +98,13 @@ module _ (s : ℕ) (E : List ℕ → List ℕ) (iv c : List ℕ) (state : Regist
       → IsCfbAt s E iv (c ++ bytes) next
   IsCfbAt-further bytes segment shifted used made = record {
     segment = segment ∙ is.segment;
-    register = register-further iv c bytes state.register _ is.register shifted;
-    used =
-        rw (length-append c bytes)
-        (used ∙ ap (λ (k : ℕ). (state.used + length bytes) % k) is.segment ∙ place_at (length bytes));
-    output = rw (length-append c bytes) made;
+    place = record {
+      register = register-further iv c bytes state.register _ is.place.register shifted;
+      used =
+          rw (length-append c bytes)
+          (used ∙ ap (λ (k : ℕ). (state.used + length bytes) % k) is.segment ∙ place_at (length bytes));
+      output = rw (length-append c bytes) made;
+    };
   }
 
   -- in a segment

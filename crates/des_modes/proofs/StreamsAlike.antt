@@ -40,13 +40,13 @@ module _ (e f : List ℕ → List ℕ) (alike : AgreeOnBlocks e f) where
 
     IsPlace-alike : (mode : Mode) (place : Place) → IsPlace mode e iv c place → IsPlace mode f iv c place
     IsPlace-alike Counter place at = at
-    IsPlace-alike OutputFeedback place (at, is, register, used) =
-        (at, record { block = is.block ∙ output_block-alike _; used = is.used }, register, used)
+    IsPlace-alike OutputFeedback place at = record { block = at.block ∙ output_block-alike _; used = at.used }
     IsPlace-alike BitFeedback place at = at
-    IsPlace-alike (CipherFeedback s) place (at, is, register, output, used) =
-        let made = λ (more : 1 ≤ at.used).
-        is.output more ∙ alike _ (IsBlock-input_block s iv c _ is_iv bytes (mul-div-le (length c) s)) in
-        (at, record { segment = is.segment; register = is.register; used = is.used; output = made }, register, output, used)
+    IsPlace-alike (CipherFeedback s) place at = record {
+      register = at.register;
+      used = at.used;
+      output = λ more. at.output more ∙ alike _ (IsBlock-input_block s iv c _ is_iv bytes (mul-div-le (length c) s));
+    }
 
     InMode-alike : (mode : Mode) (p : List ℕ) → InMode mode e iv p c → InMode mode f iv p c
     InMode-alike Counter p =

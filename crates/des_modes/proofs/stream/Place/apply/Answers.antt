@@ -19,62 +19,32 @@ returns-in-CipherFeedback-clause-fits g c =
 
 pub returns-in-Counter-clause-after : goal.returns-in-Counter-clause-after
 returns-in-Counter-clause-after g c =
-    rw c.in-Counter.is (λ iv d (at, is, register, used).
-    let after = c.apply_parts.ensures.after 0 iv d
-    (record { counter = c.from_be_bytes.ensures ∙ register ∙ is.counter; used = used ∙ is.used }) in
-    let fits : c.apply_parts.new.state.counter < 2 ^ 64 = omega (arith, after.counter) in (
-      c.apply_parts.new.state,
-      after,
-      ap (from_be_bytes w64) c.to_be_bytes-self.ensures ∙ from_be_bytes-to_be_bytes_8 _ fits,
-      refl,
-    ))
+    rw c.in-Counter.is (λ iv d at.
+    let after = c.apply_parts.ensures.after 0 iv d (record { counter = c.from_be_bytes.ensures ∙ at.counter; used = at.used }) in
+    let fits : c.apply_parts.new.state.counter < 2 ^ 64 = omega (arith, after.counter) in
+    record { counter = ap (from_be_bytes w64) c.to_be_bytes-self.ensures ∙ from_be_bytes-to_be_bytes_8 _ fits ∙ after.counter; used = after.used })
 
 pub returns-in-Counter-clause-made : goal.returns-in-Counter-clause-made
 returns-in-Counter-clause-made g c =
-    rw c.in-Counter.is (λ iv p d (at, is, register, used) made.
+    rw c.in-Counter.is (λ iv p d at made.
     Xors-append 0 (length d) _ p d _ _ (omega (arith, made.count)) made
-    (c.apply_parts.ensures.xored 0 iv d
-    (record { counter = c.from_be_bytes.ensures ∙ register ∙ is.counter; used = used ∙ is.used })))
+    (c.apply_parts.ensures.xored 0 iv d (record { counter = c.from_be_bytes.ensures ∙ at.counter; used = at.used })))
 
 pub returns-in-OutputFeedback-clause-after : goal.returns-in-OutputFeedback-clause-after
-returns-in-OutputFeedback-clause-after g c =
-    rw c.in-OutputFeedback.is (λ iv d (at, is, register, used). (
-      c.apply_parts-in-OutputFeedback.new.state,
-      c.apply_parts-in-OutputFeedback.ensures.after 0 iv d (record { block = register ∙ is.block; used = used ∙ is.used }),
-      refl,
-      refl,
-    ))
+returns-in-OutputFeedback-clause-after g c = rw c.in-OutputFeedback.is (c.apply_parts-in-OutputFeedback.ensures.after 0)
 
 pub returns-in-OutputFeedback-clause-made : goal.returns-in-OutputFeedback-clause-made
 returns-in-OutputFeedback-clause-made g c =
-    rw c.in-OutputFeedback.is (λ iv p d (at, is, register, used) made.
-    Xors-append 0 (length d) _ p d _ _ (omega (arith, made.count)) made
-    (c.apply_parts-in-OutputFeedback.ensures.xored 0 iv d (record { block = register ∙ is.block; used = used ∙ is.used })))
+    rw c.in-OutputFeedback.is (λ iv p d at made.
+    Xors-append 0 (length d) _ p d _ _ (omega (arith, made.count)) made (c.apply_parts-in-OutputFeedback.ensures.xored 0 iv d at))
 
 pub returns-in-CipherFeedback-clause-after : goal.returns-in-CipherFeedback-clause-after
 returns-in-CipherFeedback-clause-after g c =
-    rw c.in-CipherFeedback.is (λ iv d (at, is, register, output, used). (
-      c.apply-in-CipherFeedback.new.self,
-      c.apply-in-CipherFeedback.ensures.after _ iv d (record {
-        segment = refl;
-        register = register ∙ is.register;
-        used = used ∙ is.used;
-        output = λ more. output ∙ is.output (omega (arith, used, more));
-      }),
-      refl,
-      refl,
-      refl,
-    ))
+    rw c.in-CipherFeedback.is (λ iv d at. (c.apply-in-CipherFeedback.ensures.after _ iv d (record { segment = refl; place = at })).place)
 
 pub returns-in-CipherFeedback-clause-made : goal.returns-in-CipherFeedback-clause-made
 returns-in-CipherFeedback-clause-made g c =
-    rw c.in-CipherFeedback.is (λ iv p d (at, is, register, output, used) made.
-    c.apply-in-CipherFeedback.ensures.whole _ iv d p (record {
-      segment = refl;
-      register = register ∙ is.register;
-      used = used ∙ is.used;
-      output = λ more. output ∙ is.output (omega (arith, used, more));
-    }) made)
+    rw c.in-CipherFeedback.is (λ iv p d at. c.apply-in-CipherFeedback.ensures.whole _ iv d p (record { segment = refl; place = at }))
 
 pub returns-in-BitFeedback-clause-after_bits : goal.returns-in-BitFeedback-clause-after_bits
 returns-in-BitFeedback-clause-after_bits g c same iv d at unused = (

@@ -15,11 +15,9 @@ returns-clause-place c = λ encryption p d size bytes made.
       is_mode = refl;
       is_block = (omega arith, c.are_bytes.ensures);
       are_bytes = bytes;
-      place = (
-        c.at-counter.result,
-        rw many is,
-        ap (from_be_bytes w64) (c.new.ensures.register ∙ c.to_be_bytes.ensures) ∙ from_be_bytes-to_be_bytes_8 _ fits,
-        omega (arith, c.new.ensures.used, is.used),
-      );
+      place = rw many (record {
+        counter = ap (from_be_bytes w64) (c.new.ensures.register ∙ c.to_be_bytes.ensures) ∙ from_be_bytes-to_be_bytes_8 _ fits ∙ is.counter;
+        used = omega (arith, c.new.ensures.used, is.used);
+      });
       made = made;
     }
