@@ -25,15 +25,6 @@ Under-from e k alike graph made = record {
   made = made;
 }
 
--- by a relation that follows from the first
-pub Under-weaker : {P Q : List ℕ → List ℕ → Type 0} {Made : (List ℕ → List ℕ) → Type 0} → ((x y : List ℕ) → P x y → Q x y)
-    → Under P Made → Under Q Made
-Under-weaker weaker under = record {
-  encryption = under.encryption;
-  encrypts = λ block is. weaker block (under.encryption block) (under.encrypts block is);
-  made = under.made;
-}
-
 -- the registers are blocks
 pub IsBlock-input_block : (s : ℕ) (iv c : List ℕ) (j : ℕ) → IsBlock iv → AreBytes c → s * j ≤ length c
     → IsBlock (input_block s iv c j)
