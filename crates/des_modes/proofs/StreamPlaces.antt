@@ -1,8 +1,7 @@
 -- Streams mode by mode: where they begin.
-use Rattle.std.proofs.Common.{◌≡◌, ℕ, inl, inr, ◌+◌, ◌/◌, ◌%◌, ◌^◌, ◌<◌, ◌≤◌, List, [], ap, sym, arith, ◌-◌, length, drop, ◌++◌, ◌∙◌}
+use Rattle.std.proofs.Common.{◌≡◌, ℕ, inl, inr, ◌+◌, ◌/◌, ◌%◌, ◌^◌, ◌<◌, ◌≤◌, List, [], ap, sym, arith, length, drop, ◌++◌, ◌∙◌}
 use Rattle.std.proofs.Math.Nat.{zero-mod}
-use Rattle.std.proofs.lemmas.Bool.{ne_eqb}
-use Rattle.std.proofs.lemmas.Bool.Decides.{eqb_tells}
+use Rattle.std.proofs.lemmas.Bool.Decides.{nat_tests}
 use Rattle.std.proofs.lemmas.List.{append-nil}
 use Rattle.std.specs.Int.{w64, from_be_bytes}
 use Rattle.des.specs.Bits.{bits_of_bytes}
@@ -12,7 +11,7 @@ use Rattle.des_modes.specs.Modes.{InMode, IsMode, mode_by}
 use Rattle.des_modes.specs.States.{IsPlace, size_of}
 use Rattle.des_modes.specs.declared.modes.Mode.{Mode}
 use Rattle.des_modes.specs.declared.modes.Mode.TheVariants.{Counter, OutputFeedback, BitFeedback, CipherFeedback}
-use Rattle.des_modes.specs.declared.modes.TheConstants.{CTR, OFB, CFB1}
+use Rattle.des_modes.specs.declared.modes.TheConstants.{CFB1}
 use Rattle.des_modes.specs.declared.stream.Place.{Place}
 use Rattle.des_modes.proofs.Pieces.{Xors-none}
 
@@ -20,13 +19,7 @@ use Rattle.des_modes.proofs.Pieces.{Xors-none}
 pub size_of-mode_by : (number : ℕ) → IsMode number → (1 ≤ size_of (mode_by number)) × (size_of (mode_by number) ≤ 8)
 size_of-mode_by number (inl is) = rw is (omega arith, omega arith)
 size_of-mode_by number (inr (inl is)) = rw is (omega arith, omega arith)
-size_of-mode_by number (inr (inr within)) = elim (eqb_tells number CFB1) [
-  | inl same ↦ rw same.1 (omega arith, omega arith)
-  | inr differs ↦
-      let not_ctr = ne_eqb number CTR (λ is. omega (arith, is, within.0)) in
-      let not_ofb = ne_eqb number OFB (λ is. omega (arith, is, within.0)) in
-      rw (not_ctr, not_ofb, differs.0) (omega (arith, within.0, differs.1), omega (arith, within.1))
-]
+size_of-mode_by number (inr (inr within)) = grind (arith, nat_tests)
 
 pub InMode-none : (mode : Mode) (encryption : List ℕ → List ℕ) (iv : List ℕ) → InMode mode encryption iv [] []
 unfolding bits_of_bytes
@@ -38,11 +31,7 @@ InMode-none (CipherFeedback s) encryption iv = Xors-none 0 _
 -- before a segment of cipher feedback
 pub mode_by-cfb : (s : ℕ) → 1 ≤ s → mode_by (CFB1 + s) ≡ CipherFeedback s
 mode_by-cfb s some =
-    let not_ctr = ne_eqb (CFB1 + s) CTR (λ is. omega (arith, is)) in
-    let not_ofb = ne_eqb (CFB1 + s) OFB (λ is. omega (arith, is)) in
-    let not_bits = ne_eqb (CFB1 + s) CFB1 (λ is. omega (arith, is)) in
-    let bytes : CFB1 + s - CFB1 ≡ s = omega arith in
-    rw (not_ctr, not_ofb, not_bits) (ap CipherFeedback bytes)
+    grind (arith, nat_tests)
 
 pub IsPlace-cfb : (s : ℕ) (encryption : List ℕ → List ℕ) (iv c : List ℕ) (place : Place) → length c % s ≡ 0
     → place.register ≡ drop (length c) (iv ++ c) → place.used ≡ 0 → IsPlace (CipherFeedback s) encryption iv c place
