@@ -87,8 +87,7 @@ mask_bits true a below =
       λ k other. ap (λ (m : ℕ). bit_at m k == 1) one ∙ ap (λ (m : ℕ). m == 1) (bit_at-pow_other a k other),
     )
 mask_bits false a below =
-    let none : 0 * 2 ^ a % 256 ≡ 0 = omega arith in
-    let at = λ (k : ℕ). ap (λ (m : ℕ). bit_at m k == 1) none ∙ ap (λ (m : ℕ). m == 1) (bit_at-zero k) in (at a, λ k other. at k)
+    let none : 0 * 2 ^ a % 256 ≡ 0 = omega arith in rw none (ap (λ (m : ℕ). m == 1) (bit_at-zero a), λ k other. ap (λ (m : ℕ). m == 1) (bit_at-zero k))
 
 xor-none : (bit : Bool) → xor bit false ≡ bit
 xor-none true = refl

@@ -19,27 +19,21 @@ use Rattle.des_modes.specs.declared.direction.Direction.{Direction}
 pub drop-further : {X : Type 0} (iv c more : List X) (n m : ℕ) → n ≤ length (iv ++ c)
     → drop (n + m) (iv ++ (c ++ more)) ≡ drop m (drop n (iv ++ c) ++ more)
 drop-further iv c more n m within =
-    ap (drop (n + m)) (sym (append_assoc iv c more))
-    ∙ sym (drop-drop m n ((iv ++ c) ++ more))
-    ∙ ap (drop m) (drop-append-le n (iv ++ c) more within)
+    rw (← append_assoc iv c more, ← drop-drop m n ((iv ++ c) ++ more), drop-append-le n (iv ++ c) more within) refl
 
 -- a register into which more is shifted
 pub register-further : {X : Type 0} (iv c more register new : List X) → register ≡ drop (length c) (iv ++ c)
     → new ≡ drop (length more) (register ++ more) → new ≡ drop (length (c ++ more)) (iv ++ (c ++ more))
 register-further {X} iv c more register new is shifted =
-    shifted
-    ∙ ap (λ (xs : List X). drop (length more) (xs ++ more)) is
-    ∙ sym (drop-further iv c more (length c) (length more) (omega (arith, length-append iv c)))
-    ∙ ap (λ (m : ℕ). drop m (iv ++ (c ++ more))) (sym (length-append c more))
+    rw (length-append c more, drop-further iv c more (length c) (length more) (omega (arith, length-append iv c)), ← is) shifted
 
 -- a register of w bytes or bits before a segment that has begun does not depend on what comes
 pub window-front : {X : Type 0} (w n : ℕ) (iv c more : List X) → length iv ≡ w → n ≤ length c
     → take w (drop n (iv ++ (c ++ more))) ≡ take w (drop n (iv ++ c))
 window-front {X} w n iv c more wide begun =
     let size = length-append iv c in
-    ap (λ (xs : List X). take w (drop n xs)) (sym (append_assoc iv c more))
-    ∙ ap (take w) (drop-append-le n (iv ++ c) more (omega (arith, size)))
-    ∙ take-append-le w (drop n (iv ++ c)) more (omega (arith, size, length-drop n (iv ++ c)))
+    rw (← append_assoc iv c more, drop-append-le n (iv ++ c) more (omega (arith, size)))
+    (take-append-le w (drop n (iv ++ c)) more (omega (arith, size, length-drop n (iv ++ c))))
 
 -- ---- bytes, from a place behind c on
 
@@ -64,8 +58,7 @@ module _ (s : ℕ) (E : List ℕ → List ℕ) (iv c : List ℕ) (state : Regist
 
   pub input_block-next : state.used ≡ 0 → state.register ≡ input_block s iv c (length c / s)
   input_block-next unused =
-      sym (take_all 8 state.register (omega arith)) ∙ ap (take 8) is.place.register
-      ∙ ap (λ (n : ℕ). take 8 (drop n (iv ++ c))) (between unused)
+      rw (← between unused, ← is.place.register) (sym (take_all 8 state.register (omega arith)))
 
   -- so is the one before a segment of what comes
   input_block-beyond : (bytes : List ℕ) (j : ℕ) → state.used ≡ 0
@@ -79,8 +72,8 @@ module _ (s : ℕ) (E : List ℕ → List ℕ) (iv c : List ℕ) (state : Regist
   -- i bytes further on
   segment_at : (i : ℕ) → 1 ≤ s → length c / s + (state.used + i) / s ≡ (length c + i) / s
   segment_at i some =
-      let split : s * (length c / s) + (state.used + i) ≡ length c + i = omega (arith, is.place.used, div-add-mod (length c) s) in
-      sym (mul-add-div some (length c / s) (state.used + i)) ∙ ap (λ (m : ℕ). m / s) split
+      rw (← mul-add-div some (length c / s) (state.used + i))
+      (ap (λ (m : ℕ). m / s) (omega (arith, is.place.used, div-add-mod (length c) s)))
 
   place_at : (i : ℕ) → (state.used + i) % s ≡ (length c + i) % s
   place_at i = ap (λ (m : ℕ). (m + i) % s) is.place.used ∙ mod-add-mod (length c) s i

@@ -1,6 +1,7 @@
 -- Blocks that are enclosed: what opens them, and that what encloses blocks encloses no others.
-use Rattle.std.proofs.Common.{◌≡◌, ℕ, suc, ◌+◌, ◌-◌, ◌<◌, List, [], ◌∷◌, ◌++◌, map, length, get_or, take, drop, reverse, refl, ap, ap₂, sym, ◌∙◌, arith}
+use Rattle.std.proofs.Common.{◌≡◌, ℕ, ◌+◌, ◌<◌, List, [], ◌∷◌, ◌++◌, map, length, get_or, take, drop, reverse, refl, ap, ap₂, sym, ◌∙◌, arith}
 use Rattle.std.specs.List.{All}
+use Rattle.std.proofs.lemmas.Grind.{common_steps}
 use Rattle.std.proofs.lemmas.List.{get_or-reverse, reverse-reverse, reverse-append, map-append, length-reverse, same_from_push, take_all, take_more}
 use Rattle.std.proofs.lemmas.List.Elements.{All-cons, All-map}
 use Rattle.des.specs.Blocks.{IsBlock}
@@ -21,10 +22,7 @@ is_second_iv = IsBlock-to_be_bytes 0x4adda22c79e82105
 pub framed : (blocks : List (List ℕ)) (n m : ℕ) → length blocks ≡ n + 2 → m ≡ n
     → blocks ≡ get_or blocks 0 [] ∷ take m (drop 1 blocks) ++ get_or blocks (n + 1) [] ∷ []
 framed [] n m size same = absurd (omega arith)
-framed (block ∷ blocks) n m size same =
-    let next : n + 1 ≡ suc n = omega arith in
-    ap (λ (xs : List (List ℕ)). block ∷ xs) (sym (take_all (n + 1) blocks (omega arith)) ∙ take_more blocks n [] (omega arith))
-    ∙ ap₂ (λ (k i : ℕ). block ∷ take k blocks ++ get_or (block ∷ blocks) i [] ∷ []) (sym same) (sym next)
+framed (block ∷ blocks) n m size same = grind (arith, common_steps, take_all, take_more)
 
 -- ---- all bytes in reverse order
 
@@ -38,9 +36,7 @@ reversed-reversed (block ∷ blocks) =
     ∙ ap₂ ◌∷◌ (reverse-reverse block) (reversed-reversed blocks)
 
 All-reverse : {X : Type 0} (P : X → Type 0) (xs : List X) → All P xs → All P (reverse xs)
-All-reverse P xs all = λ i d within.
-    let inside : i < length xs = omega (arith, length-reverse xs) in
-    rw (get_or-reverse xs i d inside) (all (length xs - 1 - i) d (omega arith))
+All-reverse P xs all = grind (arith, get_or-reverse, length-reverse)
 
 All-reversed : (iv : List ℕ) (blocks : List (List ℕ)) → IsBlock iv → All IsBlock blocks → All IsBlock (reversed (iv ∷ blocks))
 All-reversed iv blocks is are =

@@ -36,10 +36,8 @@ module _ {X : Type 0} {op : X → X → X} {d : X} where
   Xors-single n k x y is = record {
     count = refl;
     xored = λ i below.
-        let here : 0 ≡ i = omega arith in
-        let place : n ≡ n + i = omega arith in
-        ap (λ (m : ℕ). get_or (y ∷ []) m d) (sym here) ∙ is
-        ∙ ap₂ (λ (m l : ℕ). op (get_or (x ∷ []) m d) (k l)) here place;
+        let first : i ≡ 0 = omega arith in
+        let place : n + i ≡ n = omega arith in rw (place, first) is;
   }
 
   pub Xors-back : (n : ℕ) (k : ℕ → X) (p c : List X) → UndoesItself op → Xors op d n k p c → Xors op d n k c p

@@ -28,13 +28,11 @@ Under-from e k alike graph made = record {
 -- the registers are blocks
 pub IsBlock-input_block : (s : ℕ) (iv c : List ℕ) (j : ℕ) → IsBlock iv → AreBytes c → s * j ≤ length c
     → IsBlock (input_block s iv c j)
-IsBlock-input_block s iv c j is_iv are_bytes begun =
-    let all : AreBytes (iv ++ c) = All-append (λ byte. byte < 256) iv c is_iv.1 are_bytes in
-    let long : 8 ≤ length (drop (s * j) (iv ++ c)) =
-    omega (arith, is_iv.0, length-drop (s * j) (iv ++ c), length-append iv c) in (
-      length-take-le 8 (drop (s * j) (iv ++ c)) long,
-      All-take (λ byte. byte < 256) 8 (drop (s * j) (iv ++ c)) (All-drop (λ byte. byte < 256) (s * j) (iv ++ c) all),
-    )
+IsBlock-input_block s iv c j is_iv are_bytes begun = (
+  length-take-le 8 (drop (s * j) (iv ++ c)) (omega (arith, is_iv.0, length-drop (s * j) (iv ++ c), length-append iv c)),
+  All-take (λ byte. byte < 256) 8 (drop (s * j) (iv ++ c))
+      (All-drop (λ byte. byte < 256) (s * j) (iv ++ c) (All-append (λ byte. byte < 256) iv c is_iv.1 are_bytes)),
+)
 
 -- so are the output blocks
 pub IsBlock-output_block : (encryption : List ℕ → List ℕ) (iv : List ℕ) (j : ℕ) → IsBlock iv
@@ -54,8 +52,7 @@ input_bits-bits s iv c j is_iv are_bytes begun =
 place_of_bit : (s i : ℕ) → 1 ≤ s → i % (8 * s) ≡ 8 * (i / 8 % s) + i % 8
 place_of_bit s i some =
     let swapped : 8 * s ≡ s * 8 = omega arith in
-    let digits : i % (s * 8) ≡ (i / 8 % s) * 8 + i % 8 = mod-mul i some (omega arith) in
-    ap (λ (m : ℕ). i % m) swapped ∙ omega arith
+    let digits : i % (s * 8) ≡ (i / 8 % s) * 8 + i % 8 = mod-mul i some (omega arith) in rw swapped (omega arith)
 
 pub CfbBits-from_Cfb : (s : ℕ) (E : List ℕ → List ℕ) (iv p c : List ℕ) → 1 ≤ s → s ≤ 8 → IsBlock iv → AreBytes c
     → ((block : List ℕ) → IsBlock block → IsBlock (E block)) → Cfb s E iv p c

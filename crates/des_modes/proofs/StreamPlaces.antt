@@ -1,5 +1,5 @@
 -- Streams mode by mode: where they begin.
-use Rattle.std.proofs.Common.{◌≡◌, ℕ, inl, inr, ◌+◌, ◌/◌, ◌%◌, ◌^◌, ◌<◌, ◌≤◌, List, [], ap, sym, arith, length, drop, ◌++◌, ◌∙◌}
+use Rattle.std.proofs.Common.{◌≡◌, ℕ, ◌+◌, ◌/◌, ◌%◌, ◌^◌, ◌<◌, ◌≤◌, List, [], ap, sym, arith, length, drop, ◌++◌, ◌∙◌}
 use Rattle.std.proofs.Math.Nat.{zero-mod}
 use Rattle.std.proofs.lemmas.Bool.Decides.{nat_tests}
 use Rattle.std.proofs.lemmas.List.{append-nil}
@@ -17,9 +17,7 @@ use Rattle.des_modes.proofs.Pieces.{Xors-none}
 
 -- the mode of a number takes 1 to 8 bytes of an output block
 pub size_of-mode_by : (number : ℕ) → IsMode number → (1 ≤ size_of (mode_by number)) × (size_of (mode_by number) ≤ 8)
-size_of-mode_by number (inl is) = rw is (omega arith, omega arith)
-size_of-mode_by number (inr (inl is)) = rw is (omega arith, omega arith)
-size_of-mode_by number (inr (inr within)) = grind (arith, nat_tests)
+size_of-mode_by number is = grind (arith, nat_tests)
 
 pub InMode-none : (mode : Mode) (encryption : List ℕ → List ℕ) (iv : List ℕ) → InMode mode encryption iv [] []
 unfolding bits_of_bytes

@@ -1,8 +1,7 @@
 -- The steps of TW, one after another, and turned round.
-use Rattle.std.proofs.Common.{◌≡◌, inl, inr, ℕ, zero, suc, ◌+◌, ◌-◌, ◌%◌, ◌<◌, ◌≤◌, List, [], ◌∷◌, ◌++◌, length, set, get_or, take, drop, bit_xor, refl, ap, ap₂, sym, ◌∙◌, arith, add-one, append_assoc, take_at, drop_at, length-append, length-drop, length-take-le}
+use Rattle.std.proofs.Common.{◌≡◌, ℕ, zero, suc, ◌+◌, ◌-◌, ◌%◌, ◌<◌, ◌≤◌, List, [], ◌∷◌, ◌++◌, length, set, get_or, take, drop, bit_xor, refl, ap, ap₂, sym, ◌∙◌, arith, add-one, append_assoc, take_at, drop_at, length-append, length-drop, length-take-le}
 use Rattle.std.specs.Int.{w32, to_be_bytes}
 use Rattle.std.specs.List.{All}
-use Rattle.std.proofs.lemmas.Bool.{cases_lt}
 use Rattle.std.proofs.lemmas.List.{append-nil, drop_all, drop_more, drop-set-lt, length-set, same_from_push, take_all, take_more_set, take-append-drop}
 use Rattle.std.proofs.Math.Nat.{mod-add-mod, mod-eq_of_lt, mod-lt, mod_self}
 use Rattle.std.proofs.lemmas.List.Elements.{All-cons, All-append, All-push, All-take, All-drop, All-from_get_or}
@@ -32,12 +31,7 @@ turned-none words i none = ap (turned words) none ∙ append-nil words
 -- the place after the last is the first
 turned-next : (words : List (List ℕ)) (t n : ℕ) → length words ≡ n → 1 ≤ n
     → turned words (t % n + 1) ≡ turned words ((t + 1) % n)
-turned-next words t n size some = rw (← mod-add-mod t n 1) (elim (cases_lt (t % n + 1) n) [
-  | inl inside ↦ ap (turned words) (sym (mod-eq_of_lt inside))
-  | inr past ↦
-      let full : t % n + 1 ≡ n = omega (arith, mod-lt t some) in
-      rw (full, mod_self, drop_all n words (omega arith), take_all n words (omega arith), append-nil) refl
-])
+turned-next words t n size some = rw (← mod-add-mod t n 1) (grind (arith, mod-lt, mod-eq_of_lt, mod_self, drop_all, take_all, append-nil))
 
 -- from the place of r on
 turned-first : (words : List (List ℕ)) (i : ℕ) (r : List ℕ) → i < length words → get_or words i [] ≡ r
@@ -88,13 +82,13 @@ low_half block is = (omega (arith, is.0, length-drop 4 block), All-drop (λ byte
 
 IsSemiblock-xor_blocks : (word other : List ℕ) → IsSemiblock word → IsSemiblock other → IsSemiblock (xor_blocks word other)
 unfolding xor_blocks
-IsSemiblock-xor_blocks word other is too =
-    let count : length (zip2 bit_xor word other) ≡ 4 = length-zip2 bit_xor word other (is.0 ∙ sym too.0) ∙ is.0 in (
-      count,
-      All-from_get_or (λ byte. byte < 256) (zip2 bit_xor word other) 0 (λ k within.
-          rw (get_or-zip2 bit_xor word other k 0 0 0 (omega arith) (omega arith))
-          (xor_lt 8 (get_or word k 0) (get_or other k 0) (is.1 k 0 (omega arith)) (too.1 k 0 (omega arith)))),
-    )
+IsSemiblock-xor_blocks word other is too = (
+  length-zip2 bit_xor word other (is.0 ∙ sym too.0) ∙ is.0,
+  All-from_get_or (λ byte. byte < 256) (zip2 bit_xor word other) 0 (λ k within.
+      let inside : k < 4 = omega (arith, is.0, length-zip2 bit_xor word other (is.0 ∙ sym too.0)) in
+      rw (get_or-zip2 bit_xor word other k 0 0 0 (omega arith) (omega arith))
+      (xor_lt 8 (get_or word k 0) (get_or other k 0) (is.1 k 0 (omega arith)) (too.1 k 0 (omega arith)))),
+)
 
 -- n semiblocks
 abbrev pub AreSemiblocks : ℕ → List (List ℕ) → Type 0
