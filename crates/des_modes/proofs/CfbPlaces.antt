@@ -1,5 +1,5 @@
 -- The shift register along a ciphertext, by bytes and by bits.
-use Rattle.std.proofs.Common.{◌≡◌, ℕ, ◌+◌, ◌*◌, ◌/◌, ◌%◌, ◌<◌, ◌≤◌, List, [], ◌++◌, length, get_or, take, drop, bit_xor, refl, ap, ap₂, subst, sym, ◌∙◌, arith, append_assoc, length-append, length-drop, false, Bool, ◌∷◌}
+use Rattle.std.proofs.Common.{◌≡◌, ℕ, ◌+◌, ◌*◌, ◌/◌, ◌%◌, ◌<◌, ◌≤◌, List, [], ◌++◌, length, get_or, take, drop, bit_xor, refl, ap, ap₂, sym, ◌∙◌, arith, append_assoc, length-append, length-drop, false, Bool, ◌∷◌}
 use Rattle.std.proofs.lemmas.List.{drop-drop, drop-append-le, take-append-le, take_all}
 use Rattle.std.proofs.lemmas.Nat.{div_below}
 use Rattle.std.proofs.Math.Nat.{mul-div-le, mul-add, mul-add-div, mod-add-mod, mod-eq_of_lt, div-add-mod, div-eq_of_lt, div-one, mod-one}
@@ -65,9 +65,12 @@ module _ (s : ℕ) (E : List ℕ → List ℕ) (iv c : List ℕ) (state : Regist
       → take 8 (drop (state.segment * j) (state.register ++ bytes)) ≡ input_block s iv (c ++ bytes) (length c / s + j)
   input_block-beyond bytes j unused =
       let place : length c + s * j ≡ s * (length c / s + j) = omega (arith, between unused, mul-add s (length c / s) j) in
-      ap₂ (λ (m : ℕ) (xs : List ℕ). take 8 (drop (m * j) (xs ++ bytes))) is.segment is.place.register
-      ∙ ap (take 8) (sym (drop-further iv c bytes (length c) (s * j) (omega (arith, length-append iv c))))
-      ∙ ap (λ (n : ℕ). take 8 (drop n (iv ++ (c ++ bytes)))) place
+      rw (
+        is.segment,
+        is.place.register,
+        ← drop-further iv c bytes (length c) (s * j) (omega (arith, length-append iv c)),
+        place,
+      ) refl
 
   -- i bytes further on
   segment_at : (i : ℕ) → 1 ≤ s → length c / s + (state.used + i) / s ≡ (length c + i) / s
@@ -109,7 +112,7 @@ module _ (s : ℕ) (E : List ℕ → List ℕ) (iv c : List ℕ) (state : Regist
       IsCfbAt-further bytes segment shifted used (λ more.
       let within : state.used + length bytes < s = omega (arith, is.segment, inside more) in
       let here : length c / s ≡ (length c + length bytes) / s = omega (arith, segment_at (length bytes) some, div-eq_of_lt within) in
-      kept ∙ made ∙ same_block bytes ∙ ap (λ (m : ℕ). E (input_block s iv (c ++ bytes) m)) here)
+      rw (← here) (kept ∙ made ∙ same_block bytes))
 
   pub XorsFrom-within : (more output old new : List ℕ) → 1 ≤ s → state.used + length old ≤ state.segment
       → output ≡ E (input_block s iv c (length c / s)) → length new ≡ length old
@@ -122,7 +125,7 @@ module _ (s : ℕ) (E : List ℕ → List ℕ) (iv c : List ℕ) (state : Regist
         let here : length c / s ≡ length c / s + (state.used + i) / s = omega (arith, div-eq_of_lt inside) in
         xored i below
         ∙ xored_at (c ++ more) i (get_or old i 0) (state.used + i) output some
-        (made ∙ same_block more ∙ ap (λ (m : ℕ). E (input_block s iv (c ++ more) m)) here) (sym (mod-eq_of_lt inside));
+        (rw (← here) (made ∙ same_block more)) (sym (mod-eq_of_lt inside));
   }
 
   -- from the beginning of a segment on
@@ -178,12 +181,9 @@ module _ (E : List ℕ → List ℕ) (iv : List ℕ) (c : List Bool) (register :
   cfb_bits-next : (more : List Bool)
       → cfb_bits 1 E iv (c ++ more) (length c) ≡ block_bit (E (block_of_bits (bits_of_bytes register))) 0
   cfb_bits-next more =
-      let n : ℕ = length c in
-      let single : 1 * (n / 1) ≡ n = omega (arith, div-one n) in
-      cfb_bits-before c more n (omega arith)
-      ∙ ap₂ (λ (m k : ℕ). block_bit (E (block_of_bits (take 64 (drop m (bits_of_bytes iv ++ c))))) k) single (mod-one n)
-      ∙ ap (λ (xs : List Bool). block_bit (E (block_of_bits xs)) 0)
-      (ap (take 64) (sym is) ∙ take_all 64 (bits_of_bytes register) (omega (arith, length-bits_of_bytes register)))
+      let single : 1 * (length c / 1) ≡ length c = omega (arith, div-one (length c)) in
+      let whole = take_all 64 (bits_of_bytes register) (omega (arith, length-bits_of_bytes register)) in
+      rw (cfb_bits-before c more (length c) (omega arith), single, mod-one (length c), ← is, whole) refl
 
 -- a bit more
 pub ByText-bit : (E : List ℕ → List ℕ) (iv old new : List ℕ) (direction : Direction) (x y : Bool) → length old ≡ 8
@@ -194,7 +194,7 @@ ByText-bit E iv old new direction x y wide shifted is =
     let text = (texts-map (λ (bit : Bool). bit ∷ []) direction x y).1 in record {
       goes = λ t at. (
         register-further (bits_of_bytes iv) t _ (bits_of_bytes old) (bits_of_bytes new) at
-            (subst (λ (more : List Bool). bits_of_bytes new ≡ drop (length more) (bits_of_bytes old ++ more)) text shifted),
+            (rw (← text) shifted),
         Xors-single (length t) _ x y (is ∙ ap (xor x) (sym (cfb_bits-next E iv t old wide at _))),
       );
     }

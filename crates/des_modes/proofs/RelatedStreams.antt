@@ -1,17 +1,17 @@
 -- What the function of a cipher makes, by the relation of its key; CFB with segments of s bytes is CFB of 8 s bits, of the bits
 -- of the bytes.
-use Rattle.std.proofs.Common.{◌≡◌, ℕ, zero, suc, ◌+◌, ◌*◌, ◌<◌, ◌≤◌, List, ◌++◌, length, drop, refl, sym, ap, arith, length-append, length-drop, length-take-le, ◌-◌, ◌/◌, ◌%◌, ◌==◌, get_or, bit_xor, ap₂, ◌∙◌}
+use Rattle.std.proofs.Common.{◌≡◌, ℕ, zero, suc, ◌+◌, ◌*◌, ◌<◌, ◌≤◌, List, ◌++◌, length, drop, refl, ap, arith, length-append, length-drop, length-take-le, ◌-◌, ◌/◌, ◌%◌, ◌==◌, get_or, ◌∙◌}
 use Rattle.std.proofs.lemmas.List.Elements.{All-append, All-take, All-drop}
 use Rattle.des.specs.Blocks.{AreBytes, IsBlock, block_of_bits}
 use Rattle.des.specs.Relations.{AgreeOnBlocks, IsGraphOf}
 use Rattle.des.specs.Laws.BlockBits.{block_of_bits-bits_of_bytes}
-use Rattle.des_modes.specs.Cfb.{Cfb, CfbBits, block_bit, cfb_bits, cfb_stream, input_bits, input_block}
+use Rattle.des_modes.specs.Cfb.{Cfb, CfbBits, cfb_bits, input_bits, input_block}
 use Rattle.des_modes.specs.Streams.{Under}
 use Rattle.des_modes.specs.Ofb.{output_block}
 use Rattle.std.proofs.Math.Arith.{mod-mul}
 use Rattle.std.proofs.Math.Nat.{div-div-eq-div-mul, mod-lt, mul_assoc, mul-div-le}
 use Rattle.std.specs.Int.{bit_at}
-use Rattle.des.specs.Bits.{bits_of_bytes, xor}
+use Rattle.des.specs.Bits.{bits_of_bytes}
 use Rattle.des.specs.Laws.BitLists.{length-bits_of_bytes}
 use Rattle.des.proofs.BitParts.{bit_at-xor}
 use Rattle.des_modes.proofs.BitPlaces.{bits-window, block_bit-at, block_bit-of_byte}
@@ -69,14 +69,9 @@ CfbBits-from_Cfb s E iv p c some short is_iv are_bytes makes_blocks cfb = record
       let here : 0 + i ≡ i = omega arith in
       let byte : 0 + b ≡ b = omega arith in
       let stream : cfb_bits (8 * s) E iv (bits_of_bytes c) (0 + i) ≡ (bit_at (get_or output (b % s) 0) k == 1) =
-      ap (cfb_bits (8 * s) E iv (bits_of_bytes c)) here
-      ∙ ap₂ (λ (n m : ℕ). block_bit (E (input_bits (8 * s) iv (bits_of_bytes c) n)) m)
-      (sym (div-div-eq-div-mul i 8 s)) (place_of_bit s i some)
-      ∙ ap (λ (block : List ℕ). block_bit (E block) (8 * (b % s) + i % 8)) (input_bits-bits s iv c (b / s) is_iv are_bytes begun)
-      ∙ block_bit-at output (b % s) (i % 8) _ refl (omega (arith, is_block.0, mod-lt b some)) (omega arith) in
-      block_bit-of_byte c i (omega (arith, length-bits_of_bytes p, cfb.count))
-      ∙ ap (λ (x : ℕ). bit_at x k == 1) (cfb.xored b inside
-      ∙ ap (λ (m : ℕ). bit_xor (get_or p b 0) (cfb_stream s E iv c m)) byte)
-      ∙ bit_at-xor (get_or p b 0) (get_or output (b % s) 0) k
-      ∙ ap₂ xor (sym (block_bit-of_byte p i (omega (arith, length-bits_of_bytes p)))) (sym stream);
+      rw (here, ← div-div-eq-div-mul i 8 s, place_of_bit s i some, input_bits-bits s iv c (b / s) is_iv are_bytes begun)
+      (block_bit-at output (b % s) (i % 8) _ refl (omega (arith, is_block.0, mod-lt b some)) (omega arith)) in
+      let block = block_bit-of_byte c i (omega (arith, length-bits_of_bytes p, cfb.count)) in
+      rw (stream, block, block_bit-of_byte p i (omega (arith, length-bits_of_bytes p)), cfb.xored b inside, byte)
+      (bit_at-xor (get_or p b 0) (get_or output (b % s) 0) k);
 }

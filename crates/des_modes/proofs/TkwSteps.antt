@@ -47,12 +47,10 @@ pub tw_step-in_place : (E : List ℕ → List ℕ) (t n : ℕ) (a b r w : List �
 tw_step-in_place E t n a b r w words size some there first second =
     let i : ℕ = t % n in
     let within : i < length words = omega (arith, mod-lt t some) in
-    ap (λ (xs : List (List ℕ)). tw_step E (t + 1) (a ∷ xs)) (turned-first words i r within there)
-    ∙ ap₂ (λ (x y : List ℕ). x ∷ (drop (i + 1) words ++ take i words) ++ y ∷ []) first second
-    ∙ ap (λ (xs : List (List ℕ)). b ∷ xs)
+    rw (turned-first words i r within there, first, second) (ap (λ (xs : List (List ℕ)). b ∷ xs)
     (append_assoc (drop (i + 1) words) (take i words) (w ∷ [])
     ∙ ap₂ ◌++◌ (sym (drop-set-lt (i + 1) words i w (omega arith))) (sym (take_more_set words i w within))
-    ∙ turned-next (set words i w) t n (omega (arith, length-set words i w)) some)
+    ∙ turned-next (set words i w) t n (omega (arith, length-set words i w)) some))
 
 -- ---- the semiblocks that the steps were made of
 
