@@ -114,24 +114,24 @@ Encloses-opened E D first last x y iv behind check middle p turned key enclosed 
 
 -- ---- by the relation of a cipher's key
 
-module _ {Answers : List ℕ → List ℕ → Type 0} {E : List ℕ → List ℕ} (graph : IsGraphOf E Answers) {iv : List ℕ}
+module _ {Encrypts : List ℕ → List ℕ → Type 0} {E : List ℕ → List ℕ} (graph : IsGraphOf E Encrypts) {iv : List ℕ}
     {p enclosed : List (List ℕ)} where
   pub Encloses-related : IsBlock iv → ((block : List ℕ) → IsBlock block → IsBlock (E block))
-      → Encloses (λ block answer. answer ≡ E block) iv p enclosed → Encloses Answers iv p enclosed
+      → Encloses (λ block answer. answer ≡ E block) iv p enclosed → Encloses Encrypts iv p enclosed
   Encloses-related is_iv makes_blocks encloses = record {
     temp1 = encloses.temp1;
     are_blocks = encloses.are_blocks;
-    first = CbcUnder-related Answers E graph iv p encloses.temp1 is_iv encloses.are_blocks.0 makes_blocks encloses.first;
+    first = CbcUnder-related Encrypts E graph iv p encloses.temp1 is_iv encloses.are_blocks.0 makes_blocks encloses.first;
     second =
-        CbcUnder-related Answers E graph second_iv (reversed (iv ∷ encloses.temp1)) enclosed is_second_iv
+        CbcUnder-related Encrypts E graph second_iv (reversed (iv ∷ encloses.temp1)) enclosed is_second_iv
         (All-reversed iv encloses.temp1 is_iv encloses.are_blocks.1) makes_blocks encloses.second;
   }
 
-  pub Encloses-from_related : Encloses Answers iv p enclosed → Encloses (λ block answer. answer ≡ E block) iv p enclosed
+  pub Encloses-from_related : Encloses Encrypts iv p enclosed → Encloses (λ block answer. answer ≡ E block) iv p enclosed
   Encloses-from_related encloses =
-      let answers : (x y : List ℕ) → Answers x y → y ≡ E x = λ x y related. sym ((graph x y).0 related).1 in record {
+      let encrypts : (x y : List ℕ) → Encrypts x y → y ≡ E x = λ x y related. sym ((graph x y).0 related).1 in record {
         temp1 = encloses.temp1;
         are_blocks = encloses.are_blocks;
-        first = CbcUnder-weaker _ _ _ _ _ answers encloses.first;
-        second = CbcUnder-weaker _ _ _ _ _ answers encloses.second;
+        first = CbcUnder-weaker _ _ _ _ _ encrypts encloses.first;
+        second = CbcUnder-weaker _ _ _ _ _ encrypts encloses.second;
       }

@@ -1,8 +1,7 @@
-use Rattle.std.proofs.Common.{◌≡◌, ℕ, List, ◌++◌, take, drop, ap, ap₂, sym, subst, ◌∙◌, arith, take_at, drop_at}
+use Rattle.std.proofs.Common.{◌≡◌, ℕ, List, ◌++◌, ap, ap₂, sym, subst, ◌∙◌, arith, take_at, drop_at}
 use Rattle.std.specs.Int.{w32, to_be_bytes}
 use Rattle.std.proofs.lemmas.List.{take-append-drop}
 use Rattle.des.specs.Blocks.{IsBlock}
-use Rattle.des.specs.Cbc.{xor_blocks}
 use Rattle.des.proofs.XoredBlocks.{xor_blocks-undone}
 use Rattle.des_modes.proofs.tkw.step_back.Goals as goal
 
@@ -17,10 +16,8 @@ returns g c =
     ap E parts ∙ g.met.C.BlockCipher.encrypts_decrypted c.args.cipher.now c.joined-block.result is_block ∙ c.joined-block.ensures in
     record {
       first =
-          ap (λ (xs : List ℕ). xor_blocks (take 4 xs) number) again
-          ∙ ap (λ (xs : List ℕ). xor_blocks xs number)
-          (take_at c.xor_number.new.word c.args.word.now 4 (omega arith) ∙ c.xor_number.ensures)
-          ∙ xor_blocks-undone c.args.first.now number (omega arith);
-      word = ap (drop 4) again ∙ drop_at c.xor_number.new.word c.args.word.now 4 (omega arith);
+          rw (again, take_at c.xor_number.new.word c.args.word.now 4 (omega arith), c.xor_number.ensures)
+          (xor_blocks-undone c.args.first.now number (omega arith));
+      word = rw again (drop_at c.xor_number.new.word c.args.word.now 4 (omega arith));
       block = subst IsBlock (sym parts) (g.met.C.BlockCipher.decrypted_is_block c.args.cipher.now c.joined-block.result is_block);
     }

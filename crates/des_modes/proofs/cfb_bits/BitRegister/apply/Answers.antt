@@ -1,5 +1,5 @@
 -- A bit more.
-use Rattle.std.proofs.Common.{◌≡◌, ℕ, ◌<◌, Bool, false, List, [], length, get_or, refl, ap, ap₂, ◌∙◌, arith}
+use Rattle.std.proofs.Common.{◌≡◌, ℕ, ◌<◌, Bool, false, List, [], length, get_or, refl, ap, arith}
 use Rattle.std.proofs.lemmas.List.{get_or-set_same}
 use Rattle.des.specs.Bits.{bits_of_bytes, xor}
 use Rattle.des.specs.Laws.BitLists.{length-bits_of_bytes}
@@ -19,10 +19,8 @@ bits-preserved g c iv =
     let place : ℕ = c.bits.place in
     let now : List Bool = bits_of_bytes c.bits.bytes in
     let within : place < length now = omega (arith, length-bits_of_bytes c.bits.bytes) in
-    let written : c.bit_at.result ≡ xor (get_or now place false) c.key_bit.result =
-    c.bit_at.ensures ∙ ap (λ (bits : List Bool). get_or bits place false) c.xor_bit.ensures ∙ get_or-set_same now place _ false within in
     let bit : c.ciphertext.result ≡ ciphertext c.args.direction (get_or now place false) (xor (get_or now place false) c.key_bit.result) =
-    c.ciphertext.ensures ∙ ap₂ (ciphertext c.args.direction) c.bit_at-old.ensures written in
+    rw (c.ciphertext.ensures, c.bit_at-old.ensures, c.bit_at.ensures, c.xor_bit.ensures, get_or-set_same now place _ false within) refl in
     InPlace-set _ false c.xor_bit.ensures within
     (λ done. ByText-joined c.args.direction (λ t at. cfb_bits-front E iv t c.bits.self.register c.key_bit.ensures.wide at) done
     (ByText-bit E iv c.bits.self.register c.advance.new.self.register c.args.direction _ _ c.key_bit.ensures.wide (rw bit at c.advance.ensures)

@@ -1,4 +1,4 @@
-use Rattle.std.proofs.Common.{◌≡◌, ℕ, ◌+◌, List, length, refl, arith, ◌/◌, ◌%◌, ◌^◌, ◌<◌, get_or, bit_xor, ap, ap₂, ◌∙◌}
+use Rattle.std.proofs.Common.{◌≡◌, ℕ, ◌+◌, List, length, refl, arith, ◌/◌, ◌%◌, ◌^◌, ◌<◌, get_or, bit_xor}
 use Rattle.std.specs.Int.{w64, to_be_bytes, from_be_bytes}
 use Rattle.des_modes.specs.Ctr.{ctr_stream}
 use Rattle.des_modes.specs.Streams.{Xors}
@@ -19,7 +19,7 @@ XorsFrom-counter encryption t n state old new is same xored = record {
       let byte : (state.used + i) % 8 ≡ (n + i) % 8 = omega (arith, is.used) in
       let counter : (state.counter + (state.used + i) / 8) % 2 ^ 64 ≡ (from_be_bytes w64 t + (n + i) / 8) % 2 ^ 64 =
       omega (arith, is.counter, is.used) in
-      xored i below ∙ ap (bit_xor (get_or old i 0)) (ap₂ (λ (x m : ℕ). get_or (encryption (to_be_bytes w64 x)) m 0) counter byte);
+      rw (← counter, ← byte) (xored i below);
 }
 
 pub returns : goal.returns
