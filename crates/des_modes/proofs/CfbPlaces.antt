@@ -1,8 +1,8 @@
 -- The shift register along a ciphertext, by bytes and by bits.
 use Rattle.std.proofs.Common.{◌≡◌, ℕ, ◌+◌, ◌*◌, ◌/◌, ◌%◌, ◌<◌, ◌≤◌, List, [], ◌++◌, length, get_or, take, drop, bit_xor, refl, ap, ap₂, sym, ◌∙◌, arith, append_assoc, length-append, length-drop, false, Bool, ◌∷◌}
 use Rattle.std.proofs.lemmas.List.{drop-drop, drop-append-le, take-append-le, take_all}
-use Rattle.std.proofs.lemmas.Nat.{div_below}
-use Rattle.std.proofs.Math.Nat.{mul-div-le, mul-add, mul-add-div, mod-add-mod, mod-eq_of_lt, div-add-mod, div-eq_of_lt, div-one, mod-one}
+use Rattle.std.proofs.lemmas.Nat.{div_below, div-add-mod', div-mul-add, mod-mul-add}
+use Rattle.std.proofs.Math.Nat.{mul-div-le, mul-add, mul-add-div, mod-add-mod, div-add-mod, div-eq_of_lt, div-one, mod-one}
 use Rattle.des_modes.specs.Streams.{Xors}
 use Rattle.des_modes.specs.Cfb.{block_bit, cfb_bits, cfb_stream, input_block}
 use Rattle.des_modes.specs.States.{HoldsLastBits, IsCfbAt}
@@ -122,10 +122,9 @@ module _ (s : ℕ) (E : List ℕ → List ℕ) (iv c : List ℕ) (state : Regist
     count = same;
     xored = λ i below.
         let inside : state.used + i < s = omega (arith, is.segment) in
-        let here : length c / s ≡ length c / s + (state.used + i) / s = omega (arith, div-eq_of_lt inside) in
-        xored i below
-        ∙ xored_at (c ++ more) i (get_or old i 0) (state.used + i) output some
-        (rw (← here) (made ∙ same_block more)) (sym (mod-eq_of_lt inside));
+        let split : length c + i ≡ length c / s * s + (state.used + i) = omega (arith, is.place.used, div-add-mod' (length c) s) in
+        let place = div-mul-add (length c / s) s (state.used + i) inside in
+        rw (split, place, mod-mul-add (length c / s) s (state.used + i) inside, ← same_block more, ← made) (xored i below);
   }
 
   -- from the beginning of a segment on

@@ -1,7 +1,7 @@
 -- The definitions, computed at values from outside: the example of FIPS 81 (appendices C and D) in CFB-64, CFB-8, CFB-1
 -- and OFB, under the key 01 23 .. ef from the vector 12 34 56 78 90 ab cd ef, of the text "Now is the time for all "; and
 -- a counter that wraps.
-use Rattle.std.proofs.Common.{false, ◌≡◌, ℕ, suc, ◌+◌, ◌*◌, ◌/◌, ◌%◌, ◌<◌, ◌≤◌, List, [], ◌∷◌, map, length, get_or, take, bit_xor, refl, ap, sym, subst, ◌∙◌, arith}
+use Rattle.std.proofs.Common.{false, ◌≡◌, ℕ, suc, ◌+◌, ◌*◌, ◌/◌, ◌%◌, ◌<◌, ◌≤◌, List, [], ◌∷◌, map, length, get_or, take, bit_xor, refl, ap, subst, arith}
 use Rattle.std.specs.Int.{w32, w64, to_be_bytes}
 use Rattle.std.specs.List.{flat_map, range_with_len}
 use Rattle.std.proofs.lemmas.List.FromFn.{get_or-map-range_with_len}
@@ -45,8 +45,7 @@ Xors-outputs {p} {c} output s outputs some enough are same =
     let j : ℕ = (0 + i) / s in
     let within : j < length outputs = div_below (0 + i) s (length outputs) some (omega arith) in
     ap (λ (block : List ℕ). get_or block ((0 + i) % s) 0)
-    (ap (λ (blocks : List (List ℕ)). get_or blocks j []) (sym are)
-    ∙ get_or-map-range_with_len (output c) 0 (length outputs) j j [] within (omega arith)))
+    (rw are at (get_or-map-range_with_len (output c) 0 (length outputs) j j [] within (omega arith))))
     (Xors-computed bit_xor 0 (λ i. get_or (get_or outputs (i / s) []) (i % s) 0) p c same)
 
 -- the blocks and the bytes of words of 64 bits

@@ -3,7 +3,7 @@ pub mod Enclosed
 pub mod BitPlaces
 pub mod Pieces
 pub mod CfbPlaces
-pub mod RelatedStreams
+pub mod SegmentBits
 pub mod StreamPlaces
 pub mod StreamsAlike
 pub mod KnownAnswers

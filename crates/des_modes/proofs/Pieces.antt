@@ -66,12 +66,10 @@ module _ {X : Type 0} {op : X → X → X} {d : X} where
           (first.xored i front)
       | inr back ↦
           let j : ℕ = i - length p in
-          let place : m + j ≡ n + i = omega arith in
-          rw (
-            get_or-append_right p more (length p) i d refl back,
-            get_or-append_right c answers (length p) i d first.count back,
-          )
-          (second.xored j (omega (arith, length-append p more)) ∙ ap (λ (x : ℕ). op (get_or more j d) (k x)) place)
+          let place : n + i ≡ m + j = omega arith in
+          let answer = get_or-append_right c answers (length p) i d first.count back in
+          rw (get_or-append_right p more (length p) i d refl back, answer, place)
+          (second.xored j (omega (arith, length-append p more)))
     ];
   }
 

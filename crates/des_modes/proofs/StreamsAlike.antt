@@ -8,12 +8,13 @@ use Rattle.des.specs.Laws.BlockBits.{IsBlock-block_of_bits, IsBlock-to_be_bytes}
 use Rattle.des_modes.specs.Cfb.{CfbBits, block_bit}
 use Rattle.des_modes.specs.Modes.{InMode, InModeUnder, mode_by}
 use Rattle.des_modes.specs.Ofb.{output_block}
+use Rattle.des_modes.specs.Streams.{Under}
 use Rattle.des_modes.specs.States.{IsBitStreamAt, IsPlace, IsStreamAt, size_of}
 use Rattle.des_modes.specs.declared.modes.Mode.{Mode}
 use Rattle.des_modes.specs.declared.modes.Mode.TheVariants.{Counter, OutputFeedback, BitFeedback, CipherFeedback}
 use Rattle.des_modes.specs.declared.stream.Place.{Place}
 use Rattle.des_modes.specs.declared.stream.Stream.{Stream}
-use Rattle.des_modes.proofs.RelatedStreams.{CfbBits-from_Cfb, Under-from, IsBlock-input_block, IsBlock-output_block}
+use Rattle.des_modes.proofs.SegmentBits.{CfbBits-from_Cfb, IsBlock-input_block}
 use Rattle.des_modes.proofs.StreamPlaces.{size_of-mode_by}
 use Rattle.des_modes.proofs.Pieces.{Xors-other}
 
@@ -33,14 +34,14 @@ module _ (e f : List ℕ → List ℕ) (alike : AgreeOnBlocks e f) where
 
   module _ (makes : (block : List ℕ) → IsBlock block → IsBlock (e block)) (iv c : List ℕ) (is_iv : IsBlock iv)
       (bytes : AreBytes c) where
-    output_block-alike : (j : ℕ) → output_block e iv j ≡ output_block f iv j
-    output_block-alike zero = refl
+    output_block-alike : (j : ℕ) → IsBlock (output_block e iv j) × (output_block e iv j ≡ output_block f iv j)
+    output_block-alike zero = (is_iv, refl)
     output_block-alike (suc j) =
-        alike (output_block e iv j) (IsBlock-output_block e iv j is_iv makes) ∙ ap f (output_block-alike j)
+        let (is, same) = output_block-alike j in (makes _ is, alike _ is ∙ ap f same)
 
     IsPlace-alike : (mode : Mode) (place : Place) → IsPlace mode e iv c place → IsPlace mode f iv c place
     IsPlace-alike Counter place at = at
-    IsPlace-alike OutputFeedback place at = record { block = at.block ∙ output_block-alike _; used = at.used }
+    IsPlace-alike OutputFeedback place at = record { block = at.block ∙ (output_block-alike _).1; used = at.used }
     IsPlace-alike BitFeedback place at = at
     IsPlace-alike (CipherFeedback s) place at = record {
       register = at.register;
@@ -52,7 +53,7 @@ module _ (e f : List ℕ → List ℕ) (alike : AgreeOnBlocks e f) where
     InMode-alike Counter p =
         Xors-other 0 _ _ p c (λ i below. ap (λ (block : List ℕ). get_or block ((0 + i) % 8) 0) (alike _ (IsBlock-to_be_bytes _)))
     InMode-alike OutputFeedback p =
-        Xors-other 0 _ _ p c (λ i below. ap (λ (block : List ℕ). get_or block ((0 + i) % 8) 0) (output_block-alike _))
+        Xors-other 0 _ _ p c (λ i below. ap (λ (block : List ℕ). get_or block ((0 + i) % 8) 0) (output_block-alike _).1)
     InMode-alike BitFeedback p = CfbBits-alike iv (bits_of_bytes p) (bits_of_bytes c)
     InMode-alike (CipherFeedback s) p = λ made.
         Xors-other 0 _ _ p c (λ i below.
@@ -94,13 +95,16 @@ module _ (e k : List ℕ → List ℕ) (alike : AgreeOnBlocks e k) (makes : (blo
       IsBitStreamAt-alike e k alike iv others more new (goes_on (IsBitStreamAt-alike k e back iv p c old is))
 
   module _ (Encrypts : List ℕ → List ℕ → Type 0) (graph : IsGraphOf e Encrypts) where
+    under : {Made : (List ℕ → List ℕ) → Type 0} → Made k → Under Encrypts Made
+    under made = record { encryption = k; encrypts = λ block is. (graph block (k block)).1 (is, alike block is); made = made }
+
     InModeUnder-from : (mode : Mode) (iv p c : List ℕ) → (1 ≤ size_of mode) × (size_of mode ≤ 8) → IsBlock iv → AreBytes c
         → InMode mode k iv p c → InModeUnder mode Encrypts iv p c
-    InModeUnder-from Counter iv p c sound is_iv bytes = Under-from e k alike graph
-    InModeUnder-from OutputFeedback iv p c sound is_iv bytes = Under-from e k alike graph
-    InModeUnder-from BitFeedback iv p c sound is_iv bytes = Under-from e k alike graph
+    InModeUnder-from Counter iv p c sound is_iv bytes = under
+    InModeUnder-from OutputFeedback iv p c sound is_iv bytes = under
+    InModeUnder-from BitFeedback iv p c sound is_iv bytes = under
     InModeUnder-from (CipherFeedback s) iv p c sound is_iv bytes = λ made.
-        Under-from e k alike graph (CfbBits-from_Cfb s k iv p c sound.0 sound.1 is_iv bytes makes_too made)
+        under (CfbBits-from_Cfb s k iv p c sound.0 sound.1 is_iv bytes makes_too made)
 
     pub InModeUnder-by_key : (number : ℕ) (iv p c : List ℕ) (stream : Stream) → IsStreamAt number k iv p c stream
         → InModeUnder (mode_by number) Encrypts iv p c

@@ -8,8 +8,8 @@ pub returns : goal.returns
 returns g c =
     let E : List ℕ → List ℕ = g.C.BlockCipherEncrypt.encrypted c.args.cipher.now in
     let made = λ (iv : List ℕ).
-    by_count (IsOfbAt E iv) (ofb_stream E iv) c.args.self.now c.apply_parts.new.state c.args.bytes.now c.apply_parts.new.bytes
-    c.apply_parts.auto.bytes (c.apply_parts.ensures.after 0 iv) (c.apply_parts.ensures.xored 0 iv) in record {
+    by_count (IsOfbAt E iv) (ofb_stream E iv) c.args.self.now c.apply_parts.new.state _ _ c.apply_parts.auto.bytes
+    (c.apply_parts.ensures.after 0 iv) (c.apply_parts.ensures.xored 0 iv) in record {
       after = λ iv n at. (made iv n at).0;
       applied = λ iv n at. (made iv n at).1;
       whole = λ iv p d at begun. Xors-append 0 (length p) _ p d _ _ (omega arith) begun (made iv (length p) at).1;

@@ -16,24 +16,23 @@ returns-clause-begun g c = (c.requires.0, c.requires.1, rw (← c.requires.2) c.
 pub returns-clause-bytes : goal.returns-clause-bytes
 returns-clause-bytes g c number iv p d is =
     let same : c.args.mode ≡ mode_by number = c.requires.2 ∙ ap mode_by is.is_mode in
-    let place = rw (← same) at is.place in
-    let after = c.apply.ensures.after iv d place in record {
+    let place = rw (← same) at is.place in record {
       begun = returns-clause-begun g c;
       is_mode = is.is_mode;
       is_block = is.is_block;
       are_bytes =
           All-append (λ byte. byte < 256) d _ is.are_bytes
           (ciphertext-is AreBytes c.args.direction c.args.bytes.now c.apply.new.bytes c.are_bytes.ensures c.are_bytes-2.ensures);
-      place = rw (← same) after;
+      place = rw (← same) (c.apply.ensures.after iv d place);
       made = rw (← same) (c.apply.ensures.made iv p d place (rw (← same) at is.made));
     }
 
 pub returns-clause-bits : goal.returns-clause-bits
 returns-clause-bits g c iv p d is =
     let same : c.args.mode ≡ BitFeedback = c.requires.2 ∙ ap mode_by is.is_mode in
-    let at = c.apply.ensures.after_bits same iv d is.place.0 is.place.1 in record {
+    record {
       begun = returns-clause-begun g c;
       is_mode = is.is_mode;
-      place = at;
+      place = c.apply.ensures.after_bits same iv d is.place.0 is.place.1;
       made = c.apply.ensures.made_bits same iv p d is.place.0 is.place.1 is.made;
     }

@@ -1,13 +1,9 @@
--- What the function of a cipher makes, by the relation of its key; CFB with segments of s bytes is CFB of 8 s bits, of the bits
--- of the bytes.
-use Rattle.std.proofs.Common.{◌≡◌, ℕ, zero, suc, ◌+◌, ◌*◌, ◌<◌, ◌≤◌, List, ◌++◌, length, drop, refl, ap, arith, length-append, length-drop, length-take-le, ◌-◌, ◌/◌, ◌%◌, ◌==◌, get_or, ◌∙◌}
+-- CFB with segments of s bytes is CFB of 8 s bits, of the bits of the bytes.
+use Rattle.std.proofs.Common.{◌≡◌, ℕ, ◌+◌, ◌*◌, ◌<◌, ◌≤◌, List, ◌++◌, length, drop, refl, ap, arith, length-append, length-drop, length-take-le, ◌-◌, ◌/◌, ◌%◌, ◌==◌, get_or, ◌∙◌}
 use Rattle.std.proofs.lemmas.List.Elements.{All-append, All-take, All-drop}
 use Rattle.des.specs.Blocks.{AreBytes, IsBlock, block_of_bits}
-use Rattle.des.specs.Relations.{AgreeOnBlocks, IsGraphOf}
 use Rattle.des.specs.Laws.BlockBits.{block_of_bits-bits_of_bytes}
 use Rattle.des_modes.specs.Cfb.{Cfb, CfbBits, cfb_bits, input_bits, input_block}
-use Rattle.des_modes.specs.Streams.{Under}
-use Rattle.des_modes.specs.Ofb.{output_block}
 use Rattle.std.proofs.Math.Arith.{mod-mul}
 use Rattle.std.proofs.Math.Nat.{div-div-eq-div-mul, mod-lt, mul_assoc, mul-div-le}
 use Rattle.std.specs.Int.{bit_at}
@@ -15,15 +11,6 @@ use Rattle.des.specs.Bits.{bits_of_bytes}
 use Rattle.des.specs.Laws.BitLists.{length-bits_of_bytes}
 use Rattle.des.proofs.BitParts.{bit_at-xor}
 use Rattle.des_modes.proofs.BitPlaces.{bits-window, block_bit-at, block_bit-of_byte}
-
--- by an encryption that agrees with one of which the relation is the graph
-pub Under-from : {Encrypts : List ℕ → List ℕ → Type 0} {Made : (List ℕ → List ℕ) → Type 0} (e k : List ℕ → List ℕ)
-    → AgreeOnBlocks e k → IsGraphOf e Encrypts → Made k → Under Encrypts Made
-Under-from e k alike graph made = record {
-  encryption = k;
-  encrypts = λ block is. (graph block (k block)).1 (is, alike block is);
-  made = made;
-}
 
 -- the registers are blocks
 pub IsBlock-input_block : (s : ℕ) (iv c : List ℕ) (j : ℕ) → IsBlock iv → AreBytes c → s * j ≤ length c
@@ -33,13 +20,6 @@ IsBlock-input_block s iv c j is_iv are_bytes begun = (
   All-take (λ byte. byte < 256) 8 (drop (s * j) (iv ++ c))
       (All-drop (λ byte. byte < 256) (s * j) (iv ++ c) (All-append (λ byte. byte < 256) iv c is_iv.1 are_bytes)),
 )
-
--- so are the output blocks
-pub IsBlock-output_block : (encryption : List ℕ → List ℕ) (iv : List ℕ) (j : ℕ) → IsBlock iv
-    → ((block : List ℕ) → IsBlock block → IsBlock (encryption block)) → IsBlock (output_block encryption iv j)
-IsBlock-output_block encryption iv zero is_iv makes_blocks = is_iv
-IsBlock-output_block encryption iv (suc j) is_iv makes_blocks =
-    makes_blocks (output_block encryption iv j) (IsBlock-output_block encryption iv j is_iv makes_blocks)
 
 -- the register before a segment, in bits
 input_bits-bits : (s : ℕ) (iv c : List ℕ) (j : ℕ) → IsBlock iv → AreBytes c → s * j ≤ length c
