@@ -1,5 +1,5 @@
 -- Streams mode by mode: where they begin.
-use Rattle.std.proofs.Common.{◌≡◌, ℕ, ◌+◌, ◌/◌, ◌%◌, ◌^◌, ◌<◌, ◌≤◌, List, [], ap, sym, arith, length, drop, ◌++◌, ◌∙◌}
+use Rattle.std.proofs.Common.{◌≡◌, ℕ, ◌+◌, ◌%◌, ◌≤◌, List, [], ap, sym, arith, length, drop, ◌++◌, ◌∙◌}
 use Rattle.std.proofs.Math.Nat.{zero-mod}
 use Rattle.std.proofs.lemmas.Bool.Decides.{nat_tests}
 use Rattle.std.proofs.lemmas.List.{append-nil}
@@ -38,16 +38,11 @@ IsPlace-cfb s encryption iv c place whole holds unused =
 
 -- ---- where a stream begins
 
-plus-none : (n : ℕ) → n < 2 ^ 64 → n ≡ (n + 0 / 8) % 2 ^ 64
-plus-none n below = omega arith
-
 pub IsPlace-begin : (mode : Mode) (encryption : List ℕ → List ℕ) (iv : List ℕ) (place : Place)
     → IsBlock iv → place.register ≡ iv → place.used ≡ 0 → IsPlace mode encryption iv [] place
 unfolding bits_of_bytes
-IsPlace-begin Counter encryption iv place is_block begins unused = record {
-  counter = ap (from_be_bytes w64) begins ∙ plus-none (from_be_bytes w64 iv) (from_be_bytes-lt iv is_block);
-  used = unused;
-}
+IsPlace-begin Counter encryption iv place is_block begins unused =
+    record { counter = omega (arith, from_be_bytes-lt iv is_block, ap (from_be_bytes w64) begins); used = unused }
 IsPlace-begin OutputFeedback encryption iv place is_block begins unused = record { block = begins; used = unused }
 IsPlace-begin BitFeedback encryption iv place is_block begins unused = (rw begins (sym (append-nil (bits_of_bytes iv))), unused)
 IsPlace-begin (CipherFeedback s) encryption iv place is_block begins unused =
