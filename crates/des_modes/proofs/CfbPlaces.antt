@@ -37,20 +37,21 @@ window-front {X} w n iv c more wide begun =
 
 -- ---- bytes, from a place behind c on
 
+-- the initialization vector has the register's width
+length-iv : (iv c register : List ℕ) → length register ≡ 8 → register ≡ drop (length c) (iv ++ c) → length iv ≡ 8
+length-iv iv c register wide is = omega (arith, ap length is, length-drop (length c) (iv ++ c), length-append iv c)
+
+pub cfb_stream-front : (s : ℕ) (E : List ℕ → List ℕ) (iv c register : List ℕ) → length register ≡ 8
+    → register ≡ drop (length c) (iv ++ c) → GoesByFront (cfb_stream s E iv)
+cfb_stream-front s E iv c register wide is t more i below =
+    ap (λ (block : List ℕ). get_or (E block) (i % s) 0)
+    (window-front 8 (s * (i / s)) iv t more (length-iv iv c register wide is) (omega (arith, mul-div-le i s)))
+
 module _ (s : ℕ) (E : List ℕ → List ℕ) (iv c : List ℕ) (state : Register) (wide : length state.register ≡ 8)
     (is : IsCfbAt s E iv c state) where
-  -- the initialization vector has the register's width
-  length-iv : length iv ≡ 8
-  length-iv = omega (arith, ap length is.place.register, length-drop (length c) (iv ++ c), length-append iv c)
-
-  pub cfb_stream-front : GoesByFront (cfb_stream s E iv)
-  cfb_stream-front t more i below =
-      ap (λ (block : List ℕ). get_or (E block) (i % s) 0)
-      (window-front 8 (s * (i / s)) iv t more length-iv (omega (arith, mul-div-le i s)))
-
   -- the output block of the segment does not depend on what comes
   same_block : (more : List ℕ) → E (input_block s iv c (length c / s)) ≡ E (input_block s iv (c ++ more) (length c / s))
-  same_block more = ap E (sym (window-front 8 (s * (length c / s)) iv c more length-iv (mul-div-le (length c) s)))
+  same_block more = ap E (sym (window-front 8 (s * (length c / s)) iv c more (length-iv iv c state.register wide is.place.register) (mul-div-le (length c) s)))
 
   -- between segments the register is the input block of the next
   between : state.used ≡ 0 → length c ≡ s * (length c / s)

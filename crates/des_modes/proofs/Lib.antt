@@ -5,5 +5,6 @@ pub mod Pieces
 pub mod CfbPlaces
 pub mod SegmentBits
 pub mod StreamPlaces
+pub mod OnePlaintext
 pub mod StreamsAlike
 pub mod KnownAnswers

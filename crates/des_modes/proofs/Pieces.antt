@@ -1,9 +1,9 @@
 -- Lists under the xor with a key stream, changed in place, piece after piece, and encrypted or decrypted so.
-use Rattle.std.proofs.Common.{◌≡◌, inl, inr, ℕ, ◌+◌, ◌-◌, ◌<◌, true, false, List, [], ◌∷◌, ◌++◌, length, get_or, bit_xor, refl, ap, ap₂, sym, ◌∙◌, arith, length-append, ◌≤◌, set, take, drop, append_assoc, take-add, length-drop, length-take-le, replicate, subst}
+use Rattle.std.proofs.Common.{◌≡◌, inl, inr, ℕ, ◌+◌, ◌-◌, ◌<◌, true, false, List, [], ◌∷◌, ◌++◌, length, get_or, bit_xor, refl, ap, ap₂, sym, ◌∙◌, arith, length-append, ◌≤◌, set, take, drop, append_assoc, take-add, length-drop, length-take-le}
 use Rattle.std.specs.Int.Bits.{xor_self, xor_assoc, xor_zero_r}
 use Rattle.std.proofs.Math.ListN.{get_or-append}
 use Rattle.std.proofs.lemmas.Bool.{cases_lt}
-use Rattle.std.proofs.lemmas.List.{get_or-append_right, ext_get_or, append-nil, length-replicate, take_all, take_more_set, drop-drop, drop-set-lt, drop_more}
+use Rattle.std.proofs.lemmas.List.{get_or-append_right, ext_get_or, append-nil, take_all, take_more_set, drop-drop, drop-set-lt, drop_more}
 use Rattle.des.specs.Bits.{xor}
 use Rattle.des_modes.specs.Streams.{Xors}
 use Rattle.std.proofs.lemmas.Slice.{take-put_mid, drop-put_mid}
@@ -202,15 +202,3 @@ pub length-behind : (direction : Direction) (c old new : List ℕ) → length ne
     → length (c ++ ciphertext direction old new) ≡ length c + length old
 length-behind Encrypt c old new same = omega (arith, length-append c new)
 length-behind Decrypt c old new same = length-append c old
-
--- what goes on behind each text of n bytes goes on behind n bytes
-pub by_count : {S : Type 0} (At : ℕ → S → Type 0) (k : ℕ → ℕ) (before after : S) (old new : List ℕ) → length new ≡ length old
-    → ((c : List ℕ) → At (length c) before → At (length (c ++ new)) after)
-    → ((c : List ℕ) → At (length c) before → Xors bit_xor 0 (length c) k old new)
-    → (n : ℕ) → At n before → At (n + length old) after × Xors bit_xor 0 n k old new
-by_count At k before after old new same goes xored n at =
-    let c : List ℕ = replicate n 0 in
-    let long : length c ≡ n = length-replicate n _ in
-    let there = subst (λ (m : ℕ). At m before) (sym long) at in
-    let size : length (c ++ new) ≡ n + length old = omega (arith, length-append c new) in
-    (rw size at (goes c there), rw long at (xored c there))

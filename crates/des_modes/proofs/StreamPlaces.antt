@@ -42,8 +42,8 @@ pub IsPlace-begin : (mode : Mode) (encryption : List ℕ → List ℕ) (iv : Lis
     → IsBlock iv → place.register ≡ iv → place.used ≡ 0 → IsPlace mode encryption iv [] place
 unfolding bits_of_bytes
 IsPlace-begin Counter encryption iv place is_block begins unused =
-    record { counter = omega (arith, from_be_bytes-lt iv is_block, ap (from_be_bytes w64) begins); used = unused }
-IsPlace-begin OutputFeedback encryption iv place is_block begins unused = record { block = begins; used = unused }
+    (omega (arith, from_be_bytes-lt iv is_block, ap (from_be_bytes w64) begins), unused)
+IsPlace-begin OutputFeedback encryption iv place is_block begins unused = (begins, unused)
 IsPlace-begin BitFeedback encryption iv place is_block begins unused = (rw begins (sym (append-nil (bits_of_bytes iv))), unused)
 IsPlace-begin (CipherFeedback s) encryption iv place is_block begins unused =
     IsPlace-cfb s encryption iv [] place (zero-mod s) (begins ∙ sym (append-nil iv)) unused

@@ -41,7 +41,7 @@ module _ (e f : List ℕ → List ℕ) (alike : AgreeOnBlocks e f) where
 
     IsPlace-alike : (mode : Mode) (place : Place) → IsPlace mode e iv c place → IsPlace mode f iv c place
     IsPlace-alike Counter place at = at
-    IsPlace-alike OutputFeedback place at = record { block = at.block ∙ (output_block-alike _).1; used = at.used }
+    IsPlace-alike OutputFeedback place at = (at.0 ∙ (output_block-alike _).1, at.1)
     IsPlace-alike BitFeedback place at = at
     IsPlace-alike (CipherFeedback s) place at = record {
       register = at.register;

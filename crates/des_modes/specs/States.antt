@@ -7,30 +7,20 @@ use Rattle.des_modes.specs.Cfb.{CfbBits, input_block}
 use Rattle.des_modes.specs.Modes.{InMode, IsMode, mode_by}
 use Rattle.des_modes.specs.Ofb.{output_block}
 use Rattle.des_modes.specs.declared.cfb.Register.{Register}
-use Rattle.des_modes.specs.declared.ctr.Counter.{Counter}
 use Rattle.des_modes.specs.declared.modes.Mode.{Mode}
-use Rattle.des_modes.specs.declared.modes.Mode.TheVariants.{Counter as CounterMode, OutputFeedback, BitFeedback, CipherFeedback}
+use Rattle.des_modes.specs.declared.modes.Mode.TheVariants.{Counter, OutputFeedback, BitFeedback, CipherFeedback}
 use Rattle.des_modes.specs.declared.modes.TheConstants.{CFB1}
-use Rattle.des_modes.specs.declared.ofb.Feedback.{Feedback}
 use Rattle.des_modes.specs.declared.stream.Place.{Place}
 use Rattle.des_modes.specs.declared.stream.Stream.{Stream}
 use Rattle.des_modes.specs.declared.stream.TheConstants.{MARK}
 
 -- CTR, n bytes behind: the number is the counter of the block in which byte n stands, of whose output block n modulo 8 are taken
-pub record IsAtCounter (t : List ℕ) (n number taken : ℕ) : Type 0 where
-  pub counter : number ≡ (from_be_bytes w64 t + n / 8) % 2 ^ 64
-  pub used : taken ≡ n % 8
-
-abbrev pub IsCtrAt : List ℕ → ℕ → Counter → Type 0
-IsCtrAt t n state = IsAtCounter t n state.counter state.used
+abbrev pub IsAtCounter : List ℕ → ℕ → ℕ → ℕ → Type 0
+IsAtCounter t n number taken = (number ≡ (from_be_bytes w64 t + n / 8) % 2 ^ 64) × (taken ≡ n % 8)
 
 -- OFB, n bytes behind: the block is the last output block that they took from, of which n modulo 8 are taken, 0 for all
-pub record IsAtOutput (encryption : List ℕ → List ℕ) (iv : List ℕ) (n : ℕ) (last : List ℕ) (taken : ℕ) : Type 0 where
-  pub block : last ≡ output_block encryption iv ((n + 7) / 8)
-  pub used : taken ≡ n % 8
-
-abbrev pub IsOfbAt : (List ℕ → List ℕ) → List ℕ → ℕ → Feedback → Type 0
-IsOfbAt encryption iv n state = IsAtOutput encryption iv n state.block state.used
+abbrev pub IsAtOutput : (List ℕ → List ℕ) → List ℕ → ℕ → List ℕ → ℕ → Type 0
+IsAtOutput encryption iv n last taken = (last ≡ output_block encryption iv ((n + 7) / 8)) × (taken ≡ n % 8)
 
 -- CFB, the ciphertext c behind: the bytes are the last eight of IV | C, and of a segment that has begun the block is the output block
 pub record IsAtSegment (s : ℕ) (encryption : List ℕ → List ℕ) (iv c bytes block : List ℕ) (taken : ℕ) : Type 0 where
@@ -61,7 +51,7 @@ HasBegun stream = (stream.mark ≡ MARK) × IsMode stream.mode × (stream.place.
 
 -- a place in its mode: in its register the counter, the last output block, or the last eight bytes of IV | C
 abbrev pub IsPlace : Mode → (List ℕ → List ℕ) → List ℕ → List ℕ → Place → Type 0
-IsPlace CounterMode encryption iv c place = IsAtCounter iv (length c) (from_be_bytes w64 place.register) place.used
+IsPlace Counter encryption iv c place = IsAtCounter iv (length c) (from_be_bytes w64 place.register) place.used
 IsPlace OutputFeedback encryption iv c place = IsAtOutput encryption iv (length c) place.register place.used
 IsPlace BitFeedback encryption iv c place = HoldsLastBits iv (bits_of_bytes c) place.register × (place.used ≡ 0)
 IsPlace (CipherFeedback s) encryption iv c place = IsAtSegment s encryption iv c place.register place.output place.used

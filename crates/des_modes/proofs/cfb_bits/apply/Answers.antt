@@ -5,13 +5,12 @@ use Rattle.des.specs.Bits.{bits_of_bytes, xor}
 use Rattle.des.specs.Laws.BitLists.{length-bits_of_bytes}
 use Rattle.des_modes.specs.Cfb.{first_bits}
 use Rattle.des_modes.specs.Directions.{ciphertext}
-use Rattle.des_modes.specs.States.{HoldsLastBits}
 use Rattle.des_modes.proofs.Pieces.{ByText-none, ByText-joined, texts-map, InPlace-set, Xors-directed, Xors-whole, bits_undone}
 use Rattle.des_modes.proofs.CfbPlaces.{ByText-bit, cfb_bits-front}
-use Rattle.des_modes.proofs.cfb_bits.BitRegister.apply.Goals as goal
+use Rattle.des_modes.proofs.cfb_bits.apply.Goals as goal
 
 pub bits-init : goal.bits-init
-bits-init g c iv = record { done = ByText-none c.args.direction c.args.self.now.register; rest = refl }
+bits-init g c iv = record { done = ByText-none c.args.direction c.args.register.now; rest = refl }
 
 pub bits-preserved : goal.bits-preserved
 bits-preserved g c iv =
@@ -22,8 +21,8 @@ bits-preserved g c iv =
     let bit : c.ciphertext.result ≡ ciphertext c.args.direction (get_or now place false) (xor (get_or now place false) c.key_bit.result) =
     rw (c.ciphertext.ensures, c.bit_at-old.ensures, c.bit_at.ensures, c.xor_bit.ensures, get_or-set_same now place _ false within) refl in
     InPlace-set _ false c.xor_bit.ensures within
-    (λ done. ByText-joined c.args.direction (λ t at. cfb_bits-front E iv t c.bits.self.register c.key_bit.ensures.wide at) done
-    (ByText-bit E iv c.bits.self.register c.advance.new.self.register c.args.direction _ _ c.key_bit.ensures.wide (rw bit at c.advance.ensures)
+    (λ done. ByText-joined c.args.direction (λ t at. cfb_bits-front E iv t c.bits.register c.key_bit.ensures.wide at) done
+    (ByText-bit E iv c.bits.register c.advance.new.register c.args.direction _ _ c.key_bit.ensures.wide (rw bit at c.advance.ensures)
     (ap (xor (get_or now place false)) c.key_bit.ensures.bit))) (c.bits.invariant iv)
 
 pub returns : goal.returns
@@ -31,14 +30,12 @@ returns g c =
     let E : List ℕ → List ℕ = g.C.BlockCipherEncrypt.encrypted c.args.cipher.now in
     let all : c.bits.place ≡ c.args.bits = omega arith in
     let so_far = λ (iv : List ℕ). rw all at (c.bits.invariant iv) in
-    let xored = λ (iv : List ℕ) (d : List Bool) (is : HoldsLastBits iv d c.args.self.now.register).
-    Xors-directed c.args.direction _ _ _ _ bits_undone ((so_far iv).done.goes d is).1 in
     let texts = texts-map (first_bits c.args.bits) c.args.direction c.args.bytes.now c.bits.bytes in
     record {
       after = λ iv d is. rw texts.1 ((so_far iv).done.goes d is).0;
-      xored = λ iv d is. rw (texts.0, texts.1) (xored iv d is);
-      whole = λ iv p d is begun.
+      made = λ iv p d is begun.
           rw (texts.0, texts.1)
-          (Xors-whole (cfb_bits-front E iv d c.args.self.now.register (omega arith) is) begun (xored iv d is));
+          (Xors-whole (cfb_bits-front E iv d c.args.register.now (omega arith) is) begun
+          (Xors-directed c.args.direction _ _ _ _ bits_undone ((so_far iv).done.goes d is).1));
       rest = (so_far []).rest;
     }
