@@ -48,9 +48,9 @@ pub fn apply_piece<C: ManyBlocks>(
     }
 }
 
-/// Encrypts or decrypts by a stream what the reader gives, up to its end or to a limit in bytes, and writes it, a
-/// buffer at a time. Returns the number of bytes. The buffer has one byte at least; what it holds
-/// afterwards, which can be plaintext, is not said. The writer is not flushed.
+/// Encrypts or decrypts by a stream what the reader gives, up to its end or to a limit in bytes, and writes
+/// it. Goes a buffer at a time, and returns the number of bytes. The buffer has one byte at least; what it
+/// holds afterwards, which can be plaintext, is not said. The writer is not flushed.
 ///
 /// The error is `Read` or `Write`, if the reader or the writer failed. The writer then has a prefix of
 /// what was read, encrypted or decrypted, and the reader may have gone further.

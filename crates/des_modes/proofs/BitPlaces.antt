@@ -23,9 +23,7 @@ use Rattle.des_modes.specs.declared.direction.Direction.TheVariants.{Encrypt, De
 pub bits-append : (a b : List ℕ) → bits_of_bytes (a ++ b) ≡ bits_of_bytes a ++ bits_of_bytes b
 unfolding bits_of_bytes
 bits-append [] b = refl
-bits-append (byte ∷ a) b =
-    ap (λ (rest : List Bool). bits_of 8 byte ++ rest) (bits-append a b)
-    ∙ sym (append_assoc (bits_of 8 byte) (bits_of_bytes a) (bits_of_bytes b))
+bits-append (byte ∷ a) b = rw (bits-append a b) (sym (append_assoc (bits_of 8 byte) (bits_of_bytes a) (bits_of_bytes b)))
 
 split : (n : ℕ) (bytes : List ℕ) → bits_of_bytes bytes ≡ bits_of_bytes (take n bytes) ++ bits_of_bytes (drop n bytes)
 split n bytes = ap bits_of_bytes (sym (take-append-drop n bytes)) ∙ bits-append (take n bytes) (drop n bytes)
@@ -51,10 +49,9 @@ bits-window n m a b within same =
     let all : List ℕ = a ++ b in
     let rest : List ℕ = drop n all in
     let long : 8 ≤ length rest = omega (arith, length-drop n all) in
-    ap (λ (bits : List Bool). take 64 (drop m bits)) (sym (bits-append a b) ∙ split n all)
-    ∙ ap (take 64) (drop_at (bits_of_bytes (take n all)) (bits_of_bytes rest) m (length-front n m all (omega arith) same))
-    ∙ ap (take 64) (split 8 rest)
-    ∙ take_at (bits_of_bytes (take 8 rest)) (bits_of_bytes (drop 8 rest)) 64 (length-front 8 64 rest long refl)
+    let front = length-front n m all (omega arith) same in
+    rw (← bits-append a b, split n all, drop_at (bits_of_bytes (take n all)) (bits_of_bytes rest) m front, split 8 rest)
+    (take_at (bits_of_bytes (take 8 rest)) (bits_of_bytes (drop 8 rest)) 64 (length-front 8 64 rest long refl))
 
 -- ---- bit after bit
 
@@ -65,9 +62,8 @@ unfolding bits_of_bytes
 block_bit-at [] j r i same within below = absurd (omega arith)
 block_bit-at (byte ∷ bytes) zero r i same within below =
     let place : i ≡ r = omega arith in
-    ap (λ (k : ℕ). get_or (bits_of_bytes (byte ∷ bytes)) k false) place
-    ∙ get_or-append (bits_of 8 byte) (bits_of_bytes bytes) false r (omega (arith, length-bits_of 8 byte))
-    ∙ get_or-bits_of 8 byte r below
+    rw (place, get_or-append (bits_of 8 byte) (bits_of_bytes bytes) false r (omega (arith, length-bits_of 8 byte)))
+    (get_or-bits_of 8 byte r below)
 block_bit-at (byte ∷ bytes) (suc j) r i same within below =
     get_or-append_right (bits_of 8 byte) (bits_of_bytes bytes) 8 i false (length-bits_of 8 byte) (omega arith)
     ∙ block_bit-at bytes j r (i - 8) (omega arith) (omega arith) below
@@ -82,13 +78,10 @@ block_bit-of_byte bytes i within = block_bit-at bytes (i / 8) (i % 8) i (omega a
 mask_bits : (bit : Bool) (a : ℕ) → a < 8 → ((bit_at (bool_byte bit * 2 ^ a % 256) a == 1) ≡ bit)
     × ((k : ℕ) → k ≢ a → (bit_at (bool_byte bit * 2 ^ a % 256) k == 1) ≡ false)
 mask_bits true a below =
-    let one = ap (λ (m : ℕ). m % 256) (one-mul (2 ^ a)) ∙ mod-eq_of_lt (pow-lt below) in (
-      ap (λ (m : ℕ). bit_at m a == 1) one ∙ ap (λ (m : ℕ). m == 1) (bit_at-pow_same a),
-      λ k other. ap (λ (m : ℕ). bit_at m k == 1) one ∙ ap (λ (m : ℕ). m == 1) (bit_at-pow_other a k other),
-    )
+    let one = ap (λ (m : ℕ). m % 256) (one-mul (2 ^ a)) ∙ mod-eq_of_lt (pow-lt below) in
+    rw one (ap (λ (m : ℕ). m == 1) (bit_at-pow_same a), λ k other. ap (λ (m : ℕ). m == 1) (bit_at-pow_other a k other))
 mask_bits false a below =
-    let none : 0 * 2 ^ a % 256 ≡ 0 = omega arith in
-    let at = λ (k : ℕ). ap (λ (m : ℕ). bit_at m k == 1) none ∙ ap (λ (m : ℕ). m == 1) (bit_at-zero k) in (at a, λ k other. at k)
+    let none : 0 * 2 ^ a % 256 ≡ 0 = omega arith in rw none (ap (λ (m : ℕ). m == 1) (bit_at-zero a), λ k other. ap (λ (m : ℕ). m == 1) (bit_at-zero k))
 
 xor-none : (bit : Bool) → xor bit false ≡ bit
 xor-none true = refl
@@ -113,9 +106,7 @@ bits-xored bytes place bit within =
     let now = block_bit-of_byte (set bytes j byte) i (omega arith) in
     let was = block_bit-of_byte bytes i inside in
     let xored : i / 8 ≡ j → block_bit (set bytes j byte) i ≡ xor (block_bit bytes i) (bit_at mask k == 1) = λ here.
-    now ∙ ap (λ (n : ℕ). bit_at (get_or (set bytes j byte) n 0) k == 1) here
-    ∙ ap (λ (x : ℕ). bit_at x k == 1) (get_or-set_same bytes j byte 0 (omega arith)) ∙ bit_at-xor (get_or bytes j 0) mask k
-    ∙ ap (λ (x : Bool). xor x (bit_at mask k == 1)) (ap (λ (n : ℕ). bit_at (get_or bytes n 0) k == 1) (sym here) ∙ sym was) in
+    rw (now, was, here, get_or-set_same bytes j byte 0 (omega arith)) (bit_at-xor (get_or bytes j 0) mask k) in
     elim (cases_eq i place) [
       | inl same ↦
           xored (ap (λ (n : ℕ). n / 8) same)

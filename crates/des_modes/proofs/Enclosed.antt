@@ -1,17 +1,16 @@
 -- Blocks that are enclosed: what opens them, and that what encloses blocks encloses no others.
-use Rattle.std.proofs.Common.{◌≡◌, ℕ, suc, ◌+◌, ◌-◌, ◌<◌, ◌≤◌, List, [], ◌∷◌, ◌++◌, map, length, get_or, take, drop, reverse, refl, ap, ap₂, subst, sym, ◌∙◌, arith}
+use Rattle.std.proofs.Common.{◌≡◌, ℕ, ◌+◌, ◌<◌, List, [], ◌∷◌, ◌++◌, map, length, get_or, take, drop, reverse, refl, ap, ap₂, sym, ◌∙◌, arith}
 use Rattle.std.specs.List.{All}
 use Rattle.std.proofs.lemmas.Grind.{common_steps}
-use borrow.Rule.Slice.PartMut.{put_mid}
 use Rattle.std.proofs.lemmas.List.{get_or-reverse, reverse-reverse, reverse-append, map-append, length-reverse, same_from_push, take_all, take_more}
 use Rattle.std.proofs.lemmas.List.Elements.{All-cons, All-map}
 use Rattle.des.specs.Blocks.{IsBlock}
-use Rattle.des.specs.Cbc.{Cbc, CbcDecrypts, next_vector, xor_blocks}
+use Rattle.des.specs.Cbc.{CbcDecrypts, next_vector, xor_blocks}
 use Rattle.des.specs.Laws.BlockBits.{IsBlock-to_be_bytes}
 use Rattle.des.specs.Relations.{IsGraphOf}
 use Rattle.des.proofs.ChainedBlocks.{CbcUnder-weaker, CbcDecrypts-from_Cbc, Cbc-from_CbcDecrypts}
 use Rattle.des.proofs.ChainedPieces.{CbcDecrypts-append}
-use Rattle.des.proofs.CbcDecryptedLists.{CbcDecrypts-cbc_decrypted, cbc_decrypted-from}
+use Rattle.des.proofs.CbcDecryptedLists.{cbc_decrypted, CbcDecrypts-cbc_decrypted, cbc_decrypted-from}
 use Rattle.des_fast.proofs.RelatedCbc.{CbcUnder-related}
 use Rattle.des_modes.specs.CmsKeyWrap.{second_iv, reversed, checksum, Encloses, Wraps}
 use Rattle.des_modes.proofs.TkwSteps.{Undoes}
@@ -19,21 +18,11 @@ use Rattle.des_modes.proofs.TkwSteps.{Undoes}
 is_second_iv : IsBlock second_iv
 is_second_iv = IsBlock-to_be_bytes 0x4adda22c79e82105
 
--- ---- lists by their first and their last element
-
--- a list whose elements from the second on are written
-pub put_rest : (blocks new : List (List ℕ)) → 1 ≤ length blocks → length new ≡ length blocks - 1
-    → put_mid 1 (length blocks - 1) blocks new ≡ get_or blocks 0 [] ∷ new
-put_rest [] new some same = absurd (omega arith)
-put_rest (block ∷ blocks) new some same = grind (arith, common_steps)
-
+-- a list by its first and its last element
 pub framed : (blocks : List (List ℕ)) (n m : ℕ) → length blocks ≡ n + 2 → m ≡ n
     → blocks ≡ get_or blocks 0 [] ∷ take m (drop 1 blocks) ++ get_or blocks (n + 1) [] ∷ []
 framed [] n m size same = absurd (omega arith)
-framed (block ∷ blocks) n m size same =
-    let next : n + 1 ≡ suc n = omega arith in
-    ap (λ (xs : List (List ℕ)). block ∷ xs) (sym (take_all (n + 1) blocks (omega arith)) ∙ take_more blocks n [] (omega arith))
-    ∙ ap₂ (λ (k i : ℕ). block ∷ take k blocks ++ get_or (block ∷ blocks) i [] ∷ []) (sym same) (sym next)
+framed (block ∷ blocks) n m size same = grind (arith, common_steps, take_all, take_more)
 
 -- ---- all bytes in reverse order
 
@@ -47,9 +36,7 @@ reversed-reversed (block ∷ blocks) =
     ∙ ap₂ ◌∷◌ (reverse-reverse block) (reversed-reversed blocks)
 
 All-reverse : {X : Type 0} (P : X → Type 0) (xs : List X) → All P xs → All P (reverse xs)
-All-reverse P xs all = λ i d within.
-    let inside : i < length xs = omega (arith, length-reverse xs) in
-    rw (get_or-reverse xs i d inside) (all (length xs - 1 - i) d (omega arith))
+All-reverse P xs all = grind (arith, get_or-reverse, length-reverse)
 
 All-reversed : (iv : List ℕ) (blocks : List (List ℕ)) → IsBlock iv → All IsBlock blocks → All IsBlock (reversed (iv ∷ blocks))
 All-reversed iv blocks is are =
@@ -61,23 +48,24 @@ All-reversed iv blocks is are =
 -- ---- what was enclosed
 
 module _ {E D : List ℕ → List ℕ} (laws : Undoes E D) where
-  Cbc-one : (iv : List ℕ) (p other q : List (List ℕ)) → IsBlock iv → All IsBlock p → All IsBlock other → Cbc E iv p q
-      → Cbc E iv other q → p ≡ other
-  Cbc-one iv p other q is_iv are too first second =
-      cbc_decrypted-from D iv q p (CbcDecrypts-from_Cbc E D iv p q is_iv are laws.is_block laws.undone first)
-      ∙ sym (cbc_decrypted-from D iv q other (CbcDecrypts-from_Cbc E D iv other q is_iv too laws.is_block laws.undone second))
+  -- decrypted in both directions
+  decrypted : (iv : List ℕ) (p enclosed : List (List ℕ)) → IsBlock iv
+      → (is : Encloses (λ block answer. answer ≡ E block) iv p enclosed)
+      → (iv ∷ is.temp1 ≡ reversed (cbc_decrypted D second_iv enclosed)) × (p ≡ cbc_decrypted D iv is.temp1)
+  decrypted iv p enclosed is_iv is = (
+    sym (reversed-reversed (iv ∷ is.temp1))
+        ∙ ap reversed (cbc_decrypted-from D second_iv enclosed _ (CbcDecrypts-from_Cbc E D second_iv _ enclosed is_second_iv
+        (All-reversed iv is.temp1 is_iv is.are_blocks.1) laws.is_block laws.undone is.second)),
+    cbc_decrypted-from D iv is.temp1 p (CbcDecrypts-from_Cbc E D iv p is.temp1 is_iv is.are_blocks.0 laws.is_block laws.undone is.first),
+  )
 
   Encloses-one : (iv vector : List ℕ) (p other enclosed : List (List ℕ)) → IsBlock iv → IsBlock vector
       → Encloses (λ block answer. answer ≡ E block) iv p enclosed
       → Encloses (λ block answer. answer ≡ E block) vector other enclosed → p ≡ other
   Encloses-one iv vector p other enclosed is_iv is_vector first second =
-      let same : iv ∷ first.temp1 ≡ vector ∷ second.temp1 =
-      sym (reversed-reversed (iv ∷ first.temp1))
-      ∙ ap reversed (Cbc-one second_iv _ _ enclosed is_second_iv (All-reversed iv first.temp1 is_iv first.are_blocks.1)
-      (All-reversed vector second.temp1 is_vector second.are_blocks.1) first.second second.second)
-      ∙ reversed-reversed (vector ∷ second.temp1) in
-      let P : List (List ℕ) → Type 0 = λ blocks. Cbc E (get_or blocks 0 []) other (drop 1 blocks) in
-      Cbc-one iv p other first.temp1 is_iv first.are_blocks.0 second.are_blocks.0 first.first (subst P (sym same) second.first)
+      let one = decrypted iv p enclosed is_iv first in
+      let two = decrypted vector other enclosed is_vector second in
+      one.1 ∙ ap (λ (blocks : List (List ℕ)). cbc_decrypted D (get_or blocks 0 []) (drop 1 blocks)) (one.0 ∙ sym two.0) ∙ sym two.1
 
   -- what wraps a key wraps no other, and has its checksum
   pub Wraps-one : (iv vector check : List ℕ) (key other wrapped : List (List ℕ)) → IsBlock iv → IsBlock vector
@@ -92,64 +80,58 @@ module _ {E D : List ℕ → List ℕ} (laws : Undoes E D) where
 -- ---- what opens it
 
 -- a list, and a block behind it
-cbc_decrypted-behind : (D : List ℕ → List ℕ) (iv : List ℕ) (q p : List (List ℕ)) (block answer : List ℕ) → CbcDecrypts D iv q p
+pub cbc_decrypted-behind : (D : List ℕ → List ℕ) (iv : List ℕ) (q p : List (List ℕ)) (block answer : List ℕ) → CbcDecrypts D iv q p
     → answer ≡ xor_blocks (D block) (next_vector iv q) → CbcDecrypts D iv (q ++ block ∷ []) (p ++ answer ∷ [])
 cbc_decrypted-behind D iv q p block answer cbc_decrypts is =
     CbcDecrypts-append D iv q p (block ∷ []) (answer ∷ []) cbc_decrypts
     (CbcDecrypts-cbc_decrypted D (next_vector iv q) (block ∷ []) (answer ∷ []) (ap (λ (x : List ℕ). x ∷ []) is))
 
--- from the first block, those between, and the last: x, p and y are their plaintexts
+-- the first block, and those behind it: x, p and y are their plaintexts
 pub Encloses-opened : (E D : List ℕ → List ℕ) (first last x y iv behind check : List ℕ)
     (middle p turned key enclosed : List (List ℕ)) → Undoes D E → All IsBlock enclosed
-    → enclosed ≡ first ∷ middle ++ last ∷ [] → x ≡ xor_blocks (D first) second_iv → CbcDecrypts D first middle p
-    → y ≡ xor_blocks (D last) (next_vector first middle) → iv ≡ reverse y → turned ≡ reversed p → behind ≡ reverse x
-    → IsBlock iv → All IsBlock (turned ++ behind ∷ []) → CbcDecrypts D iv turned key
-    → check ≡ xor_blocks (D behind) (next_vector iv turned) → All IsBlock (key ++ check ∷ [])
+    → enclosed ≡ first ∷ middle ++ last ∷ [] → CbcDecrypts D second_iv (first ∷ []) (x ∷ [])
+    → CbcDecrypts D first (middle ++ last ∷ []) (p ++ y ∷ []) → iv ≡ reverse y → turned ≡ reversed p → behind ≡ reverse x
+    → IsBlock iv → All IsBlock (turned ++ behind ∷ []) → All IsBlock (key ++ check ∷ [])
+    → CbcDecrypts D iv (turned ++ behind ∷ []) (key ++ check ∷ [])
     → Encloses (λ block answer. answer ≡ E block) iv (key ++ check ∷ []) enclosed
-Encloses-opened E D first last x y iv behind check middle p turned key enclosed laws are whole is_x cbc_decrypts is_y is_iv is_turned
-    is_behind iv_block are_temp1 opened is_check are_key =
+Encloses-opened E D first last x y iv behind check middle p turned key enclosed laws are whole one others is_iv is_turned
+    is_behind iv_block are_temp1 are_key opened =
     let temp1 : List (List ℕ) = turned ++ behind ∷ [] in
     let same : x ∷ p ++ y ∷ [] ≡ reversed (iv ∷ temp1) =
     sym (reversed-reversed (x ∷ p ++ y ∷ []))
     ∙ ap reversed (reversed-append (x ∷ []) (p ++ y ∷ [])
     ∙ ap (λ (xs : List (List ℕ)). xs ++ reverse x ∷ []) (reversed-append p (y ∷ []))
     ∙ sym (ap₂ ◌∷◌ is_iv (ap₂ (λ (xs : List (List ℕ)) (x : List ℕ). xs ++ x ∷ []) is_turned is_behind))) in
-    let P : List (List ℕ) → Type 0 = λ blocks. CbcDecrypts D second_iv enclosed blocks in
-    let Q : List (List ℕ) → Type 0 = λ blocks. CbcDecrypts D second_iv blocks (x ∷ p ++ y ∷ []) in
+    let chained = CbcDecrypts-append D second_iv (first ∷ []) (x ∷ []) (middle ++ last ∷ []) (p ++ y ∷ []) one others in
     record {
       temp1 = temp1;
       are_blocks = (are_key, are_temp1);
-      first =
-          Cbc-from_CbcDecrypts E D iv (key ++ check ∷ []) temp1 iv_block are_temp1 laws.is_block laws.undone
-          (cbc_decrypted-behind D iv turned key behind check opened is_check);
+      first = Cbc-from_CbcDecrypts E D iv (key ++ check ∷ []) temp1 iv_block are_temp1 laws.is_block laws.undone opened;
       second =
           Cbc-from_CbcDecrypts E D second_iv (reversed (iv ∷ temp1)) enclosed is_second_iv are laws.is_block laws.undone
-          (subst P same (subst Q (sym whole)
-          (CbcDecrypts-append D second_iv (first ∷ []) (x ∷ []) (middle ++ last ∷ []) (p ++ y ∷ [])
-          (cbc_decrypted-behind D second_iv [] [] first x (CbcDecrypts-cbc_decrypted D second_iv [] [] refl) is_x)
-          (cbc_decrypted-behind D first middle p last y cbc_decrypts is_y))));
+          (rw (← same, whole) chained);
     }
 
 -- ---- by the relation of a cipher's key
 
-module _ {Answers : List ℕ → List ℕ → Type 0} {E : List ℕ → List ℕ} (graph : IsGraphOf E Answers) {iv : List ℕ}
+module _ {Encrypts : List ℕ → List ℕ → Type 0} {E : List ℕ → List ℕ} (graph : IsGraphOf E Encrypts) {iv : List ℕ}
     {p enclosed : List (List ℕ)} where
   pub Encloses-related : IsBlock iv → ((block : List ℕ) → IsBlock block → IsBlock (E block))
-      → Encloses (λ block answer. answer ≡ E block) iv p enclosed → Encloses Answers iv p enclosed
+      → Encloses (λ block answer. answer ≡ E block) iv p enclosed → Encloses Encrypts iv p enclosed
   Encloses-related is_iv makes_blocks encloses = record {
     temp1 = encloses.temp1;
     are_blocks = encloses.are_blocks;
-    first = CbcUnder-related Answers E graph iv p encloses.temp1 is_iv encloses.are_blocks.0 makes_blocks encloses.first;
+    first = CbcUnder-related Encrypts E graph iv p encloses.temp1 is_iv encloses.are_blocks.0 makes_blocks encloses.first;
     second =
-        CbcUnder-related Answers E graph second_iv (reversed (iv ∷ encloses.temp1)) enclosed is_second_iv
+        CbcUnder-related Encrypts E graph second_iv (reversed (iv ∷ encloses.temp1)) enclosed is_second_iv
         (All-reversed iv encloses.temp1 is_iv encloses.are_blocks.1) makes_blocks encloses.second;
   }
 
-  pub Encloses-from_related : Encloses Answers iv p enclosed → Encloses (λ block answer. answer ≡ E block) iv p enclosed
+  pub Encloses-from_related : Encloses Encrypts iv p enclosed → Encloses (λ block answer. answer ≡ E block) iv p enclosed
   Encloses-from_related encloses =
-      let answers : (x y : List ℕ) → Answers x y → y ≡ E x = λ x y related. sym ((graph x y).0 related).1 in record {
+      let encrypts : (x y : List ℕ) → Encrypts x y → y ≡ E x = λ x y related. sym ((graph x y).0 related).1 in record {
         temp1 = encloses.temp1;
         are_blocks = encloses.are_blocks;
-        first = CbcUnder-weaker _ _ _ _ _ answers encloses.first;
-        second = CbcUnder-weaker _ _ _ _ _ answers encloses.second;
+        first = CbcUnder-weaker _ _ _ _ _ encrypts encloses.first;
+        second = CbcUnder-weaker _ _ _ _ _ encrypts encloses.second;
       }

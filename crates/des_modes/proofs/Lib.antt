@@ -3,7 +3,8 @@ pub mod Enclosed
 pub mod BitPlaces
 pub mod Pieces
 pub mod CfbPlaces
-pub mod RelatedStreams
+pub mod SegmentBits
 pub mod StreamPlaces
+pub mod OnePlaintext
 pub mod StreamsAlike
 pub mod KnownAnswers

@@ -1,9 +1,9 @@
 -- Lists under the xor with a key stream, changed in place, piece after piece, and encrypted or decrypted so.
-use Rattle.std.proofs.Common.{◌≡◌, inl, inr, ℕ, ◌+◌, ◌-◌, ◌<◌, true, false, List, [], ◌∷◌, ◌++◌, length, get_or, bit_xor, refl, ap, ap₂, sym, ◌∙◌, arith, length-append, ◌≤◌, set, take, drop, append_assoc, take-add, length-drop, length-take-le, replicate, subst}
+use Rattle.std.proofs.Common.{◌≡◌, inl, inr, ℕ, ◌+◌, ◌-◌, ◌<◌, true, false, List, [], ◌∷◌, ◌++◌, length, get_or, bit_xor, refl, ap, ap₂, sym, ◌∙◌, arith, length-append, ◌≤◌, set, take, drop, append_assoc, take-add, length-drop, length-take-le}
 use Rattle.std.specs.Int.Bits.{xor_self, xor_assoc, xor_zero_r}
 use Rattle.std.proofs.Math.ListN.{get_or-append}
 use Rattle.std.proofs.lemmas.Bool.{cases_lt}
-use Rattle.std.proofs.lemmas.List.{get_or-append_right, ext_get_or, append-nil, length-replicate, take_all, take_more_set, drop-drop, drop-set-lt, drop_more}
+use Rattle.std.proofs.lemmas.List.{get_or-append_right, ext_get_or, append-nil, take_all, take_more_set, drop-drop, drop-set-lt, drop_more}
 use Rattle.des.specs.Bits.{xor}
 use Rattle.des_modes.specs.Streams.{Xors}
 use Rattle.std.proofs.lemmas.Slice.{take-put_mid, drop-put_mid}
@@ -36,10 +36,8 @@ module _ {X : Type 0} {op : X → X → X} {d : X} where
   Xors-single n k x y is = record {
     count = refl;
     xored = λ i below.
-        let here : 0 ≡ i = omega arith in
-        let place : n ≡ n + i = omega arith in
-        ap (λ (m : ℕ). get_or (y ∷ []) m d) (sym here) ∙ is
-        ∙ ap₂ (λ (m l : ℕ). op (get_or (x ∷ []) m d) (k l)) here place;
+        let first : i ≡ 0 = omega arith in
+        let place : n + i ≡ n = omega arith in rw (place, first) is;
   }
 
   pub Xors-back : (n : ℕ) (k : ℕ → X) (p c : List X) → UndoesItself op → Xors op d n k p c → Xors op d n k c p
@@ -68,12 +66,10 @@ module _ {X : Type 0} {op : X → X → X} {d : X} where
           (first.xored i front)
       | inr back ↦
           let j : ℕ = i - length p in
-          let place : m + j ≡ n + i = omega arith in
-          rw (
-            get_or-append_right p more (length p) i d refl back,
-            get_or-append_right c answers (length p) i d first.count back,
-          )
-          (second.xored j (omega (arith, length-append p more)) ∙ ap (λ (x : ℕ). op (get_or more j d) (k x)) place)
+          let place : n + i ≡ m + j = omega arith in
+          let answer = get_or-append_right c answers (length p) i d first.count back in
+          rw (get_or-append_right p more (length p) i d refl back, answer, place)
+          (second.xored j (omega (arith, length-append p more)))
     ];
   }
 
@@ -130,45 +126,6 @@ pub InPlace-all : {X : Type 0} {Done : List X → List X → Type 0} {from : ℕ
     → length now ≤ from → InPlace Done from old now → Done old now
 InPlace-all {X} {Done} {from} {old} {now} all same so_far = rw (take_all from old all, take_all from now same) at so_far.done
 
--- ---- streams by the ciphertext behind them: behind t, p becomes c
-
-pub record ByText {S X : Type 0} (op : X → X → X) (d : X) (At : List X → S → Type 0) (k : List X → ℕ → X) (before after : S)
-    (p c : List X) : Type 0 where
-  pub goes : (t : List X) → At t before → At (t ++ c) after × Xors op d (length t) (k (t ++ c)) p c
-
--- the key stream does not depend on what comes
-abbrev pub GoesByFront : {X : Type 0} → (List X → ℕ → X) → Type 0
-GoesByFront {X} k = (t more : List X) (i : ℕ) → i < length t → k (t ++ more) i ≡ k t i
-
-module _ {S X : Type 0} {op : X → X → X} {d : X} {At : List X → S → Type 0} {k : List X → ℕ → X} where
-  pub ByText-none : (state : S) → ByText op d At k state state [] []
-  ByText-none state = record { goes = λ t at. (rw append-nil at, Xors-none (length t) (k (t ++ []))) }
-
-  pub ByText-joined : {before between after : S} {p c more answers : List X} → ((t : List X) → At t between → GoesByFront k)
-      → ByText op d At k before between p c → ByText op d At k between after more answers
-      → ByText op d At k before after (p ++ more) (c ++ answers)
-  ByText-joined {before} {between} {after} {p} {c} {more} {answers} front first second = record {
-    goes = λ t at.
-        let one = first.goes t at in
-        let two = second.goes (t ++ c) one.0 in
-        let size : length (t ++ c) ≡ length t + length p = omega (arith, length-append t c, one.1.count) in (
-          rw (append_assoc t c answers) at two.0,
-          rw (← append_assoc t c answers)
-              (Xors-append (length t) (length (t ++ c)) (k ((t ++ c) ++ answers)) p c more answers size
-              (Xors-other (length t) (k (t ++ c)) (k ((t ++ c) ++ answers)) p c
-              (λ i below. sym (front (t ++ c) one.0 (t ++ c) answers (length t + i) (omega arith))) one.1)
-              two.1),
-        );
-  }
-
--- what goes on from a text makes the whole
-pub Xors-whole : {X : Type 0} {op : X → X → X} {d : X} {k : List X → ℕ → X} {p c more answers : List X} → GoesByFront k
-    → Xors op d 0 (k c) p c → Xors op d (length c) (k (c ++ answers)) more answers
-    → Xors op d 0 (k (c ++ answers)) (p ++ more) (c ++ answers)
-Xors-whole {X} {op} {d} {k} {p} {c} {more} {answers} front begun made =
-    Xors-append 0 (length c) (k (c ++ answers)) p c more answers (omega (arith, begun.count))
-    (Xors-other 0 (k c) (k (c ++ answers)) p c (λ i below. sym (front c answers (0 + i) (omega (arith, begun.count)))) begun) made
-
 -- ---- each text is one of the two
 
 pub ciphertext-is : {X : Type 0} (P : X → Type 0) (direction : Direction) (old new : X) → P old → P new
@@ -182,28 +139,62 @@ pub texts-map : {X Y : Type 0} (f : X → Y) (direction : Direction) (old new : 
 texts-map f Encrypt old new = (refl, refl)
 texts-map f Decrypt old new = (refl, refl)
 
--- ---- relations of the two
-
-abbrev pub Directed : {X : Type 0} → Direction → (List X → List X → Type 0) → List X → List X → Type 0
-Directed direction Done old now = Done (plaintext direction old now) (ciphertext direction old now)
+ciphertext-append : {X : Type 0} (direction : Direction) (old now more answers : List X)
+    → ciphertext direction (old ++ more) (now ++ answers) ≡ ciphertext direction old now ++ ciphertext direction more answers
+ciphertext-append Encrypt old now more answers = refl
+ciphertext-append Decrypt old now more answers = refl
 
 -- the xor encrypts and decrypts
 pub Xors-directed : {X : Type 0} {op : X → X → X} {d : X} (direction : Direction) (n : ℕ) (k : ℕ → X) (old now : List X)
-    → UndoesItself op → Xors op d n k old now → Directed direction (Xors op d n k) old now
+    → UndoesItself op → Xors op d n k old now → Xors op d n k (plaintext direction old now) (ciphertext direction old now)
 Xors-directed Encrypt n k old now undone xors = xors
 Xors-directed Decrypt n k old now undone xors = Xors-back n k old now undone xors
 
-module _ {S X : Type 0} {op : X → X → X} {d : X} {At : List X → S → Type 0} {k : List X → ℕ → X} where
-  pub ByText-begun : (direction : Direction) (state : S) → Directed direction (ByText op d At k state state) [] []
-  ByText-begun Encrypt state = ByText-none state
-  ByText-begun Decrypt state = ByText-none state
+-- ---- streams by the ciphertext behind them: behind t, `old` becomes `now`
 
-  pub ByText-directed : (direction : Direction) (old now more answers : List X) {before between after : S}
-      → ((t : List X) → At t between → GoesByFront k) → Directed direction (ByText op d At k before between) old now
-      → Directed direction (ByText op d At k between after) more answers
-      → Directed direction (ByText op d At k before after) (old ++ more) (now ++ answers)
-  ByText-directed Encrypt old now more answers front first second = ByText-joined front first second
-  ByText-directed Decrypt old now more answers front first second = ByText-joined front first second
+pub record ByText {S X : Type 0} (op : X → X → X) (d : X) (At : List X → S → Type 0) (k : List X → ℕ → X)
+    (direction : Direction) (before after : S) (old now : List X) : Type 0 where
+  pub goes : (t : List X) → At t before → At (t ++ ciphertext direction old now) after
+      × Xors op d (length t) (k (t ++ ciphertext direction old now)) old now
+
+-- the key stream does not depend on what comes
+abbrev pub GoesByFront : {X : Type 0} → (List X → ℕ → X) → Type 0
+GoesByFront {X} k = (t more : List X) (i : ℕ) → i < length t → k (t ++ more) i ≡ k t i
+
+module _ {S X : Type 0} {op : X → X → X} {d : X} {At : List X → S → Type 0} {k : List X → ℕ → X} where
+  pub ByText-none : (direction : Direction) (state : S) → ByText op d At k direction state state [] []
+  ByText-none direction state =
+      let none : ciphertext direction [] [] ≡ [] = ciphertext-is (λ (xs : List X). xs ≡ []) direction [] [] refl refl in
+      record { goes = λ t at. rw (none, append-nil) (at, Xors-none (length t) (k t)) }
+
+  pub ByText-joined : (direction : Direction) {before between after : S} {old now more answers : List X}
+      → ((t : List X) → At t between → GoesByFront k) → ByText op d At k direction before between old now
+      → ByText op d At k direction between after more answers
+      → ByText op d At k direction before after (old ++ more) (now ++ answers)
+  ByText-joined direction {before} {between} {after} {old} {now} {more} {answers} front first second = record {
+    goes = λ t at.
+        let c : List X = ciphertext direction old now in
+        let d : List X = ciphertext direction more answers in
+        let one = first.goes t at in
+        let two = second.goes (t ++ c) one.0 in
+        let count = ciphertext-is (λ (xs : List X). length xs ≡ length old) direction old now refl one.1.count in
+        let size : length (t ++ c) ≡ length t + length old = omega (arith, length-append t c, count) in
+        rw (ciphertext-append direction old now more answers, ← append_assoc t c d) (
+          two.0,
+          Xors-append (length t) (length (t ++ c)) (k ((t ++ c) ++ d)) old now more answers size
+              (Xors-other (length t) (k (t ++ c)) (k ((t ++ c) ++ d)) old now
+              (λ i below. sym (front (t ++ c) one.0 (t ++ c) d (length t + i) (omega arith))) one.1)
+              two.1,
+        );
+  }
+
+-- what goes on from a text makes the whole
+pub Xors-whole : {X : Type 0} {op : X → X → X} {d : X} {k : List X → ℕ → X} {p c more answers : List X} → GoesByFront k
+    → Xors op d 0 (k c) p c → Xors op d (length c) (k (c ++ answers)) more answers
+    → Xors op d 0 (k (c ++ answers)) (p ++ more) (c ++ answers)
+Xors-whole {X} {op} {d} {k} {p} {c} {more} {answers} front begun made =
+    Xors-append 0 (length c) (k (c ++ answers)) p c more answers (omega (arith, begun.count))
+    (Xors-other 0 (k c) (k (c ++ answers)) p c (λ i below. sym (front c answers (0 + i) (omega (arith, begun.count)))) begun) made
 
 -- ---- key streams that do not depend on the texts
 
@@ -211,15 +202,3 @@ pub length-behind : (direction : Direction) (c old new : List ℕ) → length ne
     → length (c ++ ciphertext direction old new) ≡ length c + length old
 length-behind Encrypt c old new same = omega (arith, length-append c new)
 length-behind Decrypt c old new same = length-append c old
-
--- what goes on behind each text of n bytes goes on behind n bytes
-pub by_count : {S : Type 0} (At : ℕ → S → Type 0) (k : ℕ → ℕ) (before after : S) (old new : List ℕ) → length new ≡ length old
-    → ((c : List ℕ) → At (length c) before → At (length (c ++ new)) after)
-    → ((c : List ℕ) → At (length c) before → Xors bit_xor 0 (length c) k old new)
-    → (n : ℕ) → At n before → At (n + length old) after × Xors bit_xor 0 n k old new
-by_count At k before after old new same goes xored n at =
-    let c : List ℕ = replicate n 0 in
-    let long : length c ≡ n = length-replicate n _ in
-    let there = subst (λ (m : ℕ). At m before) (sym long) at in
-    let size : length (c ++ new) ≡ n + length old = omega (arith, length-append c new) in
-    (rw size at (goes c there), rw long at (xored c there))

@@ -1,8 +1,7 @@
 -- Streams mode by mode: where they begin.
-use Rattle.std.proofs.Common.{◌≡◌, ℕ, inl, inr, ◌+◌, ◌/◌, ◌%◌, ◌^◌, ◌<◌, ◌≤◌, List, [], ap, refl, sym, arith, ◌-◌, length, drop, ◌++◌, ◌∙◌}
+use Rattle.std.proofs.Common.{◌≡◌, ℕ, ◌+◌, ◌%◌, ◌≤◌, List, [], ap, sym, arith, length, drop, ◌++◌, ◌∙◌}
 use Rattle.std.proofs.Math.Nat.{zero-mod}
-use Rattle.std.proofs.lemmas.Bool.{ne_eqb}
-use Rattle.std.proofs.lemmas.Bool.Decides.{eqb_tells}
+use Rattle.std.proofs.lemmas.Bool.Decides.{nat_tests}
 use Rattle.std.proofs.lemmas.List.{append-nil}
 use Rattle.std.specs.Int.{w64, from_be_bytes}
 use Rattle.des.specs.Bits.{bits_of_bytes}
@@ -10,26 +9,15 @@ use Rattle.des.specs.Blocks.{IsBlock}
 use Rattle.des.specs.Laws.BlockBits.{from_be_bytes-lt}
 use Rattle.des_modes.specs.Modes.{InMode, IsMode, mode_by}
 use Rattle.des_modes.specs.States.{IsPlace, size_of}
-use Rattle.des_modes.specs.declared.cfb.Register.{Register}
-use Rattle.des_modes.specs.declared.ctr.Counter.{Counter as AtCounter}
 use Rattle.des_modes.specs.declared.modes.Mode.{Mode}
 use Rattle.des_modes.specs.declared.modes.Mode.TheVariants.{Counter, OutputFeedback, BitFeedback, CipherFeedback}
-use Rattle.des_modes.specs.declared.modes.TheConstants.{CTR, OFB, CFB1}
-use Rattle.des_modes.specs.declared.ofb.Feedback.{Feedback}
+use Rattle.des_modes.specs.declared.modes.TheConstants.{CFB1}
 use Rattle.des_modes.specs.declared.stream.Place.{Place}
 use Rattle.des_modes.proofs.Pieces.{Xors-none}
 
 -- the mode of a number takes 1 to 8 bytes of an output block
 pub size_of-mode_by : (number : ℕ) → IsMode number → (1 ≤ size_of (mode_by number)) × (size_of (mode_by number) ≤ 8)
-size_of-mode_by number (inl is) = rw is (omega arith, omega arith)
-size_of-mode_by number (inr (inl is)) = rw is (omega arith, omega arith)
-size_of-mode_by number (inr (inr within)) = elim (eqb_tells number CFB1) [
-  | inl same ↦ rw same.1 (omega arith, omega arith)
-  | inr differs ↦
-      let not_ctr = ne_eqb number CTR (λ is. omega (arith, is, within.0)) in
-      let not_ofb = ne_eqb number OFB (λ is. omega (arith, is, within.0)) in
-      rw (not_ctr, not_ofb, differs.0) (omega (arith, within.0, differs.1), omega (arith, within.1))
-]
+size_of-mode_by number is = grind (arith, nat_tests)
 
 pub InMode-none : (mode : Mode) (encryption : List ℕ → List ℕ) (iv : List ℕ) → InMode mode encryption iv [] []
 unfolding bits_of_bytes
@@ -41,51 +29,21 @@ InMode-none (CipherFeedback s) encryption iv = Xors-none 0 _
 -- before a segment of cipher feedback
 pub mode_by-cfb : (s : ℕ) → 1 ≤ s → mode_by (CFB1 + s) ≡ CipherFeedback s
 mode_by-cfb s some =
-    let not_ctr = ne_eqb (CFB1 + s) CTR (λ is. omega (arith, is)) in
-    let not_ofb = ne_eqb (CFB1 + s) OFB (λ is. omega (arith, is)) in
-    let not_bits = ne_eqb (CFB1 + s) CFB1 (λ is. omega (arith, is)) in
-    let bytes : CFB1 + s - CFB1 ≡ s = omega arith in
-    rw (not_ctr, not_ofb, not_bits) (ap CipherFeedback bytes)
+    grind (arith, nat_tests)
 
-pub IsPlace-cfb : (s : ℕ) (encryption : List ℕ → List ℕ) (iv c : List ℕ) (place : Place) → (1 ≤ s) × (s ≤ 8)
-    → length c % s ≡ 0 → place.register ≡ drop (length c) (iv ++ c) → place.used ≡ 0
-    → IsPlace (CipherFeedback s) encryption iv c place
-IsPlace-cfb s encryption iv c place sound whole holds unused =
-    let at : Register = record {
-      register = place.register;
-      output = place.output;
-      segment = s;
-      used = 0;
-      some = sound.0;
-      short = sound.1;
-      fits = omega (arith, sound.0);
-    } in (
-      at,
-      record { segment = refl; register = holds; used = sym whole; output = λ more. absurd (omega arith) },
-      refl,
-      refl,
-      unused,
-    )
+pub IsPlace-cfb : (s : ℕ) (encryption : List ℕ → List ℕ) (iv c : List ℕ) (place : Place) → length c % s ≡ 0
+    → place.register ≡ drop (length c) (iv ++ c) → place.used ≡ 0 → IsPlace (CipherFeedback s) encryption iv c place
+IsPlace-cfb s encryption iv c place whole holds unused =
+    record { register = holds; used = unused ∙ sym whole; output = λ more. absurd (omega arith) }
 
 -- ---- where a stream begins
 
-plus-none : (n : ℕ) → n < 2 ^ 64 → n ≡ (n + 0 / 8) % 2 ^ 64
-plus-none n below = omega arith
-
 pub IsPlace-begin : (mode : Mode) (encryption : List ℕ → List ℕ) (iv : List ℕ) (place : Place)
-    → (1 ≤ size_of mode) × (size_of mode ≤ 8) → IsBlock iv → place.register ≡ iv → place.used ≡ 0
-    → IsPlace mode encryption iv [] place
+    → IsBlock iv → place.register ≡ iv → place.used ≡ 0 → IsPlace mode encryption iv [] place
 unfolding bits_of_bytes
-IsPlace-begin Counter encryption iv place sound is_block begins unused =
-    let at : AtCounter = record { counter = from_be_bytes w64 iv; used = 0; fits = omega arith } in (
-      at,
-      record { counter = plus-none (from_be_bytes w64 iv) (from_be_bytes-lt iv is_block); used = refl },
-      ap (from_be_bytes w64) begins,
-      unused,
-    )
-IsPlace-begin OutputFeedback encryption iv place sound is_block begins unused =
-    let at : Feedback = record { block = iv; used = 0; fits = omega arith } in (at, record { block = refl; used = refl }, begins, unused)
-IsPlace-begin BitFeedback encryption iv place sound is_block begins unused =
-    (rw begins (sym (append-nil (bits_of_bytes iv))), unused)
-IsPlace-begin (CipherFeedback s) encryption iv place sound is_block begins unused =
-    IsPlace-cfb s encryption iv [] place sound (zero-mod s) (begins ∙ sym (append-nil iv)) unused
+IsPlace-begin Counter encryption iv place is_block begins unused =
+    (omega (arith, from_be_bytes-lt iv is_block, ap (from_be_bytes w64) begins), unused)
+IsPlace-begin OutputFeedback encryption iv place is_block begins unused = (begins, unused)
+IsPlace-begin BitFeedback encryption iv place is_block begins unused = (rw begins (sym (append-nil (bits_of_bytes iv))), unused)
+IsPlace-begin (CipherFeedback s) encryption iv place is_block begins unused =
+    IsPlace-cfb s encryption iv [] place (zero-mod s) (begins ∙ sym (append-nil iv)) unused

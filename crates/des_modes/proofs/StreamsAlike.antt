@@ -1,4 +1,4 @@
--- Streams under ciphers that answer blocks alike, and by the relation of a key.
+-- Streams under ciphers that encrypt blocks alike, and by the relation of a key.
 use Rattle.std.proofs.Common.{◌≡◌, ℕ, zero, suc, ◌+◌, ◌*◌, ◌/◌, ◌%◌, ◌≤◌, Bool, List, length, get_or, ap, refl, sym, subst, ◌∙◌, arith}
 use Rattle.std.proofs.Math.Nat.{mul-div-le}
 use Rattle.des.specs.Bits.{bits_of_bytes}
@@ -8,21 +8,22 @@ use Rattle.des.specs.Laws.BlockBits.{IsBlock-block_of_bits, IsBlock-to_be_bytes}
 use Rattle.des_modes.specs.Cfb.{CfbBits, block_bit}
 use Rattle.des_modes.specs.Modes.{InMode, InModeUnder, mode_by}
 use Rattle.des_modes.specs.Ofb.{output_block}
+use Rattle.des_modes.specs.Streams.{Under}
 use Rattle.des_modes.specs.States.{IsBitStreamAt, IsPlace, IsStreamAt, size_of}
 use Rattle.des_modes.specs.declared.modes.Mode.{Mode}
 use Rattle.des_modes.specs.declared.modes.Mode.TheVariants.{Counter, OutputFeedback, BitFeedback, CipherFeedback}
 use Rattle.des_modes.specs.declared.stream.Place.{Place}
 use Rattle.des_modes.specs.declared.stream.Stream.{Stream}
-use Rattle.des_modes.proofs.RelatedStreams.{CfbBits-from_Cfb, Under-from, IsBlock-input_block, IsBlock-output_block}
+use Rattle.des_modes.proofs.SegmentBits.{CfbBits-from_Cfb, IsBlock-input_block}
 use Rattle.des_modes.proofs.StreamPlaces.{size_of-mode_by}
 use Rattle.des_modes.proofs.Pieces.{Xors-other}
 
 module _ (e f : List ℕ → List ℕ) (alike : AgreeOnBlocks e f) where
   CfbBits-alike : (iv : List ℕ) (p c : List Bool) → CfbBits 1 e iv p c → CfbBits 1 f iv p c
-  CfbBits-alike iv p c made =
-      Xors-other 0 _ _ p c (λ i below. ap (λ (block : List ℕ). block_bit block ((0 + i) % 1)) (alike _ (IsBlock-block_of_bits _))) made
+  CfbBits-alike iv p c =
+      Xors-other 0 _ _ p c (λ i below. ap (λ (block : List ℕ). block_bit block ((0 + i) % 1)) (alike _ (IsBlock-block_of_bits _)))
 
-  pub IsBitStreamAt-alike : (iv : List ℕ) (p c : List Bool) (stream : Stream) → IsBitStreamAt e iv p c stream
+  IsBitStreamAt-alike : (iv : List ℕ) (p c : List Bool) (stream : Stream) → IsBitStreamAt e iv p c stream
       → IsBitStreamAt f iv p c stream
   IsBitStreamAt-alike iv p c stream is = record {
     begun = is.begun;
@@ -33,45 +34,34 @@ module _ (e f : List ℕ → List ℕ) (alike : AgreeOnBlocks e f) where
 
   module _ (makes : (block : List ℕ) → IsBlock block → IsBlock (e block)) (iv c : List ℕ) (is_iv : IsBlock iv)
       (bytes : AreBytes c) where
-    output_block-alike : (j : ℕ) → output_block e iv j ≡ output_block f iv j
-    output_block-alike zero = refl
+    output_block-alike : (j : ℕ) → IsBlock (output_block e iv j) × (output_block e iv j ≡ output_block f iv j)
+    output_block-alike zero = (is_iv, refl)
     output_block-alike (suc j) =
-        alike (output_block e iv j) (IsBlock-output_block e iv j is_iv makes) ∙ ap f (output_block-alike j)
+        let (is, same) = output_block-alike j in (makes _ is, alike _ is ∙ ap f same)
 
     IsPlace-alike : (mode : Mode) (place : Place) → IsPlace mode e iv c place → IsPlace mode f iv c place
     IsPlace-alike Counter place at = at
-    IsPlace-alike OutputFeedback place (at, is, register, used) =
-        (at, record { block = is.block ∙ output_block-alike _; used = is.used }, register, used)
+    IsPlace-alike OutputFeedback place at = (at.0 ∙ (output_block-alike _).1, at.1)
     IsPlace-alike BitFeedback place at = at
-    IsPlace-alike (CipherFeedback s) place (at, is, register, output, used) = (
-      at,
-      record {
-        segment = is.segment;
-        register = is.register;
-        used = is.used;
-        output = λ more.
-            is.output more ∙ alike _ (IsBlock-input_block s iv c _ is_iv bytes (mul-div-le (length c) s));
-      },
-      register,
-      output,
-      used,
-    )
+    IsPlace-alike (CipherFeedback s) place at = record {
+      register = at.register;
+      used = at.used;
+      output = λ more. at.output more ∙ alike _ (IsBlock-input_block s iv c _ is_iv bytes (mul-div-le (length c) s));
+    }
 
-    pub InMode-alike : (mode : Mode) (p : List ℕ) → InMode mode e iv p c → InMode mode f iv p c
-    InMode-alike Counter p made =
-        Xors-other 0 _ _ p c
-        (λ i below. ap (λ (block : List ℕ). get_or block ((0 + i) % 8) 0) (alike _ (IsBlock-to_be_bytes _))) made
-    InMode-alike OutputFeedback p made =
-        Xors-other 0 _ _ p c
-        (λ i below. ap (λ (block : List ℕ). get_or block ((0 + i) % 8) 0) (output_block-alike _)) made
-    InMode-alike BitFeedback p made = CfbBits-alike iv (bits_of_bytes p) (bits_of_bytes c) made
-    InMode-alike (CipherFeedback s) p made =
+    InMode-alike : (mode : Mode) (p : List ℕ) → InMode mode e iv p c → InMode mode f iv p c
+    InMode-alike Counter p =
+        Xors-other 0 _ _ p c (λ i below. ap (λ (block : List ℕ). get_or block ((0 + i) % 8) 0) (alike _ (IsBlock-to_be_bytes _)))
+    InMode-alike OutputFeedback p =
+        Xors-other 0 _ _ p c (λ i below. ap (λ (block : List ℕ). get_or block ((0 + i) % 8) 0) (output_block-alike _).1)
+    InMode-alike BitFeedback p = CfbBits-alike iv (bits_of_bytes p) (bits_of_bytes c)
+    InMode-alike (CipherFeedback s) p = λ made.
         Xors-other 0 _ _ p c (λ i below.
         let begun : s * ((0 + i) / s) ≤ length c = omega (arith, mul-div-le (0 + i) s, made.count) in
         ap (λ (block : List ℕ). get_or block ((0 + i) % s) 0) (alike _ (IsBlock-input_block s iv c _ is_iv bytes begun)))
         made
 
-  pub IsStreamAt-alike : (number : ℕ) (iv p c : List ℕ) (stream : Stream)
+  IsStreamAt-alike : (number : ℕ) (iv p c : List ℕ) (stream : Stream)
       → ((block : List ℕ) → IsBlock block → IsBlock (e block)) → IsStreamAt number e iv p c stream
       → IsStreamAt number f iv p c stream
   IsStreamAt-alike number iv p c stream makes is = record {
@@ -82,19 +72,6 @@ module _ (e f : List ℕ → List ℕ) (alike : AgreeOnBlocks e f) where
     place = IsPlace-alike makes iv c is.is_block is.are_bytes (mode_by number) stream.place is.place;
     made = InMode-alike makes iv c is.is_block is.are_bytes (mode_by number) p is.made;
   }
-
-pub InModeUnder-from : (mode : Mode) (Answers : List ℕ → List ℕ → Type 0) (encryption : List ℕ → List ℕ) (iv p c : List ℕ)
-    → (1 ≤ size_of mode) × (size_of mode ≤ 8) → IsGraphOf encryption Answers
-    → ((block : List ℕ) → IsBlock block → IsBlock (encryption block))
-    → IsBlock iv → AreBytes c → InMode mode encryption iv p c → InModeUnder mode Answers iv p c
-InModeUnder-from Counter Answers e iv p c sound graph makes is_iv bytes made =
-    Under-from e graph made
-InModeUnder-from OutputFeedback Answers e iv p c sound graph makes is_iv bytes made =
-    Under-from e graph made
-InModeUnder-from BitFeedback Answers e iv p c sound graph makes is_iv bytes made =
-    Under-from e graph made
-InModeUnder-from (CipherFeedback s) Answers e iv p c sound graph makes is_iv bytes made =
-    Under-from e graph (CfbBits-from_Cfb s e iv p c sound.0 sound.1 is_iv bytes makes made)
 
 -- a cipher whose encryption takes blocks to blocks and, of them, is that of a key
 module _ (e k : List ℕ → List ℕ) (alike : AgreeOnBlocks e k) (makes : (block : List ℕ) → IsBlock block → IsBlock (e block)) where
@@ -117,9 +94,20 @@ module _ (e k : List ℕ → List ℕ) (alike : AgreeOnBlocks e k) (makes : (blo
   IsBitStreamAt-by_key iv p c others more old new goes_on is =
       IsBitStreamAt-alike e k alike iv others more new (goes_on (IsBitStreamAt-alike k e back iv p c old is))
 
-  pub InModeUnder-by_key : (Answers : List ℕ → List ℕ → Type 0) → IsGraphOf e Answers → (number : ℕ) (iv p c : List ℕ)
-      (stream : Stream) → IsStreamAt number k iv p c stream → InModeUnder (mode_by number) Answers iv p c
-  InModeUnder-by_key Answers graph number iv p c stream is =
-      let same = IsStreamAt-alike k e back number iv p c stream makes_too is in
-      InModeUnder-from (mode_by number) Answers e iv p c (size_of-mode_by number (rw (← is.is_mode) is.begun.1)) graph makes
-      is.is_block is.are_bytes same.made
+  module _ (Encrypts : List ℕ → List ℕ → Type 0) (graph : IsGraphOf e Encrypts) where
+    under : {Made : (List ℕ → List ℕ) → Type 0} → Made k → Under Encrypts Made
+    under made = record { encryption = k; encrypts = λ block is. (graph block (k block)).1 (is, alike block is); made = made }
+
+    InModeUnder-from : (mode : Mode) (iv p c : List ℕ) → (1 ≤ size_of mode) × (size_of mode ≤ 8) → IsBlock iv → AreBytes c
+        → InMode mode k iv p c → InModeUnder mode Encrypts iv p c
+    InModeUnder-from Counter iv p c sound is_iv bytes = under
+    InModeUnder-from OutputFeedback iv p c sound is_iv bytes = under
+    InModeUnder-from BitFeedback iv p c sound is_iv bytes = under
+    InModeUnder-from (CipherFeedback s) iv p c sound is_iv bytes = λ made.
+        under (CfbBits-from_Cfb s k iv p c sound.0 sound.1 is_iv bytes makes_too made)
+
+    pub InModeUnder-by_key : (number : ℕ) (iv p c : List ℕ) (stream : Stream) → IsStreamAt number k iv p c stream
+        → InModeUnder (mode_by number) Encrypts iv p c
+    InModeUnder-by_key number iv p c stream is =
+        InModeUnder-from (mode_by number) iv p c (size_of-mode_by number (rw (← is.is_mode) is.begun.1)) is.is_block is.are_bytes
+        is.made

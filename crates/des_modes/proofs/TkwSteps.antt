@@ -1,8 +1,7 @@
 -- The steps of TW, one after another, and turned round.
-use Rattle.std.proofs.Common.{◌≡◌, inl, inr, ℕ, zero, suc, ◌+◌, ◌-◌, ◌*◌, ◌%◌, ◌<◌, ◌≤◌, List, [], ◌∷◌, ◌++◌, length, set, get_or, take, drop, bit_xor, refl, ap, ap₂, sym, ◌∙◌, arith, add-one, append_assoc, take_at, drop_at, length-append, length-drop, length-take-le}
+use Rattle.std.proofs.Common.{◌≡◌, ℕ, zero, suc, ◌+◌, ◌-◌, ◌%◌, ◌<◌, ◌≤◌, List, [], ◌∷◌, ◌++◌, length, set, get_or, take, drop, bit_xor, refl, ap, ap₂, sym, ◌∙◌, arith, add-one, append_assoc, take_at, drop_at, length-append, length-drop, length-take-le}
 use Rattle.std.specs.Int.{w32, to_be_bytes}
 use Rattle.std.specs.List.{All}
-use Rattle.std.proofs.lemmas.Bool.{cases_lt}
 use Rattle.std.proofs.lemmas.List.{append-nil, drop_all, drop_more, drop-set-lt, length-set, same_from_push, take_all, take_more_set, take-append-drop}
 use Rattle.std.proofs.Math.Nat.{mod-add-mod, mod-eq_of_lt, mod-lt, mod_self}
 use Rattle.std.proofs.lemmas.List.Elements.{All-cons, All-append, All-push, All-take, All-drop, All-from_get_or}
@@ -13,6 +12,7 @@ use Rattle.des.specs.Blocks.{IsBlock}
 use Rattle.des.specs.Cbc.{xor_blocks}
 use Rattle.des.specs.Laws.BlockBits.{AreBytes-bytes_high_first}
 use Rattle.des.proofs.XoredBlocks.{xor_blocks-undone}
+use Rattle.des_modes.specs.Streams.{Under}
 use Rattle.des_modes.specs.Tkw.{IsSemiblock, TkwUnder, tw_step, tw_steps, tw}
 
 -- a step more
@@ -31,12 +31,14 @@ turned-none words i none = ap (turned words) none ∙ append-nil words
 -- the place after the last is the first
 turned-next : (words : List (List ℕ)) (t n : ℕ) → length words ≡ n → 1 ≤ n
     → turned words (t % n + 1) ≡ turned words ((t + 1) % n)
-turned-next words t n size some = rw (← mod-add-mod t n 1) (elim (cases_lt (t % n + 1) n) [
-  | inl inside ↦ ap (turned words) (sym (mod-eq_of_lt inside))
-  | inr past ↦
-      let full : t % n + 1 ≡ n = omega (arith, mod-lt t some) in
-      rw (full, mod_self, drop_all n words (omega arith), take_all n words (omega arith), append-nil) refl
-])
+turned-next words t n size some = rw (← mod-add-mod t n 1) (grind (arith, mod-lt, mod-eq_of_lt, mod_self, drop_all, take_all, append-nil))
+
+-- from the place of r on
+turned-first : (words : List (List ℕ)) (i : ℕ) (r : List ℕ) → i < length words → get_or words i [] ≡ r
+    → turned words i ≡ r ∷ drop (i + 1) words ++ take i words
+turned-first words i r within there =
+    ap (λ (xs : List (List ℕ)). xs ++ take i words) (drop_more words i [] within)
+    ∙ ap (λ (x : List ℕ). x ∷ drop (i + 1) words ++ take i words) there
 
 -- a step in place: the first semiblock a becomes b, and r at place t becomes w
 pub tw_step-in_place : (E : List ℕ → List ℕ) (t n : ℕ) (a b r w : List ℕ) (words : List (List ℕ)) → length words ≡ n → 1 ≤ n
@@ -45,13 +47,10 @@ pub tw_step-in_place : (E : List ℕ → List ℕ) (t n : ℕ) (a b r w : List �
 tw_step-in_place E t n a b r w words size some there first second =
     let i : ℕ = t % n in
     let within : i < length words = omega (arith, mod-lt t some) in
-    ap (λ (xs : List (List ℕ)). tw_step E (t + 1) (a ∷ xs ++ take i words)) (drop_more words i [] within)
-    ∙ ap (λ (x : List ℕ). tw_step E (t + 1) (a ∷ (x ∷ drop (i + 1) words) ++ take i words)) there
-    ∙ ap₂ (λ (x y : List ℕ). x ∷ (drop (i + 1) words ++ take i words) ++ y ∷ []) first second
-    ∙ ap (λ (xs : List (List ℕ)). b ∷ xs)
+    rw (turned-first words i r within there, first, second) (ap (λ (xs : List (List ℕ)). b ∷ xs)
     (append_assoc (drop (i + 1) words) (take i words) (w ∷ [])
     ∙ ap₂ ◌++◌ (sym (drop-set-lt (i + 1) words i w (omega arith))) (sym (take_more_set words i w within))
-    ∙ turned-next (set words i w) t n (omega (arith, length-set words i w)) some)
+    ∙ turned-next (set words i w) t n (omega (arith, length-set words i w)) some))
 
 -- ---- the semiblocks that the steps were made of
 
@@ -81,24 +80,21 @@ low_half block is = (omega (arith, is.0, length-drop 4 block), All-drop (λ byte
 
 IsSemiblock-xor_blocks : (word other : List ℕ) → IsSemiblock word → IsSemiblock other → IsSemiblock (xor_blocks word other)
 unfolding xor_blocks
-IsSemiblock-xor_blocks word other is too =
-    let count : length (zip2 bit_xor word other) ≡ 4 = length-zip2 bit_xor word other (is.0 ∙ sym too.0) ∙ is.0 in (
-      count,
-      All-from_get_or (λ byte. byte < 256) (zip2 bit_xor word other) 0 (λ k within.
-          rw (get_or-zip2 bit_xor word other k 0 0 0 (omega arith) (omega arith))
-          (xor_lt 8 (get_or word k 0) (get_or other k 0) (is.1 k 0 (omega arith)) (too.1 k 0 (omega arith)))),
-    )
+IsSemiblock-xor_blocks word other is too = (
+  length-zip2 bit_xor word other (is.0 ∙ sym too.0) ∙ is.0,
+  All-from_get_or (λ byte. byte < 256) (zip2 bit_xor word other) 0 (λ k within.
+      let inside : k < 4 = omega (arith, is.0, length-zip2 bit_xor word other (is.0 ∙ sym too.0)) in
+      rw (get_or-zip2 bit_xor word other k 0 0 0 (omega arith) (omega arith))
+      (xor_lt 8 (get_or word k 0) (get_or other k 0) (is.1 k 0 (omega arith)) (too.1 k 0 (omega arith)))),
+)
 
 -- n semiblocks
-abbrev AreSemiblocks : ℕ → List (List ℕ) → Type 0
+abbrev pub AreSemiblocks : ℕ → List (List ℕ) → Type 0
 AreSemiblocks n words = (length words ≡ n) × All IsSemiblock words
 
--- the check value, and semiblocks behind it
+-- the check value
 abbrev pub icv3 : List ℕ
 icv3 = 0xa6 ∷ 0xa6 ∷ 0xa6 ∷ 0xa6 ∷ []
-
-checked : (words : List (List ℕ)) → All IsSemiblock words → AreSemiblocks (length words + 1) (icv3 ∷ words)
-checked words are = (omega arith, All-cons IsSemiblock icv3 words (IsSemiblock-number 0xa6a6a6a6) are)
 
 -- steps make as many semiblocks
 module _ {E D : List ℕ → List ℕ} (laws : Undoes E D) where
@@ -113,59 +109,51 @@ module _ {E D : List ℕ → List ℕ} (laws : Undoes E D) where
       )
   tw_step-keeps t n words are = are
 
-  tw_steps-keep : (t n : ℕ) (words : List (List ℕ)) → AreSemiblocks n words → AreSemiblocks n (tw_steps E t words)
+  pub tw_steps-keep : (t n : ℕ) (words : List (List ℕ)) → AreSemiblocks n words → AreSemiblocks n (tw_steps E t words)
   tw_steps-keep zero n words are = are
   tw_steps-keep (suc t) n words are = tw_step-keeps (suc t) n (tw_steps E t words) (tw_steps-keep t n words are)
 
--- by two encryptions that answer blocks alike, different lists are answered by different ones
+-- by an encryption that encrypts blocks alike
+pub Undoes-alike : {E F D : List ℕ → List ℕ} → Undoes E D → ((block : List ℕ) → IsBlock block → F block ≡ E block) → Undoes F D
+Undoes-alike {D = D} laws alike = record {
+  undone = λ block is. ap D (alike block is) ∙ laws.undone block is;
+  is_block = λ block is. rw (alike block is) (laws.is_block block is);
+}
+
+-- by two encryptions that encrypt blocks alike: semiblocks of which a step makes what it makes of b and s are these
 module _ {E F D : List ℕ → List ℕ} (laws : Undoes E D) (other_laws : Undoes F D) where
-  tw_step-injective : (t n : ℕ) (words others : List (List ℕ)) → AreSemiblocks n words → AreSemiblocks n others
-      → tw_step E t words ≡ tw_step F t others → words ≡ others
-  tw_step-injective t n (a ∷ r ∷ words) (b ∷ s ∷ others) are too same =
+  pub tw_step-one : (t n i : ℕ) (words others : List (List ℕ)) (b s : List ℕ) → AreSemiblocks n words → 2 ≤ n
+      → i < length others → get_or others i [] ≡ s → length b ≡ 4 → length s ≡ 4 → IsBlock (b ++ s)
+      → tw_step E t words ≡ tw_step F t (b ∷ turned others i) → words ≡ b ∷ turned others i
+  tw_step-one t n i (a ∷ r ∷ words) others b s are more within there is_b is_s other same =
+      let turn = turned-first others i s within there in
       let block = IsBlock-joined a r words are.1 in
-      let other = IsBlock-joined b s others too.1 in
       let e : List ℕ = E (a ++ r) in
       let f : List ℕ = F (b ++ s) in
       let number : List ℕ = to_be_bytes w32 t in
-      let rest = same_from_push words others (drop 4 e) (drop 4 f) (ap (drop 1) same) in
+      let made = same ∙ ap (λ (xs : List (List ℕ)). tw_step F t (b ∷ xs)) turn in
+      let rest = same_from_push words (drop (i + 1) others ++ take i others) (drop 4 e) (drop 4 f) (ap (drop 1) made) in
       let high : take 4 e ≡ take 4 f =
       sym (xor_blocks-undone (take 4 e) number (high_half e (laws.is_block (a ++ r) block)).0)
-      ∙ ap (λ (xs : List (List ℕ)). xor_blocks (get_or xs 0 []) number) same
+      ∙ ap (λ (xs : List (List ℕ)). xor_blocks (get_or xs 0 []) number) made
       ∙ xor_blocks-undone (take 4 f) number (high_half f (other_laws.is_block (b ++ s) other)).0 in
       let answers : e ≡ f = sym (take-append-drop 4 e) ∙ ap₂ ◌++◌ high rest.1 ∙ take-append-drop 4 f in
       let joined : a ++ r ≡ b ++ s = sym (laws.undone (a ++ r) block) ∙ ap D answers ∙ other_laws.undone (b ++ s) other in
       let is_a : length a ≡ 4 = (are.1 0 [] (omega arith)).0 in
-      let is_b : length b ≡ 4 = (too.1 0 [] (omega arith)).0 in
       ap₂ ◌∷◌ (sym (take_at a r 4 is_a) ∙ ap (take 4) joined ∙ take_at b s 4 is_b)
-      (ap₂ ◌∷◌ (sym (drop_at a r 4 is_a) ∙ ap (drop 4) joined ∙ drop_at b s 4 is_b) rest.0)
-  tw_step-injective t n words others are too same = grind arith
-
-  tw_steps-injective : (t n : ℕ) (words others : List (List ℕ)) → AreSemiblocks n words → AreSemiblocks n others
-      → tw_steps E t words ≡ tw_steps F t others → words ≡ others
-  tw_steps-injective zero n words others are too same = same
-  tw_steps-injective (suc t) n words others are too same =
-      tw_steps-injective t n words others are too
-      (tw_step-injective (suc t) n (tw_steps E t words) (tw_steps F t others) (tw_steps-keep laws t n words are)
-      (tw_steps-keep other_laws t n others too) same)
+      (ap₂ ◌∷◌ (sym (drop_at a r 4 is_a) ∙ ap (drop 4) joined ∙ drop_at b s 4 is_b) rest.0 ∙ sym turn)
+  tw_step-one t n i words others b s are more within there is_b is_s other same = absurd (omega (arith, are.0))
 
 -- what wraps a key wraps no other
-pub unwrapped-one : {E D : List ℕ → List ℕ} → Undoes E D → (first : List ℕ) (words other wrapped : List (List ℕ))
-    {rest : List (List ℕ)} → IsSemiblock first → All IsSemiblock words → All IsSemiblock other
-    → length wrapped ≡ length words + 1 → rest ≡ take (length wrapped - 1) (drop 1 wrapped)
-    → tw E (first ∷ words) ≡ get_or wrapped 0 [] ∷ rest → TkwUnder (λ block answer. answer ≡ E block) other wrapped
-    → first ∷ words ≡ icv3 ∷ other
-unwrapped-one laws first words other [] is_first are too size behind same under = absurd (omega arith)
-unwrapped-one {E} {D} laws first words other (a ∷ wrapped) is_first are too size behind same under =
-    let n : ℕ = length other + 1 in
-    let made : ℕ = 6 * (length (icv3 ∷ other) - 1) in
-    let other_laws : Undoes under.encryption D = record {
-      undone = λ block is. ap D (under.answered block is) ∙ laws.undone block is;
-      is_block = λ block is. rw (under.answered block is) (laws.is_block block is);
-    } in
-    let count : length other ≡ length words =
-    omega (arith, ap length under.made, (tw_steps-keep other_laws made n (icv3 ∷ other) (checked other too)).0) in
-    let steps : 6 * (length (first ∷ words) - 1) ≡ made = omega (arith, count) in
-    tw_steps-injective laws other_laws made n (first ∷ words) (icv3 ∷ other)
-    (omega (arith, count), All-cons IsSemiblock first words is_first are) (checked other too)
-    (ap (λ (k : ℕ). tw_steps E k (first ∷ words)) (sym steps) ∙ same
-    ∙ ap (λ (xs : List (List ℕ)). a ∷ xs) (behind ∙ take_all (length (a ∷ wrapped) - 1) wrapped (omega arith)) ∙ sym under.made)
+pub unwrapped-one : {Encrypts : List ℕ → List ℕ → Type 0} {first : List ℕ} {words other wrapped : List (List ℕ)}
+    {rest : List (List ℕ)} → ((start : List (List ℕ)) → All IsSemiblock start
+    → Under Encrypts (λ encryption. tw encryption start ≡ get_or wrapped 0 [] ∷ rest) → start ≡ first ∷ words)
+    → All IsSemiblock other → 1 ≤ length wrapped → rest ≡ take (length wrapped - 1) (drop 1 wrapped)
+    → TkwUnder Encrypts other wrapped → icv3 ∷ other ≡ first ∷ words
+unwrapped-one {wrapped = []} only too some behind under = absurd (omega arith)
+unwrapped-one {other = other} {wrapped = a ∷ wrapped} only too some behind under =
+    only (icv3 ∷ other) (All-cons IsSemiblock icv3 other (IsSemiblock-number 0xa6a6a6a6) too) (record {
+      encryption = under.encryption;
+      encrypts = under.encrypts;
+      made = under.made ∙ ap (λ (xs : List (List ℕ)). a ∷ xs) (sym (behind ∙ take_all (length (a ∷ wrapped) - 1) wrapped (omega arith)));
+    })

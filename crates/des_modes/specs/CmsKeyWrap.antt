@@ -19,12 +19,12 @@ abbrev pub reversed : List (List ℕ) → List (List ℕ)
 reversed blocks = map reverse (reverse blocks)
 
 -- blocks are encrypted by CBC (to TEMP1), and with the initialization vector before them, and in reverse order, again
-pub record Encloses (Answers : List ℕ → List ℕ → Type 0) (iv : List ℕ) (p enclosed : List (List ℕ)) : Type 0 where
+pub record Encloses (Encrypts : List ℕ → List ℕ → Type 0) (iv : List ℕ) (p enclosed : List (List ℕ)) : Type 0 where
   pub temp1 : List (List ℕ)
   pub are_blocks : All IsBlock p × All IsBlock temp1
-  pub first : CbcUnder Answers iv p temp1
-  pub second : CbcUnder Answers second_iv (reversed (iv ∷ temp1)) enclosed
+  pub first : CbcUnder Encrypts iv p temp1
+  pub second : CbcUnder Encrypts second_iv (reversed (iv ∷ temp1)) enclosed
 
 -- the key and its checksum are enclosed
 abbrev pub Wraps : (List ℕ → List ℕ → Type 0) → List ℕ → List (List ℕ) → List (List ℕ) → Type 0
-Wraps Answers iv key wrapped = Encloses Answers iv (key ++ checksum key ∷ []) wrapped
+Wraps Encrypts iv key wrapped = Encloses Encrypts iv (key ++ checksum key ∷ []) wrapped

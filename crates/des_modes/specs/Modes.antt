@@ -28,6 +28,6 @@ InMode (CipherFeedback s) encryption iv p c = Cfb s encryption iv p c
 
 -- what they become under a relation of blocks, such as that of a key; CFB as its standards print it, by bits
 abbrev pub InModeUnder : Mode → (List ℕ → List ℕ → Type 0) → List ℕ → List ℕ → List ℕ → Type 0
-InModeUnder (CipherFeedback s) Answers iv p c =
-    Under Answers (λ encryption. CfbBits (8 * s) encryption iv (bits_of_bytes p) (bits_of_bytes c))
-InModeUnder mode Answers iv p c = Under Answers (λ encryption. InMode mode encryption iv p c)
+InModeUnder (CipherFeedback s) Encrypts iv p c =
+    Under Encrypts (λ encryption. CfbBits (8 * s) encryption iv (bits_of_bytes p) (bits_of_bytes c))
+InModeUnder mode Encrypts iv p c = Under Encrypts (λ encryption. InMode mode encryption iv p c)

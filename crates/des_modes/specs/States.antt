@@ -7,31 +7,30 @@ use Rattle.des_modes.specs.Cfb.{CfbBits, input_block}
 use Rattle.des_modes.specs.Modes.{InMode, IsMode, mode_by}
 use Rattle.des_modes.specs.Ofb.{output_block}
 use Rattle.des_modes.specs.declared.cfb.Register.{Register}
-use Rattle.des_modes.specs.declared.ctr.Counter.{Counter}
 use Rattle.des_modes.specs.declared.modes.Mode.{Mode}
-use Rattle.des_modes.specs.declared.modes.Mode.TheVariants.{Counter as CounterMode, OutputFeedback, BitFeedback, CipherFeedback}
+use Rattle.des_modes.specs.declared.modes.Mode.TheVariants.{Counter, OutputFeedback, BitFeedback, CipherFeedback}
 use Rattle.des_modes.specs.declared.modes.TheConstants.{CFB1}
-use Rattle.des_modes.specs.declared.ofb.Feedback.{Feedback}
 use Rattle.des_modes.specs.declared.stream.Place.{Place}
 use Rattle.des_modes.specs.declared.stream.Stream.{Stream}
 use Rattle.des_modes.specs.declared.stream.TheConstants.{MARK}
 
--- CTR, n bytes behind: the counter is that of the block in which byte n stands, of whose output block n modulo 8 are used
-pub record IsCtrAt (t : List ℕ) (n : ℕ) (state : Counter) : Type 0 where
-  pub counter : state.counter ≡ (from_be_bytes w64 t + n / 8) % 2 ^ 64
-  pub used : state.used ≡ n % 8
+-- CTR, n bytes behind: the number is the counter of the block in which byte n stands, of whose output block n modulo 8 are taken
+abbrev pub IsAtCounter : List ℕ → ℕ → ℕ → ℕ → Type 0
+IsAtCounter t n number taken = (number ≡ (from_be_bytes w64 t + n / 8) % 2 ^ 64) × (taken ≡ n % 8)
 
--- OFB, n bytes behind: the block is the last output block that they took from, of which n modulo 8 are used, 0 for all
-pub record IsOfbAt (encryption : List ℕ → List ℕ) (iv : List ℕ) (n : ℕ) (state : Feedback) : Type 0 where
-  pub block : state.block ≡ output_block encryption iv ((n + 7) / 8)
-  pub used : state.used ≡ n % 8
+-- OFB, n bytes behind: the block is the last output block that they took from, of which n modulo 8 are taken, 0 for all
+abbrev pub IsAtOutput : (List ℕ → List ℕ) → List ℕ → ℕ → List ℕ → ℕ → Type 0
+IsAtOutput encryption iv n last taken = (last ≡ output_block encryption iv ((n + 7) / 8)) × (taken ≡ n % 8)
 
--- CFB, the ciphertext c behind: the register holds the last eight bytes of IV | C
+-- CFB, the ciphertext c behind: the bytes are the last eight of IV | C, and of a segment that has begun the block is the output block
+pub record IsAtSegment (s : ℕ) (encryption : List ℕ → List ℕ) (iv c bytes block : List ℕ) (taken : ℕ) : Type 0 where
+  pub register : bytes ≡ drop (length c) (iv ++ c)
+  pub used : taken ≡ length c % s
+  pub output : 1 ≤ taken → block ≡ encryption (input_block s iv c (length c / s))
+
 pub record IsCfbAt (s : ℕ) (encryption : List ℕ → List ℕ) (iv c : List ℕ) (state : Register) : Type 0 where
   pub segment : state.segment ≡ s
-  pub register : state.register ≡ drop (length c) (iv ++ c)
-  pub used : state.used ≡ length c % s
-  pub output : 1 ≤ state.used → state.output ≡ encryption (input_block s iv c (length c / s))
+  pub place : IsAtSegment s encryption iv c state.register state.output state.used
 
 -- CFB of one bit, the bits c of the ciphertext behind: the register holds the last 64 bits of IV | C
 abbrev pub HoldsLastBits : (iv : List ℕ) (c : List Bool) (register : List ℕ) → Type 0
@@ -50,15 +49,12 @@ IsInMode mode stream = (stream.mark ≡ MARK) × IsMode stream.mode × (mode ≡
 abbrev pub HasBegun : Stream → Type 0
 HasBegun stream = (stream.mark ≡ MARK) × IsMode stream.mode × (stream.place.used < size_of (mode_by stream.mode))
 
--- a place holds a state of its mode: in its register the counter, the last output block, or the last eight bytes of IV | C
+-- a place in its mode: in its register the counter, the last output block, or the last eight bytes of IV | C
 abbrev pub IsPlace : Mode → (List ℕ → List ℕ) → List ℕ → List ℕ → Place → Type 0
-IsPlace CounterMode encryption iv c place =
-    (at : Counter) × IsCtrAt iv (length c) at × (from_be_bytes w64 place.register ≡ at.counter) × (place.used ≡ at.used)
-IsPlace OutputFeedback encryption iv c place =
-    (at : Feedback) × IsOfbAt encryption iv (length c) at × (place.register ≡ at.block) × (place.used ≡ at.used)
+IsPlace Counter encryption iv c place = IsAtCounter iv (length c) (from_be_bytes w64 place.register) place.used
+IsPlace OutputFeedback encryption iv c place = IsAtOutput encryption iv (length c) place.register place.used
 IsPlace BitFeedback encryption iv c place = HoldsLastBits iv (bits_of_bytes c) place.register × (place.used ≡ 0)
-IsPlace (CipherFeedback s) encryption iv c place = (at : Register) × IsCfbAt s encryption iv c at
-    × (place.register ≡ at.register) × (place.output ≡ at.output) × (place.used ≡ at.used)
+IsPlace (CipherFeedback s) encryption iv c place = IsAtSegment s encryption iv c place.register place.output place.used
 
 -- a stream in words: in the mode of a number p became c under the encryption, and it goes on from there
 pub record IsStreamAt (number : ℕ) (encryption : List ℕ → List ℕ) (iv p c : List ℕ) (stream : Stream) : Type 0 where

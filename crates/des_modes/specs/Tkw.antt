@@ -30,4 +30,4 @@ tkw encryption key = tw encryption ((0xa6 ∷ 0xa6 ∷ 0xa6 ∷ 0xa6 ∷ []) ∷
 
 -- by a relation of blocks
 abbrev pub TkwUnder : (List ℕ → List ℕ → Type 0) → List (List ℕ) → List (List ℕ) → Type 0
-TkwUnder Answers key wrapped = Under Answers (λ encryption. tkw encryption key ≡ wrapped)
+TkwUnder Encrypts key wrapped = Under Encrypts (λ encryption. tkw encryption key ≡ wrapped)

@@ -1,140 +1,14 @@
-//! The modes and key wraps in one call, by the relation of the cipher's key. The modes go by the
-//! cipher's calls of lists: in batches of `S::BATCH` blocks, and, if `no_tables` is true, without a
-//! table read at an index that depends on the key or on a block.
+//! The key wraps in one call, by the relation of the cipher's key.
 
-ghost use Rattle.std.specs.Prelude.{◌≡◌, ◌<◌, ◌≤◌, ◌+◌, ◌*◌, ◌^◌, ℕ, List, length, replicate, IsOk, OnOk, OnErr};
+ghost use Rattle.std.specs.Prelude.{◌≡◌, ◌<◌, ◌≤◌, ◌+◌, ◌^◌, ℕ, List, length, replicate, IsOk, OnOk, OnErr};
 ghost use Rattle.std.specs.List.{All};
 ghost use Rattle.des.specs.Blocks.{IsBlock};
-ghost use Rattle.des_modes.specs.Cfb.{CfbBits, first_bits};
 ghost use Rattle.des_modes.specs.CmsKeyWrap.{Wraps};
-ghost use Rattle.des_modes.specs.Directions.{plaintext, ciphertext};
-ghost use Rattle.des_modes.specs.Modes.{InModeUnder};
-ghost use Rattle.des_modes.specs.States.{size_of};
-ghost use Rattle.des_modes.specs.Streams.{Under};
 ghost use Rattle.des_modes.specs.Tkw.{IsSemiblock, TkwUnder};
-ghost use Rattle.des_modes.specs.declared.modes.Mode.TheVariants.{CipherFeedback, Counter, OutputFeedback};
 
-use crate::direction::Direction::{self, Decrypt, Encrypt};
-use crate::lists::ByLists;
-use crate::modes::Mode;
-use crate::stream::Place;
 use crate::unwrap_error::UnwrapError;
-use crate::{cfb_bits, cms_key_wrap, tkw};
+use crate::{cms_key_wrap, tkw};
 use des::cipher::{Relating, are_bytes};
-use des_fast::many::{ManyBlocks, Slice};
-
-// Encrypts or decrypts a text in place in a mode.
-fn apply_by<C: ManyBlocks, S: Slice>(
-    cipher: &C,
-    no_tables: bool,
-    direction: Direction,
-    mode: Mode,
-    iv: &[u8; 8],
-    bytes: &mut [u8],
-)
-    requires some { 1 ≤ size_of mode }
-    requires short { size_of mode ≤ 8 }
-    ensures { (key : List ℕ) → C.is_made_from cipher.now key → InModeUnder mode (C.relation key) iv.now
-        (plaintext direction bytes.old bytes.new) (ciphertext direction bytes.old bytes.new) }
-{
-    are_bytes(iv);
-    are_bytes(bytes);
-    let cipher = ByLists::<C, S>::new(cipher, no_tables);
-    Place::new(iv).apply(direction, mode, &cipher, bytes);
-    are_bytes(bytes);
-}
-
-/// Encrypts or decrypts a text in place by the counter mode, as `ctr::apply` does.
-pub fn apply_ctr<C: ManyBlocks, S: Slice>(
-    cipher: &C,
-    no_tables: bool,
-    block: &[u8; 8],
-    bytes: &mut [u8],
-)
-    ensures { (key : List ℕ) → C.is_made_from cipher.now key
-        → InModeUnder Counter (C.relation key) block.now bytes.old bytes.new }
-{
-    apply_by::<C, S>(cipher, no_tables, Encrypt, Mode::Counter, block, bytes);
-}
-
-/// Encrypts or decrypts a text in place by output feedback, as `ofb::apply` does.
-pub fn apply_ofb<C: ManyBlocks, S: Slice>(
-    cipher: &C,
-    no_tables: bool,
-    iv: &[u8; 8],
-    bytes: &mut [u8],
-)
-    ensures { (key : List ℕ) → C.is_made_from cipher.now key
-        → InModeUnder OutputFeedback (C.relation key) iv.now bytes.old bytes.new }
-{
-    apply_by::<C, S>(cipher, no_tables, Encrypt, Mode::OutputFeedback, iv, bytes);
-}
-
-/// Encrypts a text in place by cipher feedback with segments of `segment` bytes, as `cfb::encrypt` does.
-pub fn encrypt_cfb<C: ManyBlocks, S: Slice>(
-    cipher: &C,
-    no_tables: bool,
-    iv: &[u8; 8],
-    segment: usize,
-    bytes: &mut [u8],
-)
-    requires some { 1 ≤ segment }
-    requires short { segment ≤ 8 }
-    ensures { (key : List ℕ) → C.is_made_from cipher.now key
-        → InModeUnder (CipherFeedback segment) (C.relation key) iv.now bytes.old bytes.new }
-{
-    let mode = Mode::CipherFeedback(segment);
-    apply_by::<C, S>(cipher, no_tables, Encrypt, mode, iv, bytes);
-}
-
-/// Decrypts a text in place by cipher feedback with segments of `segment` bytes, as `cfb::decrypt` does.
-pub fn decrypt_cfb<C: ManyBlocks, S: Slice>(
-    cipher: &C,
-    no_tables: bool,
-    iv: &[u8; 8],
-    segment: usize,
-    bytes: &mut [u8],
-)
-    requires some { 1 ≤ segment }
-    requires short { segment ≤ 8 }
-    ensures { (key : List ℕ) → C.is_made_from cipher.now key
-        → InModeUnder (CipherFeedback segment) (C.relation key) iv.now bytes.new bytes.old }
-{
-    let mode = Mode::CipherFeedback(segment);
-    apply_by::<C, S>(cipher, no_tables, Decrypt, mode, iv, bytes);
-}
-
-/// Encrypts the first `bits` bits of the bytes in place by cipher feedback of one bit, as
-/// `cfb_bits::encrypt` does.
-pub fn encrypt_cfb_bits<C: ManyBlocks, S: Slice>(
-    cipher: &C,
-    no_tables: bool,
-    iv: &[u8; 8],
-    bytes: &mut [u8],
-    bits: usize,
-)
-    requires { bits ≤ 8 * length bytes.old }
-    ensures { (key : List ℕ) → C.is_made_from cipher.now key → Under (C.relation key)
-        (λ encryption. CfbBits 1 encryption iv.now (first_bits bits bytes.old) (first_bits bits bytes.new)) }
-{
-    cfb_bits::encrypt(&ByLists::<C, S>::new(cipher, no_tables), iv, bytes, bits);
-}
-
-/// Decrypts the first `bits` bits of the bytes in place by cipher feedback of one bit, as
-/// `cfb_bits::decrypt` does.
-pub fn decrypt_cfb_bits<C: ManyBlocks, S: Slice>(
-    cipher: &C,
-    no_tables: bool,
-    iv: &[u8; 8],
-    bytes: &mut [u8],
-    bits: usize,
-)
-    requires { bits ≤ 8 * length bytes.old }
-    ensures { (key : List ℕ) → C.is_made_from cipher.now key → Under (C.relation key)
-        (λ encryption. CfbBits 1 encryption iv.now (first_bits bits bytes.new) (first_bits bits bytes.old)) }
-{
-    cfb_bits::decrypt(&ByLists::<C, S>::new(cipher, no_tables), iv, bytes, bits);
-}
 
 /// Wraps a key by the key wrap of CMS, as `cms_key_wrap::wrap` does.
 pub fn wrap_cms<C: Relating>(cipher: &C, iv: &[u8; 8], key: &[[u8; 8]], wrapped: &mut [[u8; 8]])

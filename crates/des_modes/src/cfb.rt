@@ -2,13 +2,12 @@
 //! segments of one to eight bytes: eight for the feedback of 64 bits, one for that of 8.
 
 ghost use Rattle.std.specs.Prelude.{◌≡◌, ◌<◌, ◌≤◌, ◌+◌, ◌-◌, ◌*◌, ◌/◌, ◌%◌, ℕ, List, [], ◌++◌, length, take, drop, slice_index_or, nat_eq, if◌then◌else◌, bit_xor};
-ghost use Rattle.std.specs.List.{All};
 ghost use Rattle.des_modes.specs.Streams.{Xors};
-ghost use Rattle.des_modes.specs.Cfb.{Cfb, cfb_stream, input_block};
+ghost use Rattle.des_modes.specs.Cfb.{cfb_stream, input_block};
 ghost use Rattle.des_modes.specs.Directions.{plaintext, ciphertext};
 
 use crate::direction::Direction;
-use crate::parts::{TakesParts, apply_parts};
+use crate::parts::TakesParts;
 use crate::xored::{xor_from, xor_segments};
 use des::cipher::BlockCipherEncrypt;
 
@@ -110,11 +109,11 @@ fn within_segment(end: usize, segment: usize) -> usize
     if end == segment { 0 } else { end }
 }
 
-/// A place in a stream of cipher feedback: the shift register, which holds the last eight bytes of the
-/// initialization vector and the ciphertext; the number of bytes of its segment before it; and, if
-/// there are some, the segment's output block.
+// A place in a stream of cipher feedback: the shift register, which holds the last eight bytes of the
+// initialization vector and the ciphertext; the number of bytes of its segment before it; and, if
+// there are some, the segment's output block.
 #[derive(Clone, Copy)]
-pub struct Register {
+pub(crate) struct Register {
     pub(crate) register: [u8; 8],
     pub(crate) output: [u8; 8],
     pub(crate) segment: usize,
@@ -126,22 +125,6 @@ pub struct Register {
 
 impl Register {
     ghost use Rattle.des_modes.specs.States.{IsCfbAt};
-
-    /// The place before a segment of `segment` bytes: `before` is the eight bytes of ciphertext before
-    /// it, or at the beginning the initialization vector. To decrypt a part, no others are needed.
-    pub fn new(before: &[u8; 8], segment: usize) -> Register
-        requires some { 1 ≤ segment }
-        requires short { segment ≤ 8 }
-        ensures { (encryption : List ℕ → List ℕ) (iv c : List ℕ) → length c % segment ≡ 0
-            → before.now ≡ drop (length c) (iv ++ c) → IsCfbAt segment encryption iv c result }
-    {
-        Register {
-            register: *before,
-            output: [0; 8],
-            segment,
-            used: 0,
-        }
-    }
 
     // The output block of the segment that the next byte stands in.
     #[inline]
@@ -228,30 +211,6 @@ impl Register {
         self.used = count % self.segment;
         self.output = block_at(part, count / self.segment);
     }
-
-    /// Encrypts or decrypts the next bytes of the stream in place. However a text is cut into pieces,
-    /// they become what the whole becomes.
-    pub fn apply<C: BlockCipherEncrypt>(
-        &mut self,
-        direction: Direction,
-        cipher: &C,
-        bytes: &mut [u8],
-    )
-        ensures segment { self.new.segment ≡ self.old.segment }
-        ensures after { (s : ℕ) (iv c : List ℕ) → IsCfbAt s (C.encrypted cipher.now) iv c self.old
-            → IsCfbAt s (C.encrypted cipher.now) iv
-            (c ++ ciphertext direction bytes.old bytes.new) self.new }
-        ensures xored { (s : ℕ) (iv c : List ℕ) → IsCfbAt s (C.encrypted cipher.now) iv c self.old
-            → Xors bit_xor 0 (length c)
-            (cfb_stream s (C.encrypted cipher.now) iv (c ++ ciphertext direction bytes.old bytes.new))
-            (plaintext direction bytes.old bytes.new) (ciphertext direction bytes.old bytes.new) }
-        ensures whole { (s : ℕ) (iv c p : List ℕ) → IsCfbAt s (C.encrypted cipher.now) iv c self.old
-            → Cfb s (C.encrypted cipher.now) iv p c → Cfb s (C.encrypted cipher.now) iv
-            (p ++ plaintext direction bytes.old bytes.new)
-            (c ++ ciphertext direction bytes.old bytes.new) }
-    {
-        apply_parts(self, direction, cipher, bytes);
-    }
 }
 
 impl<C: BlockCipherEncrypt> TakesParts<C> for Register {
@@ -280,28 +239,4 @@ impl<C: BlockCipherEncrypt> TakesParts<C> for Register {
             _ => self.apply_in_segment(direction, cipher, bytes),
         }
     }
-}
-
-/// Encrypts a text of any length in place by cipher feedback with segments of `segment` bytes. With P
-/// the plaintext, C the ciphertext, E the cipher's encryption and I(j) the shift register, which holds
-/// the last eight bytes of the initialization vector and the ciphertext before segment j,
-/// C(j) = P(j) ^ the first bytes of E(I(j)).
-pub fn encrypt<C: BlockCipherEncrypt>(cipher: &C, iv: &[u8; 8], segment: usize, bytes: &mut [u8])
-    requires some { 1 ≤ segment }
-    requires short { segment ≤ 8 }
-    ensures { Cfb segment (C.encrypted cipher.now) iv.now bytes.old bytes.new }
-{
-    Register::new(iv, segment).apply(Direction::Encrypt, cipher, bytes);
-}
-
-/// Decrypts in place what `encrypt` makes with the same vector and segments:
-/// P(j) = C(j) ^ the first bytes of E(I(j)).
-pub fn decrypt<C: BlockCipherEncrypt>(cipher: &C, iv: &[u8; 8], segment: usize, bytes: &mut [u8])
-    requires some { 1 ≤ segment }
-    requires short { segment ≤ 8 }
-    ensures decrypted { Cfb segment (C.encrypted cipher.now) iv.now bytes.new bytes.old }
-    ensures undone { (text : List ℕ) → Cfb segment (C.encrypted cipher.now) iv.now text bytes.old
-        → bytes.new ≡ text }
-{
-    Register::new(iv, segment).apply(Direction::Decrypt, cipher, bytes);
 }

@@ -8,13 +8,13 @@
 ghost use Rattle.std.specs.Prelude.{◌≡◌, ◌≤◌, ◌+◌, ◌++◌, ℕ, List, [], ◌∷◌, length, drop, replicate, IsOk, OnOk, OnErr};
 ghost use Rattle.std.specs.List.{All};
 ghost use Rattle.des.specs.Blocks.{IsBlock};
-ghost use Rattle.des.specs.Cbc.{xor_blocks};
+ghost use Rattle.des.specs.Cbc.{CbcDecrypts};
 ghost use Rattle.des_modes.specs.CmsKeyWrap.{Encloses, Wraps, checksum as checksum_of, reversed};
 
 use crate::checks::are_equal;
 use crate::unwrap_error::UnwrapError;
 use des::cbc;
-use des::cipher::{BlockCipher, BlockCipherDecrypt, BlockCipherEncrypt, are_blocks, are_bytes};
+use des::cipher::{BlockCipher, BlockCipherEncrypt, are_blocks, are_bytes};
 use sha1::Sha1;
 
 // The initialization vector of the second encryption.
@@ -57,24 +57,28 @@ fn enclose<C: BlockCipherEncrypt>(cipher: &C, iv: &[u8; 8], blocks: &mut [[u8; 8
     ensures { Encloses (λ block answer. answer ≡ C.encrypted cipher.now block) iv.now
         (drop 1 blocks.old) blocks.new }
 {
-    cbc::encrypt(cipher, iv, &mut blocks[1..]);
-    blocks[0] = *iv;
+    let (first, rest) = blocks.split_at_mut(1);
+    cbc::encrypt(cipher, iv, rest);
+    first.copy_from_slice(&[*iv]);
     are_blocks(blocks);
     reverse_bytes(blocks);
     cbc::encrypt(cipher, &SECOND_IV, blocks);
 }
 
-// The plaintext of a block that was chained after another.
-fn decrypted<C: BlockCipherDecrypt>(cipher: &C, block: &[u8; 8], before: &[u8; 8]) -> [u8; 8]
-    ensures blocks { IsBlock block.now × IsBlock result }
-    ensures plaintext { result ≡ xor_blocks (C.decrypted cipher.now block.now) before.now }
+// Decrypts a list that was chained, and the block that was chained behind it.
+fn decrypt<C: BlockCipher>(cipher: &C, iv: &[u8; 8], blocks: &mut [[u8; 8]], last: &mut [u8; 8])
+    ensures ciphertext { All IsBlock (blocks.old ++ last.old ∷ []) }
+    ensures plaintext { All IsBlock (blocks.new ++ last.new ∷ []) }
+    ensures cbc_decrypted { CbcDecrypts (C.decrypted cipher.now) iv.now
+        (blocks.old ++ last.old ∷ []) (blocks.new ++ last.new ∷ []) }
 {
-    are_bytes(block);
-    let mut plaintext = *block;
-    cipher.decrypt_block(&mut plaintext);
-    cbc::xor(&mut plaintext, before);
-    are_bytes(&plaintext);
-    plaintext
+    let before = cbc::next_vector(iv, blocks);
+    cbc::decrypt(cipher, iv, blocks);
+    are_bytes(last);
+    cipher.decrypt_block(last);
+    cbc::xor(last, &before);
+    are_blocks(blocks);
+    are_bytes(last);
 }
 
 // Writes the key that was enclosed. The answer is its initialization vector, and the block behind it.
@@ -86,23 +90,17 @@ fn open<C: BlockCipher>(cipher: &C, enclosed: &[[u8; 8]], key: &mut [[u8; 8]]) -
 {
     are_blocks(enclosed);
     let end = key.len() + 1;
-    let middle = &enclosed[1..end];
-    let mut first = decrypted(cipher, &enclosed[0], &SECOND_IV);
-    key.copy_from_slice(middle);
-    cbc::decrypt(cipher, &enclosed[0], key);
-    let mut last = decrypted(
-        cipher,
-        &enclosed[end],
-        &cbc::next_vector(&enclosed[0], middle),
-    );
+    let mut first = enclosed[0];
+    decrypt(cipher, &SECOND_IV, &mut [], &mut first);
+    let mut last = enclosed[end];
+    key.copy_from_slice(&enclosed[1..end]);
+    decrypt(cipher, &enclosed[0], key, &mut last);
     first.reverse();
     reverse_bytes(key);
     last.reverse();
     are_bytes(&last);
-    let before = cbc::next_vector(&last, key);
-    cbc::decrypt(cipher, &last, key);
-    are_blocks(key);
-    (last, decrypted(cipher, &first, &before))
+    decrypt(cipher, &last, key, &mut first);
+    (last, first)
 }
 
 /// Wraps a key into a list of two blocks more. The initialization vector must be random, eight bytes
@@ -117,7 +115,8 @@ pub fn wrap<C: BlockCipherEncrypt>(
     ensures { Wraps (λ block answer. answer ≡ C.encrypted cipher.now block) iv.now
         key.now wrapped.new }
 {
-    write_checked(&mut wrapped[1..], key);
+    let (_, checked) = wrapped.split_at_mut(1);
+    write_checked(checked, key);
     enclose(cipher, iv, wrapped);
 }
 

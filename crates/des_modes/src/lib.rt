@@ -7,15 +7,15 @@
 #![tactic(auto)]
 
 pub mod by_key;
-pub mod cfb;
-pub mod cfb_bits;
+mod cfb;
+mod cfb_bits;
 mod checks;
 pub mod cms_key_wrap;
-pub mod ctr;
+mod ctr;
 pub mod direction;
 pub mod lists;
 pub mod modes;
-pub mod ofb;
+mod ofb;
 mod parts;
 pub mod stream;
 pub mod tkw;

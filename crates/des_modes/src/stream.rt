@@ -7,13 +7,12 @@ ghost use Rattle.des_modes.specs.Cfb.{Cfb, CfbBits, cfb_bits, first_bits};
 ghost use Rattle.des_modes.specs.Ctr.{Ctr};
 ghost use Rattle.des_modes.specs.Directions.{plaintext, ciphertext};
 ghost use Rattle.des_modes.specs.Modes.{InMode, IsMode};
-ghost use Rattle.des_modes.specs.Ofb.{Ofb};
 ghost use Rattle.des_modes.specs.States.{HasBegun, HoldsLastBits, IsBitStreamAt, IsInMode, IsPlace, IsStreamAt, size_of};
-ghost use Rattle.des_modes.specs.declared.modes.Mode.TheVariants.{BitFeedback, CipherFeedback, Counter as CounterMode, OutputFeedback};
+ghost use Rattle.des_modes.specs.declared.modes.Mode.TheVariants.{BitFeedback};
 ghost use Rattle.des_modes.specs.declared.modes.TheConstants.{CFB1, CTR};
 
 use crate::cfb::Register;
-use crate::cfb_bits::BitRegister;
+use crate::cfb_bits;
 use crate::ctr::Counter;
 use crate::direction::Direction;
 use crate::modes::{CFB1, CTR, Mode};
@@ -96,11 +95,8 @@ impl Place {
                 self.used = feedback.used;
             }
             Mode::BitFeedback => {
-                let mut register = BitRegister {
-                    register: self.register,
-                };
-                register.apply(direction, cipher, bytes, 8 * bytes.len() as u128);
-                self.register = register.register;
+                let bits = 8 * bytes.len() as u128;
+                cfb_bits::apply(&mut self.register, direction, cipher, bytes, bits);
             }
             Mode::CipherFeedback(segment) => {
                 let mut register = Register {
@@ -109,7 +105,7 @@ impl Place {
                     segment,
                     used: self.used,
                 };
-                register.apply(direction, cipher, bytes);
+                apply_parts(&mut register, direction, cipher, bytes);
                 self.register = register.register;
                 self.output = register.output;
                 self.used = register.used;
@@ -154,7 +150,7 @@ impl Stream {
             → IsStreamAt CTR encryption block.now p c result }
     {
         are_bytes(block);
-        let counter = Counter::at(block, blocks).counter;
+        let counter = u64::from_be_bytes(*block).wrapping_add(blocks);
         Stream {
             place: Place::new(&counter.to_be_bytes()),
             mode: CTR,
@@ -221,7 +217,8 @@ impl Stream {
     }
 
     /// Encrypts or decrypts the bytes that come next in place, in the mode of the stream: any number of
-    /// them. In pieces, wherever they are cut, they become what they become as one.
+    /// them. In pieces, wherever they are cut, they become what they become as one. A ciphertext has one
+    /// plaintext, so that decryption undoes encryption.
     pub fn apply<C: BlockCipherEncrypt>(
         &mut self,
         direction: Direction,
@@ -236,6 +233,11 @@ impl Stream {
             → IsStreamAt number (C.encrypted cipher.now) iv
             (p ++ plaintext direction bytes.old bytes.new)
             (c ++ ciphertext direction bytes.old bytes.new) self.new }
+        ensures undone { (number : ℕ) (iv p c text : List ℕ)
+            → IsStreamAt number (C.encrypted cipher.now) iv p c self.old
+            → (mode ≡ BitFeedback → AreBytes text) → InMode mode (C.encrypted cipher.now) iv
+            (p ++ text) (c ++ ciphertext direction bytes.old bytes.new)
+            → plaintext direction bytes.old bytes.new ≡ text }
         ensures bits { (iv : List ℕ) (p c : List Bool)
             → IsBitStreamAt (C.encrypted cipher.now) iv p c self.old
             → IsBitStreamAt (C.encrypted cipher.now) iv
@@ -263,12 +265,14 @@ impl Stream {
             → IsBitStreamAt (C.encrypted cipher.now) iv
             (p ++ first_bits bits (plaintext direction bytes.old bytes.new))
             (c ++ first_bits bits (ciphertext direction bytes.old bytes.new)) self.new }
+        ensures undone { (iv : List ℕ) (p c text : List Bool)
+            → IsBitStreamAt (C.encrypted cipher.now) iv p c self.old
+            → CfbBits 1 (C.encrypted cipher.now) iv
+            (p ++ text) (c ++ first_bits bits (ciphertext direction bytes.old bytes.new))
+            → first_bits bits (plaintext direction bytes.old bytes.new) ≡ text }
         ensures rest { drop bits (bits_of_bytes bytes.new) ≡ drop bits (bits_of_bytes bytes.old) }
     {
-        let mut register = BitRegister {
-            register: self.place.register,
-        };
-        register.apply(direction, cipher, bytes, bits as u128);
-        self.place.register = register.register;
+        let register = &mut self.place.register;
+        cfb_bits::apply(register, direction, cipher, bytes, bits as u128);
     }
 }

@@ -4,7 +4,9 @@
 ghost use Rattle.std.specs.Prelude.{◌≡◌, ◌<◌, ◌≤◌, ◌+◌, ◌*◌, ◌-◌, ◌^◌, ◌++◌, ℕ, List, [], ◌∷◌, length, take, drop, replicate, IsOk, OnOk, OnErr};
 ghost use Rattle.std.specs.List.{All};
 ghost use Rattle.std.specs.Int.{w32, to_be_bytes};
+ghost use Rattle.des.specs.Blocks.{IsBlock};
 ghost use Rattle.des.specs.Cbc.{xor_blocks};
+ghost use Rattle.des_modes.specs.Streams.{Under};
 ghost use Rattle.des_modes.specs.Tkw.{IsSemiblock, TkwUnder, tkw, tw, tw_steps};
 
 use crate::checks::are_equal;
@@ -14,14 +16,6 @@ use des::cipher::{BlockCipher, BlockCipherEncrypt, are_bytes};
 
 // The check value in front of the key, ICV3.
 const CHECK_VALUE: [u8; 4] = [0xa6; 4];
-
-// A function for the proof alone: the elements of a list of arrays of 4 bytes are semiblocks. Of such a
-// list a proof knows only the lengths.
-fn are_semiblocks(words: &[[u8; 4]])
-    ensures { All IsSemiblock words.now }
-{
-    are_bytes(words.as_flattened());
-}
 
 // The block of two semiblocks.
 fn joined(first: &[u8; 4], second: &[u8; 4]) -> [u8; 8]
@@ -65,6 +59,7 @@ fn step_back<C: BlockCipher>(cipher: &C, first: &mut [u8; 4], word: &mut [u8; 4]
     ensures first { xor_blocks (take 4 (C.encrypted cipher.now (first.new ++ word.new)))
         (to_be_bytes w32 number) ≡ first.old }
     ensures word { drop 4 (C.encrypted cipher.now (first.new ++ word.new)) ≡ word.old }
+    ensures block { IsBlock (first.new ++ word.new) }
 {
     xor_number(first, number);
     let mut block = joined(first, word);
@@ -90,7 +85,10 @@ fn transform<C: BlockCipherEncrypt>(cipher: &C, first: &mut [u8; 4], words: &mut
 fn transform_back<C: BlockCipher>(cipher: &C, first: &mut [u8; 4], words: &mut [[u8; 4]])
     requires some { 1 ≤ length words.old }
     requires few { length words.old < 2 ^ 28 }
-    ensures { tw (C.encrypted cipher.now) (first.new ∷ words.new) ≡ first.old ∷ words.old }
+    ensures undone { tw (C.encrypted cipher.now) (first.new ∷ words.new) ≡ first.old ∷ words.old }
+    ensures only { (start : List (List ℕ)) → All IsSemiblock start
+        → Under (λ block encrypted. encrypted ≡ C.encrypted cipher.now block)
+        (λ encryption. tw encryption start ≡ first.old ∷ words.old) → start ≡ first.new ∷ words.new }
 {
     let count = words.len();
     let mut left = 6 * count;
@@ -132,8 +130,6 @@ pub fn unwrap<C: BlockCipher>(
     let mut first = wrapped[0];
     key.copy_from_slice(&wrapped[1..]);
     transform_back(cipher, &mut first, key);
-    are_bytes(&first);
-    are_semiblocks(key);
     if are_equal(&first, &CHECK_VALUE) {
         return Ok(());
     }

@@ -1,19 +1,24 @@
 -- A step more.
-use Rattle.std.proofs.Common.{◌≡◌, ℕ, ◌+◌, ◌*◌, ◌-◌, ◌%◌, ◌<◌, List, [], ◌∷◌, length, set, get_or, ap, sym, ◌∙◌, arith}
+use Rattle.std.proofs.Common.{◌≡◌, ℕ, ◌+◌, ◌*◌, ◌-◌, ◌%◌, ◌<◌, List, [], ◌∷◌, length, set, get_or, refl, ap, sym, ◌∙◌, arith, length-append}
 use Rattle.std.proofs.Math.Nat.{mod-lt, mul-mod_left, zero-mod}
 use Rattle.std.proofs.lemmas.List.{get_or-set_same, length-set, set-get_or, set-set}
 use Rattle.des_modes.specs.Tkw.{tw_step, tw_steps}
-use Rattle.des_modes.proofs.TkwSteps.{tw_steps-next, tw_step-in_place, turned, turned-none}
+use Rattle.des_modes.proofs.TkwSteps.{Undoes, Undoes-alike, tw_steps-next, tw_steps-keep, tw_step-in_place, tw_step-one, turned, turned-none}
+use Rattle.des_modes.proofs.tkw.transform_back.Given.{Over}
 use Rattle.des_modes.proofs.tkw.transform_back.Goals as goal
+
+laws : (g : Over) (cipher : g.row.C.Denot) → Undoes (g.C.BlockCipherEncrypt.encrypted cipher) (g.C.BlockCipherDecrypt.decrypted cipher)
+laws g cipher = record {
+  undone = g.met.C.BlockCipher.decrypts_encrypted cipher;
+  is_block = g.met.C.BlockCipher.encrypted_is_block cipher;
+}
 
 pub steps-init : goal.steps-init
 steps-init g c =
     let words : List (List ℕ) = c.args.words.now in
-    let count : ℕ = length words in record {
-      within = omega arith;
-      undone = λ start same.
-          same ∙ ap (λ (xs : List (List ℕ)). c.args.first.now ∷ xs) (turned-none words (6 * count % count) (mul-mod_left 6 count));
-    }
+    let count : ℕ = length words in
+    let whole = ap (λ (xs : List (List ℕ)). c.args.first.now ∷ xs) (turned-none words (6 * count % count) (mul-mod_left 6 count)) in
+    record { within = omega arith; undone = λ start same. same ∙ whole; only = λ f alike start are same. same ∙ sym whole }
 
 pub steps-preserved : goal.steps-preserved
 steps-preserved g c =
@@ -22,20 +27,30 @@ steps-preserved g c =
     let t : ℕ = c.steps.left - 1 in
     let i : ℕ = t % count in
     let words : List (List ℕ) = c.steps.words in
+    let first : List ℕ = c.step_back.new.first in
     let word : List ℕ = c.step_back.new.word in
     let within : i < length words = omega (arith, mod-lt t c.requires.some) in
     let place : t + 1 ≡ c.steps.left = omega arith in
+    let there : get_or (set words i word) i [] ≡ word = get_or-set_same words i word [] within in
     let back : set (set words i word) i (get_or words i []) ≡ words =
-    set-set words i word (get_or words i []) ∙ set-get_or words i [] in record {
+    set-set words i word (get_or words i []) ∙ set-get_or words i [] in
+    let step : tw_step E (t + 1) (first ∷ turned (set words i word) i) ≡ c.steps.first ∷ turned words (c.steps.left % count) =
+    tw_step-in_place E t count first c.steps.first word (get_or words i []) (set words i word)
+    (omega (arith, length-set words i word)) c.requires.some there c.step_back.ensures.first c.step_back.ensures.word
+    ∙ ap (λ (xs : List (List ℕ)). c.steps.first ∷ turned xs ((t + 1) % count)) back
+    ∙ ap (λ (n : ℕ). c.steps.first ∷ turned words (n % count)) place in record {
       within = omega (arith, c.steps.invariant.within);
       undone = λ start same.
           c.steps.invariant.undone start
-          (ap (λ (n : ℕ). tw_steps E n start) (sym place) ∙ tw_steps-next E t start ∙ ap (tw_step E (t + 1)) same
-          ∙ tw_step-in_place E t count c.step_back.new.first c.steps.first word (get_or words i []) (set words i word)
-          (omega (arith, length-set words i word)) c.requires.some (get_or-set_same words i word [] within)
-          c.step_back.ensures.first c.step_back.ensures.word
-          ∙ ap (λ (xs : List (List ℕ)). c.steps.first ∷ turned xs ((t + 1) % count)) back
-          ∙ ap (λ (n : ℕ). c.steps.first ∷ turned words (n % count)) place);
+          (ap (λ (n : ℕ). tw_steps E n start) (sym place) ∙ tw_steps-next E t start ∙ ap (tw_step E (t + 1)) same ∙ step);
+      only = λ f alike start are same.
+          let e_laws = laws g c.args.cipher.now in
+          let f_laws = Undoes-alike e_laws alike in
+          tw_step-one f_laws e_laws (t + 1) (count + 1) i (tw_steps f t start) (set words i word) first word
+          (tw_steps-keep f_laws t (count + 1) start are) (omega (arith, c.requires.some)) (omega (arith, length-set words i word)) there
+          (omega arith) (omega (arith, c.step_back.ensures.block.0, length-append first word)) c.step_back.ensures.block
+          (sym (tw_steps-next f t start) ∙ ap (λ (n : ℕ). tw_steps f n start) place
+          ∙ c.steps.invariant.only f alike start are same ∙ sym step);
     }
 
 pub returns : goal.returns
@@ -45,6 +60,15 @@ returns g c =
     let count : ℕ = length c.args.words.now in
     let none : c.steps.left ≡ 0 = omega arith in
     let all : 6 * (length (c.steps.first ∷ words) - 1) ≡ 6 * count = omega arith in
-    ap (λ (n : ℕ). tw_steps E n (c.steps.first ∷ words)) all
-    ∙ (rw none at c.steps.invariant.undone) (c.steps.first ∷ words)
-    (ap (λ (xs : List (List ℕ)). c.steps.first ∷ xs) (sym (turned-none words (0 % count) (zero-mod count))))
+    let whole = ap (λ (xs : List (List ℕ)). c.steps.first ∷ xs) (turned-none words (0 % count) (zero-mod count)) in record {
+      undone =
+          ap (λ (n : ℕ). tw_steps E n (c.steps.first ∷ words)) all
+          ∙ (rw none at c.steps.invariant.undone) (c.steps.first ∷ words) (sym whole);
+      only = λ start are under.
+          let f : List ℕ → List ℕ = under.encryption in
+          let kept = tw_steps-keep (Undoes-alike (laws g c.args.cipher.now) under.encrypts) (6 * (length start - 1)) (length start) start (refl, are) in
+          let size : length start ≡ count + 1 = omega (arith, kept.0, ap length under.made) in
+          let steps : 6 * count ≡ 6 * (length start - 1) = omega (arith, size) in
+          (rw none at c.steps.invariant.only) f under.encrypts start (size, are)
+          (ap (λ (n : ℕ). tw_steps f n start) steps ∙ under.made) ∙ whole;
+    }

@@ -1,4 +1,4 @@
-use Rattle.std.proofs.Common.{◌≡◌, ℕ, ◌+◌, ◌*◌, ◌/◌, ◌%◌, ◌<◌, List, length, get_or, bit_xor, ap, ◌∙◌, arith, zero, suc, ◌-◌, [], ◌∷◌}
+use Rattle.std.proofs.Common.{◌≡◌, ℕ, ◌+◌, ◌*◌, ◌/◌, ◌%◌, ◌<◌, List, length, get_or, ◌∙◌, arith, zero, suc, ◌-◌, [], ◌∷◌}
 use Rattle.std.proofs.Math.ListN.{get_or-append}
 use Rattle.std.proofs.lemmas.List.{get_or-append_right}
 use Rattle.std.specs.List.{flat_map}
@@ -14,8 +14,7 @@ get_or-joined : (blocks : List (List ℕ)) → ((k : ℕ) → k < length blocks 
 get_or-joined [] widths j r n same within below = absurd (omega arith)
 get_or-joined (block ∷ blocks) widths zero r n same within below =
     let wide : length block ≡ 8 = widths 0 (omega arith) in
-    let place : n ≡ r = omega arith in
-    ap (λ (k : ℕ). get_or (joined (block ∷ blocks)) k 0) place ∙ get_or-append block (joined blocks) 0 r (omega arith)
+    let place : n ≡ r = omega arith in rw place (get_or-append block (joined blocks) 0 r (omega arith))
 get_or-joined (block ∷ blocks) widths (suc j) r n same within below =
     let wide : length block ≡ 8 = widths 0 (omega arith) in
     get_or-append_right block (joined blocks) 8 n 0 wide (omega arith)
@@ -24,11 +23,7 @@ get_or-joined (block ∷ blocks) widths (suc j) r n same within below =
 -- a byte of the joined blocks is one of the block that it stands in
 pub returns : goal.returns
 returns c = λ i within.
-    let blocks : List (List ℕ) = c.args.blocks.now in
     let n : ℕ = c.args.from + i in
-    let place : n ≡ 8 * (n / 8) + n % 8 = omega arith in
-    let inside : n / 8 < length blocks = omega (arith, c.requires) in
-    let below : n % 8 < 8 = omega arith in
-    let same = ap (λ (bytes : List ℕ). get_or bytes n 0) c.as_flattened.ensures.value
-    ∙ get_or-joined blocks c.told-blocks (n / 8) (n % 8) n place inside below in
-    c.xor_from.ensures i within ∙ ap (bit_xor (get_or c.args.bytes.now i 0)) same
+    let inside : n / 8 < length c.args.blocks.now = omega (arith, c.requires) in
+    let byte = get_or-joined c.args.blocks.now c.told-blocks (n / 8) (n % 8) n (omega arith) inside (omega arith) in
+    rw (c.as_flattened.ensures.value, byte) at (c.xor_from.ensures i within)

@@ -1,5 +1,4 @@
 use Rattle.std.proofs.Common.{arith}
-use Rattle.des_modes.specs.Directions.{ciphertext}
 use Rattle.des_modes.proofs.CfbPlaces.{XorsFrom-within}
 use Rattle.des_modes.proofs.cfb.Register.apply_in_segment.Goals as goal
 
@@ -13,12 +12,10 @@ returns-in-Decrypt-clause-after g c =
 
 pub returns-in-Encrypt-clause-xored : goal.returns-in-Encrypt-clause-xored
 returns-in-Encrypt-clause-xored g c s iv d is =
-    XorsFrom-within s _ iv d c.args.self.now (omega arith) is (ciphertext c.args.direction c.args.bytes.now c.xor_from.new.bytes)
-    c.current-output.result c.args.bytes.now c.xor_from.new.bytes (omega (arith, is.segment)) c.requires
+    XorsFrom-within s _ iv d c.args.self.now (omega arith) is _ c.current-output.result _ _ (omega (arith, is.segment)) c.requires
     (c.current-output.ensures s iv d is) c.xor_from.auto.bytes c.xor_from.ensures
 
 pub returns-in-Decrypt-clause-xored : goal.returns-in-Decrypt-clause-xored
 returns-in-Decrypt-clause-xored g c s iv d is =
-    XorsFrom-within s _ iv d c.args.self.now (omega arith) is (ciphertext c.args.direction c.args.bytes.now c.xor_from-in-Decrypt.new.bytes)
-    c.current-output.result c.args.bytes.now c.xor_from-in-Decrypt.new.bytes (omega (arith, is.segment)) c.requires
+    XorsFrom-within s _ iv d c.args.self.now (omega arith) is _ c.current-output.result _ _ (omega (arith, is.segment)) c.requires
     (c.current-output.ensures s iv d is) c.xor_from-in-Decrypt.auto.bytes c.xor_from-in-Decrypt.ensures

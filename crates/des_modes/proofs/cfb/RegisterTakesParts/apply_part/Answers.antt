@@ -9,7 +9,7 @@ pub returns-in-Decrypt-clause-xored : goal.returns-in-Decrypt-clause-xored
 returns-in-Decrypt-clause-xored g c = rw c.in-Decrypt.is c.decrypt_segments.ensures.decrypted
 
 pub returns-in-Decrypt-clause-front : goal.returns-in-Decrypt-clause-front
-returns-in-Decrypt-clause-front g c s iv d is = cfb_stream-front s _ iv d c.args.self.now (omega arith) is
+returns-in-Decrypt-clause-front g c s iv d is = cfb_stream-front s (g.C.BlockCipherEncrypt.encrypted c.args.cipher.now) iv d c.args.self.now.register (omega arith) is.place.register
 
 pub returns-in_default-clause-front : goal.returns-in_default-clause-front
-returns-in_default-clause-front g c s iv d is = cfb_stream-front s _ iv d c.args.self.now (omega arith) is
+returns-in_default-clause-front g c s iv d is = cfb_stream-front s (g.C.BlockCipherEncrypt.encrypted c.args.cipher.now) iv d c.args.self.now.register (omega arith) is.place.register

@@ -1,31 +1,25 @@
-use Rattle.std.proofs.Common.{◌≡◌, ℕ, ◌+◌, List, length, refl, arith, ◌/◌, ◌%◌, ◌^◌, ◌<◌, get_or, bit_xor, ap, ap₂, ◌∙◌}
+use Rattle.std.proofs.Common.{◌≡◌, ℕ, ◌+◌, List, length, refl, arith, ◌/◌, ◌%◌, ◌^◌, ◌<◌, get_or, bit_xor}
 use Rattle.std.specs.Int.{w64, to_be_bytes, from_be_bytes}
-use Rattle.std.proofs.Math.Nat.{mod-add-mod}
 use Rattle.des_modes.specs.Ctr.{ctr_stream}
 use Rattle.des_modes.specs.Streams.{Xors}
 use Rattle.des_modes.specs.declared.ctr.Counter.{Counter}
-use Rattle.des_modes.specs.States.{IsCtrAt}
+use Rattle.des_modes.specs.States.{IsAtCounter}
 use Rattle.des_modes.proofs.Pieces.{length-behind}
 use Rattle.des_modes.proofs.ctr.CounterTakesParts.apply_part.Goals as goal
 
 -- bytes from a place on
 XorsFrom-counter : (encryption : List ℕ → List ℕ) (t : List ℕ) (n : ℕ) (state : Counter) (old new : List ℕ)
-    → IsCtrAt t n state → length new ≡ length old
+    → IsAtCounter t n state.counter state.used → length new ≡ length old
     → ((i : ℕ) → i < length old → get_or new i 0 ≡ bit_xor (get_or old i 0)
     (get_or (encryption (to_be_bytes w64 ((state.counter + (state.used + i) / 8) % 2 ^ 64))) ((state.used + i) % 8) 0))
     → Xors bit_xor 0 n (ctr_stream encryption t) old new
 XorsFrom-counter encryption t n state old new is same xored = record {
   count = same;
   xored = λ i below.
-      let start : ℕ = from_be_bytes w64 t in
-      let whole : ℕ = (state.used + i) / 8 in
-      let used : state.used ≡ n % 8 = is.used in
-      let byte : (state.used + i) % 8 ≡ (n + i) % 8 = omega arith in
-      let sum : start + n / 8 + whole ≡ start + (n + i) / 8 = omega arith in
-      let counter : (state.counter + whole) % 2 ^ 64 ≡ (start + (n + i) / 8) % 2 ^ 64 =
-      ap (λ (x : ℕ). (x + whole) % 2 ^ 64) is.counter ∙ mod-add-mod (start + n / 8) (2 ^ 64) whole
-      ∙ ap (λ (x : ℕ). x % 2 ^ 64) sum in
-      xored i below ∙ ap (bit_xor (get_or old i 0)) (ap₂ (λ (x m : ℕ). get_or (encryption (to_be_bytes w64 x)) m 0) counter byte);
+      let byte : (state.used + i) % 8 ≡ (n + i) % 8 = omega (arith, is.1) in
+      let counter : (state.counter + (state.used + i) / 8) % 2 ^ 64 ≡ (from_be_bytes w64 t + (n + i) / 8) % 2 ^ 64 =
+      omega (arith, is.0, is.1) in
+      rw (← counter, ← byte) (xored i below);
 }
 
 pub returns : goal.returns

@@ -4,7 +4,8 @@ use Rattle.std.proofs.lemmas.Nat.{from_be_bytes-to_be_bytes_8}
 use Rattle.des.specs.Bits.{bits_of_bytes}
 use Rattle.des_modes.specs.Directions.{plaintext, ciphertext}
 use Rattle.des_modes.proofs.BitPlaces.{bits-append, first_bits-all}
-use Rattle.des_modes.proofs.Pieces.{Xors-append}
+use Rattle.des_modes.proofs.CfbPlaces.{cfb_stream-front}
+use Rattle.des_modes.proofs.Pieces.{Xors-append, Xors-whole}
 use Rattle.des_modes.proofs.stream.Place.apply.Goals as goal
 
 pub returns-in-Counter-clause-fits : goal.returns-in-Counter-clause-fits
@@ -15,66 +16,39 @@ returns-in-OutputFeedback-clause-fits g c = rw c.in-OutputFeedback.is c.apply_pa
 
 pub returns-in-CipherFeedback-clause-fits : goal.returns-in-CipherFeedback-clause-fits
 returns-in-CipherFeedback-clause-fits g c =
-    rw (c.in-CipherFeedback.is, ← c.apply-in-CipherFeedback.ensures.segment) c.apply-in-CipherFeedback.new.self.fits
+    rw (c.in-CipherFeedback.is, ← c.apply_parts-in-CipherFeedback.ensures.segment) c.apply_parts-in-CipherFeedback.new.state.fits
 
 pub returns-in-Counter-clause-after : goal.returns-in-Counter-clause-after
 returns-in-Counter-clause-after g c =
-    rw c.in-Counter.is (λ iv d (at, is, register, used).
-    let after = c.apply_parts.ensures.after 0 iv d
-    (record { counter = c.from_be_bytes.ensures ∙ register ∙ is.counter; used = used ∙ is.used }) in
-    let fits : c.apply_parts.new.state.counter < 2 ^ 64 = omega (arith, after.counter) in (
-      c.apply_parts.new.state,
-      after,
-      ap (from_be_bytes w64) c.to_be_bytes-self.ensures ∙ from_be_bytes-to_be_bytes_8 _ fits,
-      refl,
-    ))
+    rw c.in-Counter.is (λ iv d at.
+    let after = c.apply_parts.ensures.after 0 iv d (c.from_be_bytes.ensures ∙ at.0, at.1) in
+    let fits : c.apply_parts.new.state.counter < 2 ^ 64 = omega (arith, after.0) in
+    (ap (from_be_bytes w64) c.to_be_bytes-self.ensures ∙ from_be_bytes-to_be_bytes_8 _ fits ∙ after.0, after.1))
 
 pub returns-in-Counter-clause-made : goal.returns-in-Counter-clause-made
 returns-in-Counter-clause-made g c =
-    rw c.in-Counter.is (λ iv p d (at, is, register, used) made.
+    rw c.in-Counter.is (λ iv p d at made.
     Xors-append 0 (length d) _ p d _ _ (omega (arith, made.count)) made
-    (c.apply_parts.ensures.xored 0 iv d
-    (record { counter = c.from_be_bytes.ensures ∙ register ∙ is.counter; used = used ∙ is.used })))
+    (c.apply_parts.ensures.xored 0 iv d (c.from_be_bytes.ensures ∙ at.0, at.1)))
 
 pub returns-in-OutputFeedback-clause-after : goal.returns-in-OutputFeedback-clause-after
-returns-in-OutputFeedback-clause-after g c =
-    rw c.in-OutputFeedback.is (λ iv d (at, is, register, used). (
-      c.apply_parts-in-OutputFeedback.new.state,
-      c.apply_parts-in-OutputFeedback.ensures.after 0 iv d (record { block = register ∙ is.block; used = used ∙ is.used }),
-      refl,
-      refl,
-    ))
+returns-in-OutputFeedback-clause-after g c = rw c.in-OutputFeedback.is (c.apply_parts-in-OutputFeedback.ensures.after 0)
 
 pub returns-in-OutputFeedback-clause-made : goal.returns-in-OutputFeedback-clause-made
 returns-in-OutputFeedback-clause-made g c =
-    rw c.in-OutputFeedback.is (λ iv p d (at, is, register, used) made.
-    Xors-append 0 (length d) _ p d _ _ (omega (arith, made.count)) made
-    (c.apply_parts-in-OutputFeedback.ensures.xored 0 iv d (record { block = register ∙ is.block; used = used ∙ is.used })))
+    rw c.in-OutputFeedback.is (λ iv p d at made.
+    Xors-append 0 (length d) _ p d _ _ (omega (arith, made.count)) made (c.apply_parts-in-OutputFeedback.ensures.xored 0 iv d at))
 
 pub returns-in-CipherFeedback-clause-after : goal.returns-in-CipherFeedback-clause-after
 returns-in-CipherFeedback-clause-after g c =
-    rw c.in-CipherFeedback.is (λ iv d (at, is, register, output, used). (
-      c.apply-in-CipherFeedback.new.self,
-      c.apply-in-CipherFeedback.ensures.after _ iv d (record {
-        segment = refl;
-        register = register ∙ is.register;
-        used = used ∙ is.used;
-        output = λ more. output ∙ is.output (omega (arith, used, more));
-      }),
-      refl,
-      refl,
-      refl,
-    ))
+    rw c.in-CipherFeedback.is (λ iv d at. (c.apply_parts-in-CipherFeedback.ensures.after _ iv d (record { segment = refl; place = at })).place)
 
 pub returns-in-CipherFeedback-clause-made : goal.returns-in-CipherFeedback-clause-made
 returns-in-CipherFeedback-clause-made g c =
-    rw c.in-CipherFeedback.is (λ iv p d (at, is, register, output, used) made.
-    c.apply-in-CipherFeedback.ensures.whole _ iv d p (record {
-      segment = refl;
-      register = register ∙ is.register;
-      used = used ∙ is.used;
-      output = λ more. output ∙ is.output (omega (arith, used, more));
-    }) made)
+    rw c.in-CipherFeedback.is (λ iv p d at begun.
+    Xors-whole
+    (cfb_stream-front c.in-CipherFeedback.segment (g.C.BlockCipherEncrypt.encrypted c.args.cipher.now) iv d c.args.self.now.register (omega arith) at.register) begun
+    (c.apply_parts-in-CipherFeedback.ensures.xored _ iv d (record { segment = refl; place = at })))
 
 pub returns-in-BitFeedback-clause-after_bits : goal.returns-in-BitFeedback-clause-after_bits
 returns-in-BitFeedback-clause-after_bits g c same iv d at unused = (
@@ -85,7 +59,7 @@ returns-in-BitFeedback-clause-after_bits g c same iv d at unused = (
 pub returns-in-BitFeedback-clause-made_bits : goal.returns-in-BitFeedback-clause-made_bits
 returns-in-BitFeedback-clause-made_bits g c same iv p d at unused made =
     let all = first_bits-all c.args.direction c.args.bytes.now c.apply.new.bytes c.apply.auto.bytes in
-    rw (all.0, all.1) at (c.apply.ensures.whole iv p d at made)
+    rw (all.0, all.1) at (c.apply.ensures.made iv p d at made)
 
 pub returns-in-BitFeedback-clause-after : goal.returns-in-BitFeedback-clause-after
 returns-in-BitFeedback-clause-after g c =

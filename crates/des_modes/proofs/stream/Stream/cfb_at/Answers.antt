@@ -19,7 +19,7 @@ returns-clause-place c encryption iv p d is_iv bytes whole holds made =
       is_mode = refl;
       is_block = is_iv;
       are_bytes = bytes;
-      place = rw same (IsPlace-cfb c.args.segment encryption iv d c.new.result (c.requires.some, c.requires.short) whole
+      place = rw same (IsPlace-cfb c.args.segment encryption iv d c.new.result whole
           (c.new.ensures.register ∙ holds) c.new.ensures.used);
       made = rw same made;
     }

@@ -15,8 +15,7 @@ returns-clause-some c =
         is_mode = refl;
         is_block = (omega arith, c.are_bytes.ensures);
         are_bytes = All-nil _;
-        place = IsPlace-begin mode encryption iv c.new.result (size_of-mode_by c.args.number is) (omega arith, c.are_bytes.ensures)
-            c.new.ensures.register c.new.ensures.used;
+        place = IsPlace-begin mode encryption iv c.new.result (omega arith, c.are_bytes.ensures) c.new.ensures.register c.new.ensures.used;
         made = InMode-none mode encryption iv;
       },
     )

@@ -1,16 +1,16 @@
 -- A bit more.
-use Rattle.std.proofs.Common.{◌≡◌, ℕ, ◌<◌, Bool, false, List, [], length, get_or, refl, ap, ap₂, ◌∙◌, arith}
+use Rattle.std.proofs.Common.{◌≡◌, ℕ, ◌<◌, Bool, false, List, [], length, get_or, refl, ap, arith}
 use Rattle.std.proofs.lemmas.List.{get_or-set_same}
 use Rattle.des.specs.Bits.{bits_of_bytes, xor}
 use Rattle.des.specs.Laws.BitLists.{length-bits_of_bytes}
 use Rattle.des_modes.specs.Cfb.{first_bits}
 use Rattle.des_modes.specs.Directions.{ciphertext}
-use Rattle.des_modes.proofs.Pieces.{ByText-begun, ByText-directed, texts-map, InPlace-set, Xors-whole}
+use Rattle.des_modes.proofs.Pieces.{ByText-none, ByText-joined, texts-map, InPlace-set, Xors-directed, Xors-whole, bits_undone}
 use Rattle.des_modes.proofs.CfbPlaces.{ByText-bit, cfb_bits-front}
-use Rattle.des_modes.proofs.cfb_bits.BitRegister.apply.Goals as goal
+use Rattle.des_modes.proofs.cfb_bits.apply.Goals as goal
 
 pub bits-init : goal.bits-init
-bits-init g c iv = record { done = ByText-begun c.args.direction c.args.self.now.register; rest = refl }
+bits-init g c iv = record { done = ByText-none c.args.direction c.args.register.now; rest = refl }
 
 pub bits-preserved : goal.bits-preserved
 bits-preserved g c iv =
@@ -18,13 +18,11 @@ bits-preserved g c iv =
     let place : ℕ = c.bits.place in
     let now : List Bool = bits_of_bytes c.bits.bytes in
     let within : place < length now = omega (arith, length-bits_of_bytes c.bits.bytes) in
-    let written : c.bit_at.result ≡ xor (get_or now place false) c.key_bit.result =
-    c.bit_at.ensures ∙ ap (λ (bits : List Bool). get_or bits place false) c.xor_bit.ensures ∙ get_or-set_same now place _ false within in
     let bit : c.ciphertext.result ≡ ciphertext c.args.direction (get_or now place false) (xor (get_or now place false) c.key_bit.result) =
-    c.ciphertext.ensures ∙ ap₂ (ciphertext c.args.direction) c.bit_at-old.ensures written in
+    rw (c.ciphertext.ensures, c.bit_at-old.ensures, c.bit_at.ensures, c.xor_bit.ensures, get_or-set_same now place _ false within) refl in
     InPlace-set _ false c.xor_bit.ensures within
-    (λ done. ByText-directed c.args.direction _ _ _ _ (λ t at. cfb_bits-front E iv t c.bits.self.register c.key_bit.ensures.wide at) done
-    (ByText-bit E iv c.bits.self.register c.advance.new.self.register c.args.direction _ _ c.key_bit.ensures.wide (rw bit at c.advance.ensures)
+    (λ done. ByText-joined c.args.direction (λ t at. cfb_bits-front E iv t c.bits.register c.key_bit.ensures.wide at) done
+    (ByText-bit E iv c.bits.register c.advance.new.register c.args.direction _ _ c.key_bit.ensures.wide (rw bit at c.advance.ensures)
     (ap (xor (get_or now place false)) c.key_bit.ensures.bit))) (c.bits.invariant iv)
 
 pub returns : goal.returns
@@ -35,9 +33,9 @@ returns g c =
     let texts = texts-map (first_bits c.args.bits) c.args.direction c.args.bytes.now c.bits.bytes in
     record {
       after = λ iv d is. rw texts.1 ((so_far iv).done.goes d is).0;
-      xored = λ iv d is. rw (texts.0, texts.1) ((so_far iv).done.goes d is).1;
-      whole = λ iv p d is begun.
+      made = λ iv p d is begun.
           rw (texts.0, texts.1)
-          (Xors-whole (cfb_bits-front E iv d c.args.self.now.register (omega arith) is) begun ((so_far iv).done.goes d is).1);
+          (Xors-whole (cfb_bits-front E iv d c.args.register.now (omega arith) is) begun
+          (Xors-directed c.args.direction _ _ _ _ bits_undone ((so_far iv).done.goes d is).1));
       rest = (so_far []).rest;
     }

@@ -1,9 +1,0 @@
-use Rattle.std.proofs.Common.{[], sym}
-use Rattle.std.proofs.Math.Nat.{zero-mod}
-use Rattle.std.proofs.lemmas.List.{append-nil}
-use Rattle.des_modes.proofs.cfb.encrypt.Goals as goal
-
-pub returns : goal.returns
-returns g c =
-    c.apply.ensures.xored c.args.segment c.args.iv.now []
-    (c.new.ensures _ c.args.iv.now [] (zero-mod c.args.segment) (sym (append-nil c.args.iv.now)))
