@@ -6,7 +6,7 @@ ghost use Rattle.des_lines.specs.declared.fault.FaultKind.{FaultKind};
 
 use crate::fault::{FaultKind, Field, FileFault, Misuse, Reason};
 use des_payment::emv_error::EmvError;
-use des_payment::key_block_error::KeyBlockError;
+use des_key_blocks::key_block_error::KeyBlockError;
 use des_payment::{CvvError, PinError, TranslationError, VerificationError};
 
 /// The words of a fault.

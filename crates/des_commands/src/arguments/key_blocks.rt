@@ -7,7 +7,7 @@ use super::sources::{input_at, one_of};
 use clap::ArgMatches;
 use des_lines::fault::Misuse;
 use des_lines::requests::{Calculation, CalculationRequest, KeyBlockCalculation, Wrapping};
-use des_payment::key_block_header::Version;
+use des_key_blocks::key_block_header::Version;
 
 // The request with the key that protects blocks.
 fn protected<'a>(request: CalculationRequest<'a>, matches: &ArgMatches<'a>) -> Requested<'a> {
