@@ -54,9 +54,8 @@ fn derived_part(key: &[u8], usage: u8, counter: u8) -> [u8; 8]
     requires { (length key.now ≡ 16) ⊎ (length key.now ≡ 24) }
     ensures { result ≡ derived_part_of usage key.now counter }
 {
-    let mut state = Cmac::<TdesEde3>::new(&three_parts(key));
-    state.update(&derivation_block(key.len(), usage, counter));
-    state.finalize()
+    let block = derivation_block(key.len(), usage, counter);
+    Cmac::<TdesEde3>::mac(&three_parts(key), &block).unwrap()
 }
 
 // Three parts, one after the other.

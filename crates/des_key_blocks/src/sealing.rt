@@ -33,14 +33,22 @@ fn decrypt_cbc<C: KeyedCipher + Drop>(key: &C::Key, vector: &[u8; 8], blocks: &m
     cbc::decrypt(&C::new(key), vector, blocks);
 }
 
+// The tag of a message in two pieces.
+fn tag_of_pieces<M: Mac + Drop>(key: &[u8], front: &[u8], back: &[u8]) -> [u8; 8]
+    requires { length key.now ≡ M.key_size }
+    ensures { result ≡ M.tag_of key.now (front.now ++ back.now) }
+{
+    let mut state = M::new_from_slice(key).unwrap();
+    state.update(front);
+    state.update(back);
+    state.finalize()
+}
+
 // The tag of version B, of a header and key data in clear.
 fn clear_tag(key: &[u8; 24], header: &[u8], blocks: &[[u8; 8]]) -> [u8; 8]
     ensures { result ≡ cmac (ede3_encryption key.now) (header.now ++ joined blocks.now) }
 {
-    let mut state = Cmac::<TdesEde3>::new(key);
-    state.update(header);
-    state.update(blocks.as_flattened());
-    state.finalize()
+    tag_of_pieces::<Cmac<TdesEde3>>(key, header, blocks.as_flattened())
 }
 
 // The tag of versions A and C, of a header and encrypted key data.
@@ -49,10 +57,7 @@ fn encrypted_tag(key: &[u8; 24], header: &[u8], blocks: &[[u8; 8]]) -> [u8; 8]
     requires whole { length header.now % 8 ≡ 0 }
     ensures { result ≡ cbc_mac (ede3_encryption key.now) (header.now ++ joined blocks.now) }
 {
-    let mut state = CbcMac::<TdesEde3, Method1>::new(key);
-    state.update(header);
-    state.update(blocks.as_flattened());
-    state.finalize()
+    tag_of_pieces::<CbcMac<TdesEde3, Method1>>(key, header, blocks.as_flattened())
 }
 
 // The first eight characters of a header.

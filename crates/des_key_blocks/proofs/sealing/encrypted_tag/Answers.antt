@@ -1,11 +1,11 @@
-use Rattle.std.proofs.Common.{ℕ, List, [], ◌++◌, ap, ◌∙◌, arith}
+use Rattle.std.proofs.Common.{ℕ, List, ◌++◌, ap, ◌∙◌, arith}
 use Rattle.std.proofs.lemmas.List.{length-append}
 use Rattle.des.specs.TripleCiphers.{ede3_encryption}
 use Rattle.des_mac.specs.CbcMac.{cbc_mac}
 use Rattle.des_key_blocks.proofs.KeyedCbc.{padded-whole}
 use Rattle.des_key_blocks.proofs.sealing.encrypted_tag.Goals as goal
 
--- the state stands for the header and the blocks, which are whole blocks
+-- the header and the blocks are whole blocks
 pub returns : goal.returns
 returns c =
     let key : List ℕ = c.args.key.now in
@@ -13,9 +13,7 @@ returns c =
     let flat : List ℕ = c.as_flattened.result.now in
     let count = length-append header flat in
     let blocks = c.as_flattened.ensures.len in
-    let first = c.update.ensures key [] c.new-state.ensures in
-    let second = c.update-2.ensures key _ first in
-    c.finalize.ensures key _ second
+    c.tag_of_pieces.ensures
     ∙ ap (λ (bytes : List ℕ). cbc_mac (ede3_encryption key) bytes)
     (padded-whole (header ++ flat) (omega (arith, c.requires.whole)) (omega (arith, c.requires.some)))
     ∙ ap (λ (bytes : List ℕ). cbc_mac (ede3_encryption key) (header ++ bytes)) c.as_flattened.ensures.value
