@@ -49,8 +49,12 @@ IsEight block = length block ≡ 8
 length-eights : (blocks : List (List ℕ)) → All IsEight blocks → length (joined blocks) ≡ 8 * length blocks
 length-eights [] eight = refl
 length-eights (block ∷ blocks) eight =
-    omega (arith, length-append block (joined blocks), All-head IsEight block blocks eight,
-        length-eights blocks (All-tail IsEight block blocks eight))
+    omega (
+      arith,
+      length-append block (joined blocks),
+      All-head IsEight block blocks eight,
+      length-eights blocks (All-tail IsEight block blocks eight),
+    )
 
 pub length-plain : {Relates : List ℕ → List ℕ → Type 0} {iv bytes : List ℕ} {q : List (List ℕ)}
     → IsPlainOf Relates iv q bytes → length bytes ≡ 8 * length q

@@ -17,13 +17,14 @@ use crate::keys::AnyKey;
 use crate::requests::{Inputs, KeyBlockCalculation, RANDOM, Wrapping};
 use des_key_blocks::key_block_error::KeyBlockError;
 use des_key_blocks::key_block_header::{
-    Algorithm, Exportability, Header, KeyContext, MOST_CHARACTERS, ModeOfUse, Usage, are_alphanumeric,
+    Algorithm, Exportability, Header, KeyContext, MOST_CHARACTERS, ModeOfUse, Usage,
+    are_alphanumeric,
 };
 use des_key_blocks::key_blocks::{self, key_context, optional_block, wrap};
-use des_payment::key_check_value;
 use des_key_blocks::optional_blocks::{
     MOST_BLOCKS, OptionalBlock, is_printable, read_optional_blocks,
 };
+use des_payment::key_check_value;
 use std::alloc::{AllocError, Global};
 
 /// The lines of a calculation with a key block. The key protects blocks; the input is a block, or the

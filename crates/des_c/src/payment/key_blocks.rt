@@ -18,7 +18,9 @@ use des_context::status::{
     ERR_PROTECTION_KEY_LENGTH, ERR_VERSION, OK,
 };
 use des_key_blocks::key_block_error::KeyBlockError;
-use des_key_blocks::key_block_header::{Algorithm, Exportability, Header, ModeOfUse, Usage, Version};
+use des_key_blocks::key_block_header::{
+    Algorithm, Exportability, Header, ModeOfUse, Usage, Version,
+};
 use des_key_blocks::key_blocks::{header, key_context, placed_optional_block, unwrap, wrap};
 use des_key_blocks::optional_blocks::{MOST_BLOCKS, OptionalBlock, read_optional_blocks};
 

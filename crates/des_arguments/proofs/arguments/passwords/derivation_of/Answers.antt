@@ -1,6 +1,6 @@
 use Rattle.std.proofs.Common.{rules, ◌≢◌, codes}
-use Rattle.des_commands.proofs.DerivationTexts.{some-counted, none-counted}
-use Rattle.des_commands.proofs.arguments.passwords.derivation_of.Goals as goal
+use Rattle.des_arguments.proofs.DerivationTexts.{some-counted, none-counted}
+use Rattle.des_arguments.proofs.arguments.passwords.derivation_of.Goals as goal
 
 -- a text with a count
 pub returns-in_default-clause-named : goal.returns-in_default-clause-named

@@ -8,23 +8,23 @@ use Rattle.des_lines.specs.declared.fault.FaultKind.{FaultKind}
 use Rattle.des_lines.specs.declared.fault.FaultKind.TheVariants.{Usage, Vector as WrongVector}
 use Rattle.des_lines.specs.declared.source.Source.{Source}
 use Rattle.des_lines.specs.declared.source.Source.TheVariants.{StandardInput, File}
-use Rattle.des_commands.specs.declared.command.streams.Cipher.{Cipher}
-use Rattle.des_commands.specs.declared.command.streams.Cipher.TheVariants.{Des, TdesEde2, TdesEde3}
-use Rattle.des_commands.specs.declared.command.streams.Vector.{Vector}
-use Rattle.des_commands.specs.declared.command.streams.Vector.TheVariants.{Bytes, Random, FirstBlock, OfPassword}
-use Rattle.des_commands.specs.declared.command.streams.CipherMode.{CipherMode}
-use Rattle.des_commands.specs.declared.command.streams.CipherMode.TheVariants.{Ecb, Cbc, Stream}
-use Rattle.des_commands.specs.declared.command.streams.StreamMode.TheVariants.{Cfb, Cfb8, Ofb, Ctr}
-use Rattle.des_commands.specs.declared.command.streams.Secret.{Secret}
-use Rattle.des_commands.specs.declared.command.streams.Secret.TheVariants.{Key, Password}
-use Rattle.des_commands.specs.declared.command.streams.BlockRange.{BlockRange}
-use Rattle.des_commands.specs.declared.command.streams.WeakKeys.{WeakKeys}
-use Rattle.des_commands.specs.declared.command.streams.WeakKeys.TheVariants.{Refuse, Warn, Accept}
-use Rattle.des_commands.specs.declared.command.streams.Output.{Output}
-use Rattle.des_commands.specs.declared.command.streams.Output.TheVariants.{Unnamed, StandardOutput, File as OutputFile}
-use Rattle.des_commands.specs.declared.command.streams.StreamRequest.{StreamRequest}
-use Rattle.des_commands.specs.declared.arguments.streams.StreamWords.{StreamWords}
-use Rattle.des_commands.specs.StreamRequests.{source_of, takes_vector, is_stream, takes_part}
+use Rattle.des_arguments.specs.declared.command.streams.Cipher.{Cipher}
+use Rattle.des_arguments.specs.declared.command.streams.Cipher.TheVariants.{Des, TdesEde2, TdesEde3}
+use Rattle.des_arguments.specs.declared.command.streams.Vector.{Vector}
+use Rattle.des_arguments.specs.declared.command.streams.Vector.TheVariants.{Bytes, Random, FirstBlock, OfPassword}
+use Rattle.des_arguments.specs.declared.command.streams.CipherMode.{CipherMode}
+use Rattle.des_arguments.specs.declared.command.streams.CipherMode.TheVariants.{Ecb, Cbc, Stream}
+use Rattle.des_arguments.specs.declared.command.streams.StreamMode.TheVariants.{Cfb, Cfb8, Ofb, Ctr}
+use Rattle.des_arguments.specs.declared.command.streams.Secret.{Secret}
+use Rattle.des_arguments.specs.declared.command.streams.Secret.TheVariants.{Key, Password}
+use Rattle.des_arguments.specs.declared.command.streams.BlockRange.{BlockRange}
+use Rattle.des_arguments.specs.declared.command.streams.WeakKeys.{WeakKeys}
+use Rattle.des_arguments.specs.declared.command.streams.WeakKeys.TheVariants.{Refuse, Warn, Accept}
+use Rattle.des_arguments.specs.declared.command.streams.Output.{Output}
+use Rattle.des_arguments.specs.declared.command.streams.Output.TheVariants.{Unnamed, StandardOutput, File as OutputFile}
+use Rattle.des_arguments.specs.declared.command.streams.StreamRequest.{StreamRequest}
+use Rattle.des_arguments.specs.declared.arguments.streams.StreamWords.{StreamWords}
+use Rattle.des_arguments.specs.StreamRequests.{source_of, takes_vector, is_stream, takes_part}
 use Rattle.des_lines.specs.Texts.{bytes_of, digits_fault}
 
 -- ---- words

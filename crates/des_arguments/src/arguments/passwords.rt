@@ -2,7 +2,7 @@
 
 ghost use Rattle.std.specs.Prelude.{◌≡◌, ℕ, IfSome, IfNone};
 ghost use Rattle.des_passwords.specs.declared.derivation.Derivation.{Derivation as DerivationOf};
-ghost use Rattle.des_commands.specs.PasswordArguments.{IsCount, IsCountedText, IsDerivationText, count_of as count_by, is_to_encrypt as is_to_encrypt_of, derivation_fault};
+ghost use Rattle.des_arguments.specs.PasswordArguments.{IsCount, IsCountedText, IsDerivationText, count_of as count_by, is_to_encrypt as is_to_encrypt_of, derivation_fault};
 ghost use Rattle.des_lines.specs.Faults.{FailsOnlyBy};
 
 use super::argument_values::{is_given, is_set, text_of};

@@ -1,22 +1,18 @@
 -- What the words of `decrypt-lines` ask for.
-use Rattle.std.specs.Prelude.{◌≡◌, ◌≢◌, ◌⊎◌, ◌≤◌, ◌<◌, ℕ, false, true, List, [], codes, Option, Some, None, unwrap_or, Err}
-use Rattle.hex.specs.Hex.{decode_of}
-use Rattle.hex.specs.declared.error.FromHexError.{FromHexError}
-use Rattle.des_lines.specs.SourceNames.{name_of_source}
+use Rattle.std.specs.Prelude.{◌≡◌, ◌≢◌, ◌⊎◌, ◌≤◌, ◌<◌, ℕ, false, true, List, [], codes, Option, Some, None, unwrap_or}
 use Rattle.des_lines.specs.declared.fault.FaultKind.{FaultKind}
-use Rattle.des_lines.specs.declared.fault.FaultKind.TheVariants.{KeyText, Memory, Usage}
+use Rattle.des_lines.specs.declared.fault.FaultKind.TheVariants.{Usage}
 use Rattle.des_lines.specs.declared.fault.Misuse.TheVariants.{Arguments, ArgumentValue, PasswordSource, StandardInputTwice}
 use Rattle.des_lines.specs.declared.source.Source.{Source}
 use Rattle.des_columns.specs.Pbe.{algorithm_of}
 use Rattle.des_columns.specs.declared.pbe.Algorithm.{Algorithm}
 use Rattle.des_columns.specs.PgcryptoColumns.{scheme_of}
-use Rattle.des_commands.specs.declared.arguments.lines.LineWords.{LineWords}
-use Rattle.des_commands.specs.declared.command.lines.LinesRequest.{LinesRequest}
-use Rattle.des_commands.specs.declared.command.lines.ValueFormat.{ValueFormat}
-use Rattle.des_commands.specs.declared.command.lines.ValueFormat.TheVariants.{Mysql, Pgcrypto, Jasypt}
-use Rattle.des_commands.specs.declared.lines.LinesJob.{LinesJob}
-use Rattle.des_commands.specs.LineFormats.{coding_of, source_of, takes_secret}
-use Rattle.des_commands.specs.StreamArguments.{IsInput, IsOutput, IsReadTwice, text_or}
+use Rattle.des_arguments.specs.declared.arguments.lines.LineWords.{LineWords}
+use Rattle.des_arguments.specs.declared.command.lines.LinesRequest.{LinesRequest}
+use Rattle.des_arguments.specs.declared.command.lines.ValueFormat.{ValueFormat}
+use Rattle.des_arguments.specs.declared.command.lines.ValueFormat.TheVariants.{Mysql, Pgcrypto, Jasypt}
+use Rattle.des_arguments.specs.LineFormats.{coding_of, source_of, takes_secret}
+use Rattle.des_arguments.specs.StreamArguments.{IsInput, IsOutput, IsReadTwice, text_or}
 
 -- ---- words
 
@@ -66,13 +62,6 @@ FailsAsFormat words =
 abbrev pub IsOfOption : FaultKind → Type 0
 IsOfOption kind = (kind ≡ Usage Arguments) ⊎ (kind ≡ Usage ArgumentValue)
 
--- ---- digits
-
--- digits are no bytes, or memory was refused
-abbrev pub FailsAsDigits : List ℕ → FaultKind → Type 0
-FailsAsDigits digits kind =
-    (kind ≡ Memory) ⊎ ((kind ≡ KeyText) × ((error : FromHexError) × (decode_of digits ≡ Err error)))
-
 -- ---- the whole
 
 -- each word has its meaning in the request, the format takes the secret, and standard input is read once
@@ -96,10 +85,3 @@ FailsAsLinesRequest words kind =
     × (kind ≡ Usage PasswordSource))
     ⊎ ((input : Source) × IsInput words.input input × IsReadTwice (source_of words.secret) input
     × (kind ≡ Usage StandardInputTwice))
-
--- what is done with the lines of a request
-pub record IsJobOfLines (request : LinesRequest) (job : LinesJob) : Type 0 where
-  pub coding : job.coding ≡ request.coding
-  pub digits : job.writes_digits ≡ request.writes_digits
-  pub keeps_going : job.keeps_going ≡ request.keeps_going
-  pub name : job.name.now ≡ name_of_source request.input

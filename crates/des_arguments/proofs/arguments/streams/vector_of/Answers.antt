@@ -3,7 +3,7 @@ use Rattle.std.specs.Result.{result_err}
 use Rattle.std.proofs.lemmas.Result.{err_from_is_err_and}
 use Rattle.des_lines.specs.declared.fault.FaultKind.TheVariants.{Vector as WrongVector}
 use Rattle.des_lines.specs.Texts.{digits_fault}
-use Rattle.des_commands.proofs.arguments.streams.vector_of.Goals as goal
+use Rattle.des_arguments.proofs.arguments.streams.vector_of.Goals as goal
 
 -- the text is neither word, and its digits are at fault
 pub returns-in_err-iv-in_default-clause-fault : goal.returns-in_err-iv-in_default-clause-fault

@@ -2,9 +2,8 @@
 
 ghost use Rattle.std.specs.Prelude.{◌≡◌};
 ghost use Rattle.des_lines.specs.Keys.{IsKeySize};
-ghost use Rattle.des_commands.specs.StreamRequests.{blocks_before as blocks_before_of, source_of, begin_of as begin_by, heading_of as heading_by, vectors_of as vectors_by, IsJobOf};
-ghost use Rattle.des_commands.specs.StreamRequests.{takes_vector as takes_vector_by, is_stream as is_stream_by, takes_part as takes_part_by};
-ghost use Rattle.des_commands.specs.Jobs.{key_size_of};
+ghost use Rattle.des_arguments.specs.StreamRequests.{key_size_of, blocks_before as blocks_before_of, source_of, begin_of as begin_by, heading_of as heading_by, vectors_of as vectors_by, IsJobOf};
+ghost use Rattle.des_arguments.specs.StreamRequests.{takes_vector as takes_vector_by, is_stream as is_stream_by, takes_part as takes_part_by};
 
 use des_io::{Mode, Padding};
 use des_lines::source::Source;

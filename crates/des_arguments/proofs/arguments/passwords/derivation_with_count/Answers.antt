@@ -1,5 +1,5 @@
-use Rattle.des_commands.proofs.DerivationTexts.{none-neither}
-use Rattle.des_commands.proofs.arguments.passwords.derivation_with_count.Goals as goal
+use Rattle.des_arguments.proofs.DerivationTexts.{none-neither}
+use Rattle.des_arguments.proofs.arguments.passwords.derivation_with_count.Goals as goal
 
 -- neither word begins the text
 pub returns-in_err-count-in-None-clause-none : goal.returns-in_err-count-in-None-clause-none

@@ -5,9 +5,9 @@ use super::misuse::misuse;
 use super::requests::{Requested, by_input, by_key, with_key};
 use super::sources::{input_at, one_of};
 use clap::ArgMatches;
+use des_key_blocks::key_block_header::Version;
 use des_lines::fault::Misuse;
 use des_lines::requests::{Calculation, CalculationRequest, KeyBlockCalculation, Wrapping};
-use des_key_blocks::key_block_header::Version;
 
 // The request with the key that protects blocks.
 fn protected<'a>(request: CalculationRequest<'a>, matches: &ArgMatches<'a>) -> Requested<'a> {

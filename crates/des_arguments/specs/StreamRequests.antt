@@ -4,23 +4,31 @@ use Rattle.std.specs.Prelude.{◌≡◌, ℕ, ◌+◌, ◌-◌, ◌^◌, min, Bo
 use Rattle.des_io.specs.declared.mode.Mode.{Mode}
 use Rattle.des_io.specs.declared.mode.Mode.TheVariants.{Ecb, Cbc}
 use Rattle.des_lines.specs.declared.source.Source.{Source}
-use Rattle.des_commands.specs.declared.command.streams.CipherMode.{CipherMode}
-use Rattle.des_commands.specs.declared.command.streams.CipherMode.TheVariants.{Ecb as InEcb, Stream}
-use Rattle.des_commands.specs.declared.command.streams.StreamMode.TheVariants.{Ofb}
-use Rattle.des_commands.specs.declared.command.streams.Vector.{Vector}
-use Rattle.des_commands.specs.declared.command.streams.Vector.TheVariants.{Bytes, Random, FirstBlock}
-use Rattle.des_commands.specs.declared.command.streams.BlockRange.{BlockRange}
-use Rattle.des_commands.specs.declared.command.streams.Secret.{Secret}
-use Rattle.des_commands.specs.declared.command.streams.Secret.TheVariants.{Key, Password}
-use Rattle.des_commands.specs.declared.command.streams.StreamRequest.{StreamRequest}
-use Rattle.des_commands.specs.declared.command.streams.Job.{Job}
-use Rattle.des_commands.specs.declared.command.streams.Work.{Work}
-use Rattle.des_commands.specs.declared.command.streams.Work.TheVariants.{Encrypt, Decrypt}
+use Rattle.des_arguments.specs.declared.command.streams.Cipher.{Cipher}
+use Rattle.des_arguments.specs.declared.command.streams.Cipher.TheVariants.{Des, TdesEde2, TdesEde3}
+use Rattle.des_arguments.specs.declared.command.streams.CipherMode.{CipherMode}
+use Rattle.des_arguments.specs.declared.command.streams.CipherMode.TheVariants.{Ecb as InEcb, Stream}
+use Rattle.des_arguments.specs.declared.command.streams.StreamMode.TheVariants.{Ofb}
+use Rattle.des_arguments.specs.declared.command.streams.Vector.{Vector}
+use Rattle.des_arguments.specs.declared.command.streams.Vector.TheVariants.{Bytes, Random, FirstBlock}
+use Rattle.des_arguments.specs.declared.command.streams.BlockRange.{BlockRange}
+use Rattle.des_arguments.specs.declared.command.streams.Secret.{Secret}
+use Rattle.des_arguments.specs.declared.command.streams.Secret.TheVariants.{Key, Password}
+use Rattle.des_arguments.specs.declared.command.streams.StreamRequest.{StreamRequest}
+use Rattle.des_arguments.specs.declared.command.streams.Job.{Job}
+use Rattle.des_arguments.specs.declared.command.streams.Work.{Work}
+use Rattle.des_arguments.specs.declared.command.streams.Work.TheVariants.{Encrypt, Decrypt}
 
 -- where the key or the password is
 abbrev pub source_of : Secret → Source
 source_of (Key source) = source
 source_of (Password source by) = source
+
+-- the bytes of a key
+abbrev pub key_size_of : Cipher → ℕ
+key_size_of Des = 8
+key_size_of TdesEde2 = 16
+key_size_of TdesEde3 = 24
 
 -- all modes but ECB take a vector; those of stream ciphers take no padding; and in all but output feedback a part can be
 -- decrypted alone

@@ -14,10 +14,9 @@ mod table;
 
 ghost use Rattle.std.specs.Prelude.{ℕ, List, Option, IfOk};
 ghost use Rattle.clap.specs.Matches.{subcommand_name_of};
-ghost use Rattle.des_commands.specs.CommandArguments.{HasDirectionOf};
+ghost use Rattle.des_arguments.specs.CommandArguments.{HasDirectionOf};
 
-use crate::command::{Command, MacRequest, Question};
-use crate::mac::{Method, PaddingMethod};
+use crate::command::{Command, MacRequest, Method, PaddingMethod, Question};
 use argument_values::{count_of, is_set, place_of, text_of, texts_of};
 use clap::ArgMatches;
 use des_lines::fault::{Fault, Misuse};

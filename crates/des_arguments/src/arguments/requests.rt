@@ -3,7 +3,7 @@
 ghost use Rattle.std.specs.Prelude.{◌≡◌, ◌<◌, ◌≤◌, length, filter, IfOk, IfErr};
 ghost use Rattle.des_lines.specs.declared.fault.FaultKind.TheVariants.{Usage};
 ghost use Rattle.des_lines.specs.declared.fault.Misuse.TheVariants.{StandardInputTwice};
-ghost use Rattle.des_commands.specs.CommandArguments.{is_standard_input as is_standard_input_of, source_of as source_of_account, standard_inputs};
+ghost use Rattle.des_arguments.specs.CommandArguments.{is_standard_input as is_standard_input_of, source_of as source_of_account, standard_inputs};
 
 use super::argument_values::text_of;
 use super::misuse::misuse;

@@ -2,7 +2,7 @@
 use Rattle.std.proofs.Common.{◌≢◌, ℕ, List, ◌++◌, codes, Option, Some, None, IfSome, IfNone}
 use Rattle.des_passwords.specs.declared.derivation.Derivation.{Derivation}
 use Rattle.des_passwords.specs.declared.derivation.Derivation.TheVariants.{Md5, Sha1, Sha256, Pbkdf2Sha1, Pbkdf2Sha256}
-use Rattle.des_commands.specs.PasswordArguments.{IsCountedText, IsDerivationText}
+use Rattle.des_arguments.specs.PasswordArguments.{IsCountedText, IsDerivationText}
 
 -- a derivation with a count is one
 pub text-counted : (text : List ℕ) (derivation : Derivation) → IsCountedText text derivation

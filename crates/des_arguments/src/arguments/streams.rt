@@ -2,14 +2,14 @@
 
 ghost use Rattle.std.specs.Prelude.{◌≡◌, ◌≢◌, codes, IfSome, IfNone, IfOk, IfErr};
 ghost use Rattle.des_io.specs.declared.padding.Padding.{Padding as PaddingOf};
-ghost use Rattle.des_commands.specs.declared.command.streams.Cipher.{Cipher as CipherOf};
-ghost use Rattle.des_commands.specs.declared.command.streams.CipherMode.{CipherMode as CipherModeOf};
-ghost use Rattle.des_commands.specs.declared.command.streams.WeakKeys.{WeakKeys as WeakKeysOf};
+ghost use Rattle.des_arguments.specs.declared.command.streams.Cipher.{Cipher as CipherOf};
+ghost use Rattle.des_arguments.specs.declared.command.streams.CipherMode.{CipherMode as CipherModeOf};
+ghost use Rattle.des_arguments.specs.declared.command.streams.WeakKeys.{WeakKeys as WeakKeysOf};
 ghost use Rattle.des_lines.specs.declared.fault.FaultKind.TheVariants.{Usage};
 ghost use Rattle.des_lines.specs.declared.fault.Misuse.TheVariants.{Arguments};
-ghost use Rattle.des_commands.specs.StreamArguments.{cipher_name, padding_word, weak_keys_word, default_weak_keys, text_or, part_for};
-ghost use Rattle.des_commands.specs.StreamArguments.{IsVector, FailsAsVector, IsVectorFor, FailsAsVectorFor};
-ghost use Rattle.des_commands.specs.StreamArguments.{IsRequest, FailsAsRequest};
+ghost use Rattle.des_arguments.specs.StreamArguments.{cipher_name, padding_word, weak_keys_word, default_weak_keys, text_or, part_for};
+ghost use Rattle.des_arguments.specs.StreamArguments.{IsVector, FailsAsVector, IsVectorFor, FailsAsVectorFor};
+ghost use Rattle.des_arguments.specs.StreamArguments.{IsRequest, FailsAsRequest};
 
 use super::argument_values::{is_set, number_of, place_of, text_of};
 use super::misuse::{misuse, refuse};

@@ -3,7 +3,6 @@
 pub mod lines;
 pub mod streams;
 
-use crate::mac::Method;
 use des_lines::requests::CalculationRequest;
 use des_lines::source::Source;
 use lines::LinesRequest;
@@ -44,6 +43,26 @@ pub struct PrivateKeyRequest<'a> {
     pub form: KeyForm,
     /// More iterations are a fault.
     pub most_iterations: u32,
+}
+
+/// The padding of a message (ISO/IEC 9797-1:2011, 6.3).
+#[derive(Clone, Copy)]
+pub enum PaddingMethod {
+    /// As few zeros as make whole blocks.
+    One,
+    /// A one bit, then as few zeros as make whole blocks.
+    Two,
+}
+
+/// A method of authentication.
+#[derive(Clone, Copy)]
+pub enum Method {
+    /// MAC algorithm 1 of ISO/IEC 9797-1:2011, over DES or triple DES.
+    CbcMac(PaddingMethod),
+    /// MAC algorithm 3 of ISO/IEC 9797-1:2011, over DES, by a key of two parts.
+    Retail(PaddingMethod),
+    /// CMAC (NIST SP 800-38B), over DES or triple DES.
+    Cmac,
 }
 
 /// A message, and what is asked of its tag.

@@ -1,10 +1,9 @@
 //! What a command line asks of values in lines.
 
 ghost use Rattle.std.specs.Prelude.{◌≡◌};
-ghost use Rattle.des_commands.specs.LineFormats.{source_of};
+ghost use Rattle.des_arguments.specs.LineFormats.{source_of};
 
 use super::streams::Output;
-use crate::lines::line_kind::LineCoding;
 use des_columns::pbe::Algorithm;
 use des_columns::pgcrypto::Scheme;
 use des_lines::source::Source;
@@ -18,6 +17,16 @@ pub enum ValueFormat<'a> {
     Pgcrypto(Scheme, &'a str),
     /// Jasypt, by an algorithm and a number of iterations.
     Jasypt(Algorithm, u32),
+}
+
+/// How a value stands in its line.
+#[derive(Clone, Copy)]
+pub enum LineCoding {
+    /// As hexadecimal digits of either case, also behind `\x`, `\\x` or `0x`.
+    Hexadecimal,
+    Base64,
+    /// As it is.
+    Bytes,
 }
 
 /// What gives the key, and where it is.

@@ -3,8 +3,8 @@
 ghost use Rattle.std.specs.Prelude.{◌≡◌, Some, IfOk, IfErr};
 ghost use Rattle.des_lines.specs.declared.fault.FaultKind.TheVariants.{Usage};
 ghost use Rattle.des_lines.specs.declared.fault.Misuse.TheVariants.{StandardInputTwice};
-ghost use Rattle.des_commands.specs.StreamArguments.{IsInput, IsOutput, IsReadTwice};
-ghost use Rattle.des_commands.specs.CommandArguments.{is_standard_input as is_standard_input_of};
+ghost use Rattle.des_arguments.specs.StreamArguments.{IsInput, IsOutput, IsReadTwice};
+ghost use Rattle.des_arguments.specs.CommandArguments.{is_standard_input as is_standard_input_of};
 
 use super::argument_values::{is_given, number_of, text_of};
 use super::misuse::misuse;

@@ -3,15 +3,14 @@
 ghost use Rattle.std.specs.Prelude.{◌≡◌, ◌⊎◌, ◌≤◌, ◌<◌, false, true, IfOk, IfErr};
 ghost use Rattle.des_lines.specs.declared.fault.FaultKind.TheVariants.{Usage};
 ghost use Rattle.des_lines.specs.declared.fault.Misuse.TheVariants.{Arguments, ArgumentValue};
-ghost use Rattle.des_commands.specs.LineArguments.{algorithm_by, iterations_by, FailsAsFormat, FailsAsJasypt, FailsAsLinesRequest, FailsAsOther, IsFormat, IsJasypt, IsLinesRequest, IsOfOption, IsOther};
-ghost use Rattle.des_commands.specs.LineFormats.{coding_of as coding_by, takes_secret as takes_secret_of};
+ghost use Rattle.des_arguments.specs.LineArguments.{algorithm_by, iterations_by, FailsAsFormat, FailsAsJasypt, FailsAsLinesRequest, FailsAsOther, IsFormat, IsJasypt, IsLinesRequest, IsOfOption, IsOther};
+ghost use Rattle.des_arguments.specs.LineFormats.{coding_of as coding_by, takes_secret as takes_secret_of};
 
 use super::argument_values::{is_set, number_of, place_of, text_of};
 use super::misuse::{misuse, refuse};
 use super::passwords::PASSWORD;
 use super::sources::{KEY, file_of, input_of, names_one, one_of, output_of, read_once};
-use crate::command::lines::{LineSecret, LinesRequest, ValueFormat};
-use crate::lines::line_kind::LineCoding;
+use crate::command::lines::{LineCoding, LineSecret, LinesRequest, ValueFormat};
 use clap::ArgMatches;
 use des_columns::pbe::Algorithm;
 use des_columns::pgcrypto::Scheme;
