@@ -1,5 +1,5 @@
 -- What the words of `decrypt-lines` ask for.
-use Rattle.std.specs.Prelude.{◌≡◌, ◌≢◌, ◌⊎◌, ◌≤◌, ◌<◌, ℕ, false, true, List, [], codes, Option, Some, None, unwrap_or}
+use Rattle.std.specs.Prelude.{◌≡◌, ◌≢◌, ◌⊎◌, ◌≤◌, ◌<◌, ℕ, false, true, [], codes, Option, Some, None, unwrap_or}
 use Rattle.des_lines.specs.declared.fault.FaultKind.{FaultKind}
 use Rattle.des_lines.specs.declared.fault.FaultKind.TheVariants.{Usage}
 use Rattle.des_lines.specs.declared.fault.Misuse.TheVariants.{Arguments, ArgumentValue, PasswordSource, StandardInputTwice}
