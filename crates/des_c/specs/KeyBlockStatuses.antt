@@ -1,8 +1,8 @@
 -- The statuses of the faults of key blocks.
 use Rattle.std.specs.Prelude.{ℤ}
 use Rattle.des_context.specs.declared.status.TheConstants
-use Rattle.des_payment.specs.declared.key_block_error.KeyBlockError.{KeyBlockError}
-use Rattle.des_payment.specs.declared.key_block_error.KeyBlockError.TheVariants
+use Rattle.des_key_blocks.specs.declared.key_block_error.KeyBlockError.{KeyBlockError}
+use Rattle.des_key_blocks.specs.declared.key_block_error.KeyBlockError.TheVariants
 
 abbrev pub status_of : KeyBlockError → ℤ
 status_of TheVariants.ProtectionKeyLength = TheConstants.ERR_PROTECTION_KEY_LENGTH

@@ -1,13 +1,13 @@
 -- The fields of a key block's header as C has them.
 use Rattle.std.specs.Prelude.{◌≡◌, ℕ, ◌≤◌, ◌==◌, ◌||◌, Bool, not, if◌then◌else◌, List, [], ◌∷◌, ◌++◌, length, map}
 use Rattle.std.specs.Prelude.{take, drop, Option, Some, None}
-use Rattle.des_payment.specs.KeyBlockHeaders.{version_text, usage_text, algorithm_text, mode_text, exportability_text}
-use Rattle.des_payment.specs.KeyBlocks.{key_data, front_text, size_of_block, HoldsKey, IsKeyBlock, IsSealed}
-use Rattle.des_payment.specs.OptionalBlocks.{AreOptionalBlocks, filled}
-use Rattle.des_payment.specs.declared.key_block_error.KeyBlockError.{KeyBlockError}
-use Rattle.des_payment.specs.declared.key_block_error.KeyBlockError.TheVariants
-use Rattle.des_payment.specs.declared.key_block_header.Header.{Header}
-use Rattle.des_payment.specs.declared.optional_blocks.OptionalBlock.{OptionalBlock}
+use Rattle.des_key_blocks.specs.KeyBlockHeaders.{version_text, usage_text, algorithm_text, mode_text, exportability_text}
+use Rattle.des_key_blocks.specs.KeyBlocks.{key_data, front_text, size_of_block, HoldsKey, IsKeyBlock, IsSealed}
+use Rattle.des_key_blocks.specs.OptionalBlocks.{AreOptionalBlocks, filled}
+use Rattle.des_key_blocks.specs.declared.key_block_error.KeyBlockError.{KeyBlockError}
+use Rattle.des_key_blocks.specs.declared.key_block_error.KeyBlockError.TheVariants
+use Rattle.des_key_blocks.specs.declared.key_block_header.Header.{Header}
+use Rattle.des_key_blocks.specs.declared.optional_blocks.OptionalBlock.{OptionalBlock}
 use Rattle.des_c.specs.Texts.{with_zeros}
 use Rattle.des_c.specs.declared.payment.key_blocks.HeaderText.{HeaderText}
 

@@ -1,4 +1,3 @@
-pub mod DerivationTexts
 pub mod ObjectIdentifiers
 pub mod TagsOfDigits
 pub mod StreamStates

@@ -16,25 +16,19 @@ use Rattle.des_io.specs.StreamCiphers.{Applies}
 use Rattle.des_io.specs.declared.mode.Mode.{Mode}
 use Rattle.des_io.specs.declared.mode.Mode.TheVariants.{Ecb, Cbc}
 use Rattle.des_io.specs.declared.padding.Padding.{Padding}
-use Rattle.des_commands.specs.declared.command.streams.Cipher.{Cipher}
-use Rattle.des_commands.specs.declared.command.streams.Cipher.TheVariants.{Des, TdesEde2, TdesEde3}
-use Rattle.des_commands.specs.declared.command.streams.CipherMode.{CipherMode}
-use Rattle.des_commands.specs.declared.command.streams.CipherMode.TheVariants.{Stream}
-use Rattle.des_commands.specs.declared.command.streams.StreamMode.{StreamMode}
-use Rattle.des_commands.specs.declared.command.streams.StreamMode.TheVariants.{Cfb, Cfb8, Ofb, Ctr}
-use Rattle.des_commands.specs.declared.command.streams.BlockRange.{BlockRange}
-use Rattle.des_commands.specs.declared.command.streams.Job.{Job}
-use Rattle.des_commands.specs.declared.command.streams.Work.{Work}
-use Rattle.des_commands.specs.declared.command.streams.Work.TheVariants.{Encrypt, Decrypt}
-use Rattle.des_commands.specs.StreamRequests.{from_of}
+use Rattle.des_arguments.specs.declared.command.streams.Cipher.{Cipher}
+use Rattle.des_arguments.specs.declared.command.streams.Cipher.TheVariants.{Des, TdesEde2, TdesEde3}
+use Rattle.des_arguments.specs.declared.command.streams.CipherMode.{CipherMode}
+use Rattle.des_arguments.specs.declared.command.streams.CipherMode.TheVariants.{Stream}
+use Rattle.des_arguments.specs.declared.command.streams.StreamMode.{StreamMode}
+use Rattle.des_arguments.specs.declared.command.streams.StreamMode.TheVariants.{Cfb, Cfb8, Ofb, Ctr}
+use Rattle.des_arguments.specs.declared.command.streams.BlockRange.{BlockRange}
+use Rattle.des_arguments.specs.declared.command.streams.Job.{Job}
+use Rattle.des_arguments.specs.declared.command.streams.Work.{Work}
+use Rattle.des_arguments.specs.declared.command.streams.Work.TheVariants.{Encrypt, Decrypt}
+use Rattle.des_arguments.specs.StreamRequests.{from_of, key_size_of}
 
 -- ---- ciphers
-
--- the bytes of a key
-abbrev pub key_size_of : Cipher → ℕ
-key_size_of Des = 8
-key_size_of TdesEde2 = 16
-key_size_of TdesEde3 = 24
 
 -- what a key makes of a block, under the cipher of a name; the graph of each is the relation of its
 -- standard (FIPS 46-3)

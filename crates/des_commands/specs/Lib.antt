@@ -5,10 +5,6 @@ pub mod Inodes
 pub mod Notices
 pub mod Jobs
 pub mod JobFaults
-pub mod StreamRequests
-pub mod StreamArguments
-pub mod CommandArguments
-pub mod PasswordArguments
 pub mod PasswordStreams
 pub mod PrivateKeys
 pub mod DecryptedKeys
@@ -17,5 +13,4 @@ pub mod LineColumns
 pub mod LineFaults
 pub mod LineKinds
 pub mod LineRuns
-pub mod LineFormats
-pub mod LineArguments
+pub mod LineJobs

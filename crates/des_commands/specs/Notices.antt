@@ -9,8 +9,8 @@ use Rattle.des_lines.specs.declared.keys.Verdict.{Verdict}
 use Rattle.des_lines.specs.declared.keys.Verdict.TheVariants.{DoubleLength as TwoParts, Weak}
 use Rattle.des_commands.specs.declared.outputs.notices.Notice.{Notice}
 use Rattle.des_commands.specs.declared.outputs.notices.Notice.TheVariants.{Hexadecimal, WeakKey, DoubleLength, Limit, Permissions}
-use Rattle.des_commands.specs.declared.command.streams.WeakKeys.{WeakKeys}
-use Rattle.des_commands.specs.declared.command.streams.WeakKeys.TheVariants.{Refuse, Warn}
+use Rattle.des_arguments.specs.declared.command.streams.WeakKeys.{WeakKeys}
+use Rattle.des_arguments.specs.declared.command.streams.WeakKeys.TheVariants.{Refuse, Warn}
 use Rattle.des_lines.specs.Faults.{line_with}
 use Rattle.des_lines.specs.Keys.{IsVerdict}
 use Rattle.des_lines.specs.Written.{AppendsPrefix}

@@ -8,15 +8,15 @@ use Rattle.des_lines.specs.declared.fault.FileFault.TheVariants.{NotSalted, Salt
 use Rattle.des_lines.specs.declared.fault.Reason.{Reason}
 use Rattle.des_lines.specs.declared.fault.FaultKind.{FaultKind}
 use Rattle.des_lines.specs.declared.fault.FaultKind.TheVariants.{Usage, Read, File, EmptyPassword}
-use Rattle.des_commands.specs.declared.command.streams.Job.{Job}
+use Rattle.des_arguments.specs.declared.command.streams.Job.{Job}
 use Rattle.des_commands.specs.declared.streams.passwords.PasswordJob.{PasswordJob}
 use Rattle.des_lines.specs.declared.keys.Verdict.{Verdict}
 use Rattle.des_commands.specs.declared.outputs.notices.Notice.{Notice}
 use Rattle.des_lines.specs.Keys.{IsVerdict}
 use Rattle.des_commands.specs.Notices.{ruling_of, notice_line}
 use Rattle.des_lines.specs.Written.{AppendsPrefix}
-use Rattle.des_commands.specs.Jobs.{key_size_of, IsDone}
-use Rattle.des_commands.specs.StreamRequests.{IsJobOf}
+use Rattle.des_commands.specs.Jobs.{IsDone}
+use Rattle.des_arguments.specs.StreamRequests.{key_size_of, IsJobOf}
 use Rattle.des_commands.specs.JobFaults.{IsUntouched, HasStopped}
 
 -- what encrypts is not empty

@@ -2,8 +2,6 @@
 //! formats. The program itself is one call of `run`.
 #![tactic(auto)]
 
-mod arguments;
-mod command;
 mod descriptors;
 mod inputs;
 mod lines;
@@ -12,6 +10,5 @@ mod outputs;
 mod private_keys;
 mod program;
 mod streams;
-mod usage;
 
 pub use program::run;

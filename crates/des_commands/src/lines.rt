@@ -19,10 +19,11 @@ ghost use Rattle.des_commands.specs.LineKinds.{ReadsLines};
 use crate::inputs::files::read_fault;
 use answers::add_outcome;
 use columns::{LineColumn, Opener, open_column};
+use des_arguments::command::lines::LineCoding;
 use des_io::pieces::write_whole;
 use des_lines::fault::{FaultKind, Reason};
 use line_fault::{LineFault, tell_line};
-use line_kind::{LineCoding, LineKind, add_value};
+use line_kind::{LineKind, add_value};
 use std::alloc::{AllocError, Global};
 use std::io::{BufRead, Write};
 

@@ -3,33 +3,14 @@
 ghost use Rattle.std.specs.Prelude.{◌≡◌, ◌<◌, length, IfOk, IfErr};
 ghost use Rattle.des_commands.specs.Macs.{tag_over, tag_by, IsTagOfAll, FailsToAuthenticate, IsKeyOver, HasKeySize};
 
-use self::PaddingMethod::{One, Two};
 use des::cipher::KeyedCipher;
+use des_arguments::command::Method;
+use des_arguments::command::PaddingMethod::{One, Two};
 use des_fast::{Des, TdesEde2, TdesEde3};
 use des_io::pieces::fill;
 use des_lines::fault::{FaultKind, Reason};
 use des_mac::{CbcMac, Cmac, Mac, Method1, Method2, RetailMac};
 use std::io::Read;
-
-/// The padding of a message (ISO/IEC 9797-1:2011, 6.3).
-#[derive(Clone, Copy)]
-pub enum PaddingMethod {
-    /// As few zeros as make whole blocks.
-    One,
-    /// A one bit, then as few zeros as make whole blocks.
-    Two,
-}
-
-/// A method of authentication.
-#[derive(Clone, Copy)]
-pub enum Method {
-    /// MAC algorithm 1 of ISO/IEC 9797-1:2011, over DES or triple DES.
-    CbcMac(PaddingMethod),
-    /// MAC algorithm 3 of ISO/IEC 9797-1:2011, over DES, by a key of two parts.
-    Retail(PaddingMethod),
-    /// CMAC (NIST SP 800-38B), over DES or triple DES.
-    Cmac,
-}
 
 // The tag of all that a reader has, under a key of the bytes that the type takes.
 fn tag_of_reader<M: Mac + Drop, R: Read>(

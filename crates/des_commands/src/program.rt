@@ -6,12 +6,12 @@ mod mac;
 mod private_keys;
 mod streams;
 
-use crate::arguments::{command_of, parse};
-use crate::command::Command;
 use crate::descriptors::{NULL_DEVICE, occupy_closed};
 use crate::outputs::targets::write_fault;
-use crate::usage::show_usage;
 use calculations::{calculation_status, parts_status};
+use des_arguments::arguments::{command_of, parse};
+use des_arguments::command::Command;
+use des_arguments::usage::show_usage;
 use des_lines::fault::{Fault, FaultKind, Misuse};
 use des_lines::report::tell;
 use des_lines::sentences::English;

@@ -7,13 +7,13 @@ ghost use Rattle.std.specs.Prelude.{◌≡◌, ◌<◌, length, IfOk, IfErr};
 ghost use Rattle.des.specs.Relations.{AgreeOnBlocks};
 ghost use Rattle.des_modes.specs.States.{HasBegun};
 ghost use Rattle.des_io.specs.Streams.{passage_of};
-ghost use Rattle.des_commands.specs.StreamRequests.{from_of};
+ghost use Rattle.des_arguments.specs.StreamRequests.{from_of};
 ghost use Rattle.des_commands.specs.Jobs.{GoesOnFromBlock, IsNamed, DoesPadded, Does, IsDone};
 ghost use Rattle.des_commands.specs.Jobs.{vector_of, bytes_at_most, Begins, DoesStream};
 ghost use Rattle.des_commands.specs.JobFaults.{StopsPadded, StopsStream, Stops, HasStopped};
 
-use crate::command::streams::{BlockRange, Cipher, CipherMode, Job, StreamMode, Work};
 use des::cipher::{KeyBytes, KeyedCipher, are_bytes};
+use des_arguments::command::streams::{BlockRange, Cipher, CipherMode, Job, StreamMode, Work};
 use des_fast::many::ManyBlocks;
 use des_fast::{Des, TdesEde2, TdesEde3};
 use des_io::pieces::write_whole;

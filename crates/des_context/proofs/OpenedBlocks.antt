@@ -4,7 +4,8 @@ use Rattle.std.proofs.Common.{◌≡◌, ◌≢◌, ℕ, ◌+◌, ◌*◌, ◌-�
 use Rattle.std.specs.Prelude.{ℤ}
 use Rattle.std.specs.List.{All}
 use Rattle.std.proofs.lemmas.Grind.{common_steps}
-use Rattle.std.proofs.lemmas.List.Elements.{All-cons, All-from_get_or, All-take}
+use Rattle.std.proofs.lemmas.List.{length-append}
+use Rattle.std.proofs.lemmas.List.Elements.{All-head, All-tail, All-cons, All-from_get_or, All-take}
 use Rattle.des.specs.Blocks.{IsBlock, IsKey}
 use Rattle.des.specs.Cbc.{block_at, block_before, next_vector, CbcUnder}
 use Rattle.des.specs.Relations.{IsTheOne, TakesBlock}
@@ -19,7 +20,6 @@ use Rattle.des_io.specs.Streams.{joined}
 use Rattle.des_io.specs.declared.padding.Padding.TheVariants.{Pkcs7, Unpadded}
 use Rattle.des_io.proofs.EncryptedPieces.{joined-append}
 use Rattle.des_io.proofs.PaddedLists.{length-padded, padded-append, padded-injective}
-use Rattle.des_payment.proofs.JoinedBlocks.{IsEight, length-joined}
 use Rattle.des_context.specs.declared.ciphers.CipherType.{CipherType}
 use Rattle.des_context.specs.declared.ciphers.CipherType.TheVariants.{Des, Ede2, Ede3}
 use Rattle.des_context.specs.declared.status.TheConstants.{OK}
@@ -43,12 +43,25 @@ HasGraphs-cipher_type Ede3 key is = HasGraphs-Triple true true key is
 
 -- ---- the plaintext of blocks
 
+abbrev IsEight : List ℕ → Type 0
+IsEight block = length block ≡ 8
+
+length-eights : (blocks : List (List ℕ)) → All IsEight blocks → length (joined blocks) ≡ 8 * length blocks
+length-eights [] eight = refl
+length-eights (block ∷ blocks) eight =
+    omega (
+      arith,
+      length-append block (joined blocks),
+      All-head IsEight block blocks eight,
+      length-eights blocks (All-tail IsEight block blocks eight),
+    )
+
 pub length-plain : {Relates : List ℕ → List ℕ → Type 0} {iv bytes : List ℕ} {q : List (List ℕ)}
     → IsPlainOf Relates iv q bytes → length bytes ≡ 8 * length q
 length-plain (p, chains, is) =
     let eight : All IsEight p = All-from_get_or IsEight p [] (λ k within.
     let next : k + 1 - 1 ≡ k = omega arith in rw next at (chains.widths (k + 1) (omega arith) (omega arith))) in
-    omega (arith, ap length is, length-joined p eight, chains.count)
+    omega (arith, ap length is, length-eights p eight, chains.count)
 
 pub IsPlainOf-append : {Relates : List ℕ → List ℕ → Type 0} {iv bytes other : List ℕ} {q more : List (List ℕ)}
     → IsPlainOf Relates iv q bytes → IsPlainOf Relates (next_vector iv q) more other

@@ -2,9 +2,9 @@
 use Rattle.std.proofs.Common.{◌≡◌, ℕ, List, None, Result, Err, inr}
 use Rattle.std.specs.declared.vec.Vec.{Vec}
 use Rattle.std.specs.declared.alloc.Global.{Global}
-use Rattle.des_payment.specs.KeyBlocks.{HoldsKey}
-use Rattle.des_payment.specs.declared.key_block_header.Header.{Header}
-use Rattle.des_payment.proofs.KeyDataLengths.{key-data-sealed}
+use Rattle.des_key_blocks.specs.KeyBlocks.{HoldsKey}
+use Rattle.des_key_blocks.specs.declared.key_block_header.Header.{Header}
+use Rattle.des_key_blocks.proofs.KeyDataLengths.{key-data-sealed}
 use Rattle.des_lines.specs.declared.fault.FaultKind.{FaultKind}
 use Rattle.des_lines.specs.declared.fault.FaultKind.TheVariants.{Memory}
 use Rattle.des_lines.specs.Texts.{bytes_of}

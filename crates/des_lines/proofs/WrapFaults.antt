@@ -2,7 +2,7 @@
 use Rattle.std.proofs.Common.{◌≡◌, ℕ, None, Result, List}
 use Rattle.std.specs.declared.vec.Vec.{Vec}
 use Rattle.std.specs.declared.alloc.Global.{Global}
-use Rattle.des_payment.specs.declared.key_block_header.Header.{Header}
+use Rattle.des_key_blocks.specs.declared.key_block_header.Header.{Header}
 use Rattle.des_lines.specs.declared.requests.Inputs.{Inputs}
 use Rattle.des_lines.specs.declared.requests.Wrapping.{Wrapping}
 use Rattle.des_lines.specs.declared.fault.FaultKind.{FaultKind}

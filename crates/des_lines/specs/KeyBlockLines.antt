@@ -4,18 +4,18 @@ use Rattle.std.specs.List.{flat_map}
 use Rattle.std.specs.Option.{option_map, option_or}
 use Rattle.std.specs.declared.vec.Vec.{Vec}
 use Rattle.std.specs.declared.alloc.Global.{Global}
-use Rattle.des_payment.specs.KeyBlockHeaders.{version_text, usage_text, algorithm_text, mode_text, exportability_text, context_text, are_alphanumeric}
-use Rattle.des_payment.specs.KeyBlocks.{HasParts, HoldsKey, IsKeyBlock, wrap_fault}
-use Rattle.des_payment.specs.KeyBlockReading.{HasLayoutFault, HasFault, is_sealed_length}
+use Rattle.des_key_blocks.specs.KeyBlockHeaders.{version_text, usage_text, algorithm_text, mode_text, exportability_text, context_text, are_alphanumeric}
+use Rattle.des_key_blocks.specs.KeyBlocks.{HasParts, HoldsKey, IsKeyBlock, wrap_fault}
+use Rattle.des_key_blocks.specs.KeyBlockReading.{HasLayoutFault, HasFault, is_sealed_length}
 use Rattle.des_payment.specs.KeyLengths.{encryption_by}
-use Rattle.des_payment.specs.OptionalBlocks.{AreOptionalBlocks, filled, is_printable}
-use Rattle.des_payment.specs.declared.key_block_header.Header.{Header}
-use Rattle.des_payment.specs.declared.key_block_header.KeyContext.{KeyContext}
-use Rattle.des_payment.specs.declared.key_block_header.KeyContext.TheVariants.{StorageOrExchange}
-use Rattle.des_payment.specs.declared.key_block_header.Algorithm.{Algorithm}
-use Rattle.des_payment.specs.declared.key_block_header.Algorithm.TheVariants.{OtherAlgorithm}
-use Rattle.des_payment.specs.declared.key_block_error.KeyBlockError.{KeyBlockError}
-use Rattle.des_payment.specs.declared.key_block_error.KeyBlockError.TheVariants.{ProtectionKeyLength, OptionalBlock}
+use Rattle.des_key_blocks.specs.OptionalBlocks.{AreOptionalBlocks, filled, is_printable}
+use Rattle.des_key_blocks.specs.declared.key_block_header.Header.{Header}
+use Rattle.des_key_blocks.specs.declared.key_block_header.KeyContext.{KeyContext}
+use Rattle.des_key_blocks.specs.declared.key_block_header.KeyContext.TheVariants.{StorageOrExchange}
+use Rattle.des_key_blocks.specs.declared.key_block_header.Algorithm.{Algorithm}
+use Rattle.des_key_blocks.specs.declared.key_block_header.Algorithm.TheVariants.{OtherAlgorithm}
+use Rattle.des_key_blocks.specs.declared.key_block_error.KeyBlockError.{KeyBlockError}
+use Rattle.des_key_blocks.specs.declared.key_block_error.KeyBlockError.TheVariants.{ProtectionKeyLength, OptionalBlock}
 use Rattle.des_lines.specs.declared.requests.Inputs.{Inputs}
 use Rattle.des_lines.specs.declared.requests.Wrapping.{Wrapping}
 use Rattle.des_lines.specs.declared.requests.KeyBlockCalculation.{KeyBlockCalculation}

@@ -6,8 +6,8 @@ ghost use Rattle.des_lines.specs.declared.fault.FaultKind.TheVariants.{Pin, Cvv,
 
 use des::WeakKeyError;
 use des_io::StreamError;
+use des_key_blocks::key_block_error::{self, KeyBlockError};
 use des_payment::emv_error::{self, EmvError};
-use des_payment::key_block_error::{self, KeyBlockError};
 use des_payment::{
     CvvError, PinError, TranslationError, VerificationError, cvv_error, pin_error,
     translation_error, verification_error,

@@ -15,15 +15,16 @@ use crate::digits::{Lines, hex_line, line_of};
 use crate::fault::{FaultKind, Field};
 use crate::keys::AnyKey;
 use crate::requests::{Inputs, KeyBlockCalculation, RANDOM, Wrapping};
-use des_payment::key_block_error::KeyBlockError;
-use des_payment::key_block_header::{
-    Algorithm, Exportability, Header, KeyContext, MOST_CHARACTERS, Mode, Usage, are_alphanumeric,
+use des_key_blocks::key_block_error::KeyBlockError;
+use des_key_blocks::key_block_header::{
+    Algorithm, Exportability, Header, KeyContext, MOST_CHARACTERS, ModeOfUse, Usage,
+    are_alphanumeric,
 };
-use des_payment::key_blocks::{self, key_context, optional_block, wrap};
-use des_payment::key_check_value;
-use des_payment::optional_blocks::{
+use des_key_blocks::key_blocks::{self, key_context, optional_block, wrap};
+use des_key_blocks::optional_blocks::{
     MOST_BLOCKS, OptionalBlock, is_printable, read_optional_blocks,
 };
+use des_payment::key_check_value;
 use std::alloc::{AllocError, Global};
 
 /// The lines of a calculation with a key block. The key protects blocks; the input is a block, or the
@@ -242,7 +243,7 @@ fn header_of(wrapping: &Wrapping) -> Result<Header, FaultKind>
         version: wrapping.version,
         usage: Usage::of(usage),
         algorithm: Algorithm::of(algorithm),
-        mode: Mode::of(mode),
+        mode: ModeOfUse::of(mode),
         key_version,
         exportability: Exportability::of(exportability),
     })

@@ -7,8 +7,8 @@ ghost use Rattle.des_lines.specs.Names.{is_place, IsSubject};
 use crate::fault::{FaultKind, Field};
 use crate::requests::{Account, Calculation, CalculationRequest, KeyBlockCalculation};
 use crate::source::Source;
+use des_key_blocks::key_block_error::KeyBlockError;
 use des_payment::emv_error::EmvError;
-use des_payment::key_block_error::KeyBlockError;
 use des_payment::{CvvError, PinError, TranslationError, VerificationError};
 
 // ---- what is read

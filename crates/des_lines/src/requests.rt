@@ -1,8 +1,8 @@
 //! What is asked of a calculation, and what is read for it.
 
 use crate::source::Source;
+use des_key_blocks::key_block_header::Version;
 use des_payment::dukpt::MessageDirection;
-use des_payment::key_block_header::Version;
 use des_payment::translation::Format;
 
 /// The bytes of the longest input: a key block, white space among them.

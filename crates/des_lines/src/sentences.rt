@@ -5,8 +5,8 @@ ghost use Rattle.std.specs.Prelude.{ℕ, List, ⊤};
 ghost use Rattle.des_lines.specs.declared.fault.FaultKind.{FaultKind};
 
 use crate::fault::{FaultKind, Field, FileFault, Misuse, Reason};
+use des_key_blocks::key_block_error::KeyBlockError;
 use des_payment::emv_error::EmvError;
-use des_payment::key_block_error::KeyBlockError;
 use des_payment::{CvvError, PinError, TranslationError, VerificationError};
 
 /// The words of a fault.

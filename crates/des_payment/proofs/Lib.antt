@@ -1,6 +1,5 @@
 mod KnownAnswers
 mod KnownCardKeys
-mod KnownKeyBlocks
 pub mod OddBytes
 pub mod TextDigits
 pub mod DigitLists
@@ -30,33 +29,3 @@ pub mod RightmostDigits
 pub mod EvenDigits
 pub mod ModuloTen
 pub mod PvvTexts
-pub mod HexNumbers
-pub mod HexBytes
-pub mod OptionalBlockTexts
-pub mod OptionalBlockLists
-pub mod OptionalBlockSizes
-pub mod PlacedBlocks
-pub mod OptionalBlockWrites
-pub mod OptionalBlockReads
-pub mod KeyParts
-pub mod KeyDataBytes
-pub mod HeaderTexts
-pub mod KeyedCbc
-pub mod VersionForms
-pub mod HexTexts
-pub mod JoinedBlocks
-pub mod TagBlocks
-pub mod CbcOnce
-pub mod SealedOnce
-pub mod BlockParts
-pub mod LayoutFaults
-pub mod NamedHeaders
-pub mod KeyDataLengths
-pub mod SealedKeys
-pub mod ReadKeyBlocks
-pub mod OneBlockTexts
-pub mod BlockPlaces
-pub mod WrittenSeals
-pub mod WrittenTexts
-pub mod FilledBlocks
-pub mod WrittenBlocks

@@ -9,10 +9,3 @@ pub mod CardCryptograms
 pub mod KeyLengths
 pub mod PinVerification
 pub mod Translation
-pub mod Hex
-pub mod KeyBlockFaults
-pub mod KeyBlockHeaders
-pub mod OptionalBlocks
-pub mod ProtectionKeys
-pub mod KeyBlocks
-pub mod KeyBlockReading

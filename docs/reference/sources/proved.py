@@ -5,13 +5,14 @@ import re
 from .rattle import Crate, base, split_impl
 from .text import Refused, first_sentence, listed, table
 
-LIBRARIES = ["des", "des_fast", "des_mac", "des_modes", "des_payment", "des_io", "des_passwords", "des_columns"]
-CRATES = [*LIBRARIES, "des_context", "des_c", "des_lines", "des_commands", "des_tool"]
+LIBRARIES = ["des", "des_fast", "des_mac", "des_modes", "des_payment", "des_key_blocks", "des_io", "des_passwords", "des_columns"]
+CRATES = [*LIBRARIES, "des_context", "des_c", "des_lines", "des_arguments", "des_commands", "des_tool"]
 
 # Crates whose modules no caller names, and what they have instead.
 CLOSED = {
     "des_c": "The exports, which C calls.",
     "des_lines": "The lines of `cukvashe`. `des_commands` alone calls these.",
+    "des_arguments": "What the words of a command line of `cukvashe` ask for. `des_commands` alone calls these.",
     "des_commands": "What `cukvashe` does. Other crates call `run` alone.",
     "des_tool": "What the program `des_tool` does.",
 }

@@ -2,10 +2,10 @@
 
 ghost use Rattle.std.specs.Prelude.{◌≡◌, ◌≢◌, ◌⊎◌, ◌↔◌, ◌≤◌, ◌+◌, ◌-◌, ℕ, List, [], ◌∷◌, Some, None, IfOk, IsTrue, length as length_of, take, drop, slice_get, slice_index};
 ghost use Rattle.std.specs.Result.{result_err};
-ghost use Rattle.des_payment.specs.KeyBlockHeaders.{context_text, version_text};
-ghost use Rattle.des_payment.specs.KeyBlockReading.{HasFault, HasLayout, HasLayoutFault};
-ghost use Rattle.des_payment.specs.KeyBlocks.{wrap_fault, HoldsKey};
-ghost use Rattle.des_payment.specs.OptionalBlocks.{AreOptionalBlocks};
+ghost use Rattle.des_key_blocks.specs.KeyBlockHeaders.{context_text, version_text};
+ghost use Rattle.des_key_blocks.specs.KeyBlockReading.{HasFault, HasLayout, HasLayoutFault};
+ghost use Rattle.des_key_blocks.specs.KeyBlocks.{wrap_fault, HoldsKey};
+ghost use Rattle.des_key_blocks.specs.OptionalBlocks.{AreOptionalBlocks};
 ghost use Rattle.des_c.specs.KeyBlockStatuses.{status_of as status_of_fault};
 ghost use Rattle.des_c.specs.KeyBlockTexts.{shown, version_fault, AreReadable, IsMade, IsTextOf, IsUnwrapped, IsWrapped, IsWrittenTextOf};
 ghost use Rattle.des_c.specs.Statuses.{status_after};
@@ -17,10 +17,12 @@ use des_context::status::{
     ERR_KEY_LENGTH, ERR_NO_OPTIONAL_BLOCK, ERR_OPTIONAL_BLOCK, ERR_PADDING_LENGTH,
     ERR_PROTECTION_KEY_LENGTH, ERR_VERSION, OK,
 };
-use des_payment::key_block_error::KeyBlockError;
-use des_payment::key_block_header::{Algorithm, Exportability, Header, Mode, Usage, Version};
-use des_payment::key_blocks::{header, key_context, placed_optional_block, unwrap, wrap};
-use des_payment::optional_blocks::{MOST_BLOCKS, OptionalBlock, read_optional_blocks};
+use des_key_blocks::key_block_error::KeyBlockError;
+use des_key_blocks::key_block_header::{
+    Algorithm, Exportability, Header, ModeOfUse, Usage, Version,
+};
+use des_key_blocks::key_blocks::{header, key_context, placed_optional_block, unwrap, wrap};
+use des_key_blocks::optional_blocks::{MOST_BLOCKS, OptionalBlock, read_optional_blocks};
 
 fn status_of(fault: KeyBlockError) -> i32
     ensures status { result ≡ status_of_fault fault }
@@ -103,7 +105,7 @@ fn header_of(text: &HeaderText) -> Result<Header, KeyBlockError>
         version: version_of(text)?,
         usage: Usage::of(two_of(&text.usage)),
         algorithm: Algorithm::of(text.algorithm),
-        mode: Mode::of(text.mode),
+        mode: ModeOfUse::of(text.mode),
         key_version: two_of(&text.key_version),
         exportability: Exportability::of(text.exportability),
     })

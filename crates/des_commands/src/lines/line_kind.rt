@@ -13,17 +13,8 @@ ghost use Rattle.des_commands.specs.LineKinds.{null_text, digits_of as digits_be
 use super::line_fault::LineFault;
 use base64::DecodeAllocError;
 use base64::engine::general_purpose::STANDARD;
+use des_arguments::command::lines::LineCoding;
 use std::alloc::AllocError;
-
-/// How a value stands in its line.
-#[derive(Clone, Copy)]
-pub enum LineCoding {
-    /// As hexadecimal digits of either case, also behind `\x`, `\\x` or `0x`.
-    Hexadecimal,
-    Base64,
-    /// As it is.
-    Bytes,
-}
 
 /// How what is no value is written.
 #[derive(Clone, Copy)]

@@ -6,7 +6,7 @@ ghost use Rattle.des_commands.specs.Notices.{notice_line, ruling_of as ruling_by
 ghost use Rattle.des_lines.specs.Written.{AppendsPrefix};
 ghost use Rattle.std.specs.Io.KnownBytes.{Appends};
 
-use crate::command::streams::{StreamRequest, WeakKeys};
+use des_arguments::command::streams::{StreamRequest, WeakKeys};
 use des_io::{Padding, StreamError};
 use des_lines::fault::FaultKind;
 use des_lines::keys::{Verdict, verdict_of};

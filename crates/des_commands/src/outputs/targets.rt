@@ -4,9 +4,9 @@ ghost use Rattle.std.specs.Prelude.{◌≡◌, ◌⊎◌, ◌↔◌};
 ghost use Rattle.std.specs.IoError.{error_kind};
 
 use super::inodes::{has_other_users, inode_of, is_refused_in_sticky};
-use crate::command::streams::Output;
 use crate::descriptors::{Followed, descriptor_state_of, folder_of, follow, has_shared, if_there};
 use crate::inputs::files::system_random;
+use des_arguments::command::streams::Output;
 use des_lines::fault::{Fault, FaultKind, Misuse, Reason};
 use des_lines::source::{Source, shown};
 use std::fs::{self, File, Metadata, OpenOptions, Permissions};

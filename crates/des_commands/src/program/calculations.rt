@@ -2,10 +2,10 @@
 
 ghost use Rattle.std.specs.Prelude.{◌≤◌, length, IfOk};
 
-use crate::arguments::{by_input, file_of};
 use crate::inputs::files::{RANDOM_SOURCE, system_random};
 use crate::inputs::secrets::{key_in, text_in};
 use crate::inputs::sources::{LONGEST_TEXT, bytes_of, text_of};
+use des_arguments::arguments::{by_input, file_of};
 use des_lines::calculations;
 use des_lines::fault::{Fault, FaultKind};
 use des_lines::names::{input_name, key_name, to_key_name};

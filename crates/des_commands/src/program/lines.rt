@@ -2,11 +2,9 @@
 
 ghost use Rattle.std.specs.Prelude.{◌≡◌, IfOk, IfErr, OnErr};
 ghost use Rattle.hex.specs.Hex.{decode_of};
-ghost use Rattle.des_commands.specs.LineArguments.{FailsAsDigits, IsJobOfLines};
-ghost use Rattle.des_commands.specs.LineFormats.{opening_of, vector_digits as vector_digits_of};
+ghost use Rattle.des_commands.specs.LineJobs.{opening_of, vector_digits as vector_digits_of, FailsAsDigits, IsJobOfLines};
 ghost use Rattle.des_commands.specs.LineRuns.{streams_of, FailsToRun, IsRun, StopsAfter};
 
-use crate::command::lines::{LineSecret, LinesRequest, ValueFormat};
 use crate::inputs::files::{self, RANDOM_SOURCE};
 use crate::inputs::secrets::{password_in, text_in};
 use crate::inputs::sources::bytes_of;
@@ -15,6 +13,7 @@ use crate::lines::{self, FIRST_FAULT, LinesJob};
 use crate::outputs::notices::{self, Notice};
 use crate::outputs::targets::{self, Access, PrivateFile, Target, output_name};
 use crate::streams::progress_reader::ProgressReader;
+use des_arguments::command::lines::{LineSecret, LinesRequest, ValueFormat};
 use des_columns::key_file::KeyFile;
 use des_lines::fault::{Fault, FaultKind, Misuse};
 use des_lines::report::send;

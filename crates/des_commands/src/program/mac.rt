@@ -5,11 +5,11 @@ ghost use Rattle.des_lines.specs.Keys.{IsKeySize};
 ghost use Rattle.des_commands.specs.Macs.{IsTagOfDigits, tag_by};
 
 use super::streams::tell_hex;
-use crate::command::{MacRequest, Question};
 use crate::inputs::files;
 use crate::inputs::secrets::key_in;
-use crate::mac::{Method, tag_of};
+use crate::mac::tag_of;
 use crate::outputs::notices::{self, Notice};
+use des_arguments::command::{MacRequest, Method, Question};
 use des_lines::fault::{Fault, FaultKind};
 use des_lines::report::show;
 use des_lines::sentences::English;

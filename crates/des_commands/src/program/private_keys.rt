@@ -1,11 +1,11 @@
 //! The run of `decrypt-pem`: the password, the private key, and what is written.
 
 use super::streams::tell_in;
-use crate::command::{KeyForm, PrivateKeyRequest};
 use crate::inputs::secrets::password_in;
 use crate::inputs::sources::bytes_of;
 use crate::outputs::targets::{self, Access, Target, output_name, refuse_terminal};
 use crate::private_keys::{decrypted_key, is_der, object_identifier, pem_text};
+use des_arguments::command::{KeyForm, PrivateKeyRequest};
 use des_lines::fault::{Fault, FaultKind, FileFault};
 use des_lines::key_block_lines::shown_name;
 use des_lines::report::send;

@@ -1,10 +1,6 @@
 //! The run of `encrypt` and `decrypt`: the key or the password, random bytes, the input, and the
 //! output.
 
-use crate::command::streams::{
-    CipherMode, Coding, Secret, StreamMode, StreamRequest, Vector, blocks_before, heading_of,
-    job_of,
-};
 use crate::inputs::files::{self, RANDOM_SOURCE, system_random};
 use crate::inputs::secrets::{key_in, password_in, password_name};
 use crate::outputs::notices::{self, Notice, accept_key};
@@ -13,6 +9,10 @@ use crate::streams;
 use crate::streams::passwords::{PasswordJob, check_password, run_by_password};
 use crate::streams::progress_reader::ProgressReader;
 use base64::engine::general_purpose::STANDARD;
+use des_arguments::command::streams::{
+    CipherMode, Coding, Secret, StreamMode, StreamRequest, Vector, blocks_before, heading_of,
+    job_of,
+};
 use des_io::pieces::{fill, write_whole};
 use des_lines::fault::{Fault, FaultKind, FileFault};
 use des_lines::report::{send, tell};

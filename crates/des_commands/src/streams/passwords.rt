@@ -5,15 +5,15 @@ ghost use Rattle.std.specs.Prelude.{◌≡◌, ◌++◌, codes, IfOk, IfErr};
 ghost use Rattle.std.specs.Io.KnownBytes.{Consumes};
 ghost use Rattle.des_io.specs.Streams.{passage_of};
 ghost use Rattle.des_lines.specs.Keys.{IsKeySize};
-ghost use Rattle.des_commands.specs.Jobs.{key_size_of};
+ghost use Rattle.des_arguments.specs.StreamRequests.{key_size_of};
 ghost use Rattle.des_commands.specs.PasswordStreams.{password_fault, salt_bytes};
 ghost use Rattle.des_commands.specs.PasswordStreams.{IsToHaveSalt, ReadsSalt, FailsToReadSalt};
 ghost use Rattle.des_commands.specs.PasswordStreams.{IsDoneByPassword, StopsByPassword, TellsOfKey};
 ghost use Rattle.des_lines.specs.Faults.{FailsOnlyBy};
 
-use crate::command::streams::{Cipher, Password, StreamRequest, job_of};
 use crate::outputs::notices::accept_key;
 use crate::streams;
+use des_arguments::command::streams::{Cipher, Password, StreamRequest, job_of};
 use des_io::pieces::fill;
 use des_lines::fault::{FaultKind, FileFault, Misuse};
 use des_passwords::salted::PREFIX;

@@ -2,9 +2,9 @@
 
 ghost use Rattle.des_commands.specs.Notices.{TellsLimit};
 
-use crate::command::streams::{CipherMode, StreamMode, StreamRequest};
 use crate::outputs::notices::{Notice, is_past_limit, tell};
 use crate::outputs::progress::Progress;
+use des_arguments::command::streams::{CipherMode, StreamMode, StreamRequest};
 use des_io::Padding;
 use std::io::{self, Read, Write};
 

@@ -5,7 +5,7 @@ ghost use Rattle.std.specs.Prelude.{◌≤◌};
 
 use des::cipher::KeyInit;
 use des_fast::no_tables;
-use des_payment::key_blocks::unwrap;
+use des_key_blocks::key_blocks::unwrap;
 use des_payment::{DecimalTable, Pin};
 use std::fmt;
 use std::fmt::Write;

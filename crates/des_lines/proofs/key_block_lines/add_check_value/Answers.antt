@@ -1,7 +1,7 @@
 use Rattle.std.proofs.Common.{◌≡◌, ℕ, List, ◌++◌, take, replicate, codes, refl, sym, ap, ◌∙◌, append_assoc}
 use Rattle.des_payment.specs.KeyLengths.{encryption_by}
-use Rattle.des_payment.specs.declared.key_block_header.Algorithm.{Algorithm}
-use Rattle.des_payment.specs.declared.key_block_header.Algorithm.TheVariants.{Des, TripleDes, OtherAlgorithm}
+use Rattle.des_key_blocks.specs.declared.key_block_header.Algorithm.{Algorithm}
+use Rattle.des_key_blocks.specs.declared.key_block_header.Algorithm.TheVariants.{Des, TripleDes, OtherAlgorithm}
 use Rattle.des_lines.specs.KeyBlockLines.{check_lines}
 use Rattle.des_lines.specs.Texts.{hex_line}
 use Rattle.des_lines.proofs.key_block_lines.add_check_value.Goals as goal

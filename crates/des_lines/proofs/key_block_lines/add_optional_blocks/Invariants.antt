@@ -1,5 +1,5 @@
 use Rattle.std.proofs.Common.{◌≡◌, ℕ, List, ◌++◌, take}
-use Rattle.des_payment.specs.declared.key_block_header.Header.{Header}
+use Rattle.des_key_blocks.specs.declared.key_block_header.Header.{Header}
 use Rattle.des_lines.specs.KeyBlockLines.{IsReadable, optional_lines}
 use Rattle.des_lines.proofs.key_block_lines.add_optional_blocks.Given as goal
 

@@ -1,8 +1,8 @@
 use Rattle.std.proofs.Common.{◌≡◌, List, ◌++◌, ℕ, inr, ap, ap₂, ◌∙◌}
 use Rattle.std.proofs.lemmas.Result.{err_from_is_err_and}
-use Rattle.des_payment.specs.KeyBlockReading.{HasLayout}
-use Rattle.des_payment.specs.declared.key_block_header.Header.{Header}
-use Rattle.des_payment.specs.declared.key_block_header.KeyContext.{KeyContext}
+use Rattle.des_key_blocks.specs.KeyBlockReading.{HasLayout}
+use Rattle.des_key_blocks.specs.declared.key_block_header.Header.{Header}
+use Rattle.des_key_blocks.specs.declared.key_block_header.KeyContext.{KeyContext}
 use Rattle.des_lines.specs.KeyBlockLines.{IsReadable, header_lines, context_lines, optional_lines}
 use Rattle.des_lines.proofs.key_block_lines.header_lines.Goals as goal
 

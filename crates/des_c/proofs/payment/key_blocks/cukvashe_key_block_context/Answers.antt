@@ -1,5 +1,5 @@
 use Rattle.std.proofs.Common.{refl, ap, ◌∙◌}
-use Rattle.des_payment.specs.KeyBlockHeaders.{context_text}
+use Rattle.des_key_blocks.specs.KeyBlockHeaders.{context_text}
 use Rattle.des_c.proofs.payment.key_blocks.cukvashe_key_block_context.Goals as goal
 
 pub returns-in-Ok-clause-found : goal.returns-in-Ok-clause-found

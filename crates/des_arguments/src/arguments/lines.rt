@@ -1,0 +1,204 @@
+//! What the words of `decrypt-lines` ask for.
+
+ghost use Rattle.std.specs.Prelude.{◌≡◌, ◌⊎◌, ◌≤◌, ◌<◌, false, true, IfOk, IfErr};
+ghost use Rattle.des_lines.specs.declared.fault.FaultKind.TheVariants.{Usage};
+ghost use Rattle.des_lines.specs.declared.fault.Misuse.TheVariants.{Arguments, ArgumentValue};
+ghost use Rattle.des_arguments.specs.LineArguments.{algorithm_by, iterations_by, FailsAsFormat, FailsAsJasypt, FailsAsLinesRequest, FailsAsOther, IsFormat, IsJasypt, IsLinesRequest, IsOfOption, IsOther};
+ghost use Rattle.des_arguments.specs.LineFormats.{coding_of as coding_by, takes_secret as takes_secret_of};
+
+use super::argument_values::{is_set, number_of, place_of, text_of};
+use super::misuse::{misuse, refuse};
+use super::passwords::PASSWORD;
+use super::sources::{KEY, file_of, input_of, names_one, one_of, output_of, read_once};
+use crate::command::lines::{LineCoding, LineSecret, LinesRequest, ValueFormat};
+use clap::ArgMatches;
+use des_columns::pbe::Algorithm;
+use des_columns::pgcrypto::Scheme;
+use des_lines::fault::{Fault, Misuse};
+use des_passwords::encrypted_keys::MOST_ITERATIONS;
+
+// What Jasypt takes unless it is told otherwise.
+const ALGORITHM: &str = "PBEWithMD5AndDES";
+
+const ITERATIONS: u64 = 1000;
+
+/// The words of a command line that asks for values in lines, as they were typed.
+#[derive(Clone, Copy)]
+pub struct LineWords<'a> {
+    pub format: &'a str,
+    pub iv: Option<&'a str>,
+    pub algorithm: Option<&'a str>,
+    pub iterations: Option<u64>,
+    pub secret: LineSecret<'a>,
+    pub is_base64: bool,
+    pub writes_digits: bool,
+    pub keeps_going: bool,
+    pub input: Option<&'a str>,
+    pub output: Option<&'a str>,
+    pub shows_progress: bool,
+}
+
+// The fault of an option that the format does not take.
+fn refuse_option<'a>(is_given: bool, option: &'a str) -> Result<(), Fault<'a>>
+    ensures passed { IfOk result (λ _. is_given ≡ false) }
+    ensures fault { IfErr result (λ fault. (is_given ≡ true) × (fault.kind ≡ Usage Arguments)) }
+{
+    if is_given {
+        return Err(misuse(Misuse::Arguments, option));
+    }
+    Ok(())
+}
+
+// The number of iterations that the words ask for.
+fn iterations_of<'a>(words: &LineWords) -> Result<u32, Fault<'a>>
+    ensures count { IfOk result (λ count. (count ≡ iterations_by words.now) × (1 ≤ count)
+        × (count ≤ 10000000)) }
+    ensures fault { IfErr result (λ fault. ((iterations_by words.now ≡ 0) ⊎ (10000000 < iterations_by words.now))
+        × (fault.kind ≡ Usage ArgumentValue)) }
+{
+    let count = words.iterations.unwrap_or(ITERATIONS);
+    if count == 0 || count > MOST_ITERATIONS as u64 {
+        return Err(misuse(Misuse::ArgumentValue, "--iterations"));
+    }
+    Ok(count as u32)
+}
+
+// The algorithm that the words ask for.
+fn algorithm_of(words: &LineWords) -> Option<Algorithm>
+    ensures { result ≡ algorithm_by words.now }
+{
+    Algorithm::of_name(words.algorithm.unwrap_or(ALGORITHM).as_bytes())
+}
+
+// What words of Jasypt ask for.
+fn jasypt_of<'a>(words: &LineWords) -> Result<(Algorithm, u32), Fault<'a>>
+    ensures asked { IfOk result (λ asked. IsJasypt words.now asked.0 asked.1) }
+    ensures fault { IfErr result (λ fault. FailsAsJasypt words.now × IsOfOption fault.kind) }
+{
+    refuse_option(words.iv.is_some(), "--iv")?;
+    refuse_option(words.is_base64, "--base64")?;
+    let Some(by) = algorithm_of(words) else {
+        return Err(misuse(Misuse::ArgumentValue, "--algorithm"));
+    };
+    let iterations = iterations_of(words)?;
+    Ok((by, iterations))
+}
+
+// What words of another format ask for.
+fn other_of<'a>(words: &LineWords<'a>) -> Result<ValueFormat<'a>, Fault<'a>>
+    ensures asked { IfOk result (IsOther words.now) }
+    ensures fault { IfErr result (λ fault. FailsAsOther words.now × IsOfOption fault.kind) }
+{
+    refuse_option(words.algorithm.is_some(), "--algorithm")?;
+    refuse_option(words.iterations.is_some(), "--iterations")?;
+    match (words.format, words.iv) {
+        ("mysql", None) => Ok(ValueFormat::Mysql),
+        ("mysql", Some(_)) => Err(misuse(Misuse::Arguments, "--iv")),
+        (name, iv) => match Scheme::of_name(name.as_bytes()) {
+            Some(scheme) => Ok(ValueFormat::Pgcrypto(scheme, iv.unwrap_or(""))),
+            None => Err(misuse(Misuse::ArgumentValue, "<FORMAT>")),
+        },
+    }
+}
+
+// The format that the words name, with what its options ask for.
+fn format_of<'a>(words: &LineWords<'a>) -> Result<ValueFormat<'a>, Fault<'a>>
+    ensures format { IfOk result (IsFormat words.now) }
+    ensures fault { IfErr result (λ fault. FailsAsFormat words.now × IsOfOption fault.kind) }
+{
+    match words.format {
+        "jasypt" => {
+            let (by, iterations) = jasypt_of(words)?;
+            Ok(ValueFormat::Jasypt(by, iterations))
+        }
+        _ => other_of(words),
+    }
+}
+
+// Whether a format takes a secret of this kind: Jasypt has passwords alone.
+fn takes_secret(format: ValueFormat, secret: LineSecret) -> bool
+    ensures { result ≡ takes_secret_of format.entry secret.entry }
+{
+    !matches!(
+        (format, secret),
+        (ValueFormat::Jasypt(_, _), LineSecret::Key(_))
+    )
+}
+
+// How values stand in their lines.
+fn coding_of(format: ValueFormat, is_base64: bool) -> LineCoding
+    ensures { result ≡ coding_by format.entry is_base64 }
+{
+    match (format, is_base64) {
+        (ValueFormat::Jasypt(_, _), _) => LineCoding::Bytes,
+        (_, true) => LineCoding::Base64,
+        (_, false) => LineCoding::Hexadecimal,
+    }
+}
+
+/// What the words ask for. The fault is `Usage` if they don't go together.
+pub fn request_of_words<'a>(words: &LineWords<'a>) -> Result<LinesRequest<'a>, Fault<'a>>
+    ensures asked { IfOk result (IsLinesRequest words.now) }
+    ensures fault { IfErr result (λ fault. FailsAsLinesRequest words.now fault.kind) }
+{
+    let format = format_of(words)?;
+    refuse(!takes_secret(format, words.secret), Misuse::PasswordSource)?;
+    let input = input_of(words.input);
+    read_once(words.secret.source(), input)?;
+    Ok(LinesRequest {
+        format,
+        coding: coding_of(format, words.is_base64),
+        secret: words.secret,
+        writes_digits: words.writes_digits,
+        keeps_going: words.keeps_going,
+        input,
+        output: output_of(words.output),
+        shows_progress: words.shows_progress,
+    })
+}
+
+// What gives the keys of MySQL: the server's file of them, or a place of a key string.
+fn secret_of_mysql<'a>(
+    matches: &ArgMatches<'a>,
+    keys: Option<&'a str>,
+) -> Result<LineSecret<'a>, Fault<'a>> {
+    refuse(names_one(matches, KEY), Misuse::MysqlSource)?;
+    let Some(path) = keys else {
+        let source = one_of(matches, PASSWORD, Misuse::MysqlSource)?;
+        return Ok(LineSecret::Password(source));
+    };
+    refuse(names_one(matches, PASSWORD), Misuse::MysqlSource)?;
+    Ok(LineSecret::Key(file_of(path)))
+}
+
+// What gives the key: one place.
+fn secret_of<'a>(matches: &ArgMatches<'a>) -> Result<LineSecret<'a>, Fault<'a>> {
+    let keys = text_of(matches, "des-key-file");
+    if place_of(matches, "format") == "mysql" {
+        return secret_of_mysql(matches, keys);
+    }
+    refuse_option(keys.is_some(), "--des-key-file")?;
+    if names_one(matches, KEY) {
+        refuse(names_one(matches, PASSWORD), Misuse::PasswordSource)?;
+        return Ok(LineSecret::Key(one_of(matches, KEY, Misuse::KeySource)?));
+    }
+    let source = one_of(matches, PASSWORD, Misuse::KeyOrPasswordSource)?;
+    Ok(LineSecret::Password(source))
+}
+
+/// What the words of `decrypt-lines` ask for; a fault if they don't go together.
+pub fn lines_request<'a>(matches: &ArgMatches<'a>) -> Result<LinesRequest<'a>, Fault<'a>> {
+    request_of_words(&LineWords {
+        format: place_of(matches, "format"),
+        iv: text_of(matches, "iv"),
+        algorithm: text_of(matches, "algorithm"),
+        iterations: number_of(matches, "iterations"),
+        secret: secret_of(matches)?,
+        is_base64: is_set(matches, "base64"),
+        writes_digits: is_set(matches, "hex"),
+        keeps_going: is_set(matches, "keep-going"),
+        input: text_of(matches, "in"),
+        output: text_of(matches, "out"),
+        shows_progress: is_set(matches, "progress"),
+    })
+}

@@ -1,4 +1,0 @@
-use Rattle.des_payment.proofs.key_blocks.+block_at.Given as goal
-
-abbrev pub decreases-block_at : goal.decreases-block_at
-decreases-block_at l = l.place

@@ -1,4 +1,0 @@
-use Rattle.des_payment.proofs.optional_blocks.+size_of_blocks.Given as goal
-
-abbrev pub decreases-size_of_blocks : goal.decreases-size_of_blocks
-decreases-size_of_blocks l = l.count
