@@ -1,8 +1,8 @@
 -- What a request asks of a stream: where its secret is, how its first block goes on, what is written before the
 -- ciphertext, and the blocks before a part.
 use Rattle.std.specs.Prelude.{◌≡◌, ℕ, ◌+◌, ◌-◌, ◌^◌, min, Bool, true, false, List, [], replicate, Option, Some, None}
-use Rattle.des_io.specs.declared.mode.Mode.{Mode}
-use Rattle.des_io.specs.declared.mode.Mode.TheVariants.{Ecb, Cbc}
+use Rattle.des_io.specs.declared.mode.BlockMode.{BlockMode}
+use Rattle.des_io.specs.declared.mode.BlockMode.TheVariants.{Ecb, Cbc}
 use Rattle.des_lines.specs.declared.source.Source.{Source}
 use Rattle.des_arguments.specs.declared.command.streams.Cipher.{Cipher}
 use Rattle.des_arguments.specs.declared.command.streams.Cipher.TheVariants.{Des, TdesEde2, TdesEde3}
@@ -46,7 +46,7 @@ takes_part _ = true
 
 -- how the first block that is read goes on, by a vector that is random or of a password, if one is asked for. A vector
 -- that is the first block is passed over, by CBC from a block of zeros
-abbrev pub begin_of : Option Vector → List ℕ → Mode
+abbrev pub begin_of : Option Vector → List ℕ → BlockMode
 begin_of None vector = Ecb
 begin_of (Some (Bytes iv)) vector = Cbc iv
 begin_of (Some FirstBlock) vector = Cbc (replicate 8 0)

@@ -6,7 +6,7 @@ use Rattle.des_io.specs.Streams.{passage_of, Decrypts}
 use Rattle.des_io.specs.StreamFaults.{IsWronglyPadded}
 use Rattle.des_io.specs.declared.error.StreamError.{StreamError}
 use Rattle.des_io.specs.declared.error.StreamError.TheVariants.{Read, Write, Length as CutBlock, Start, Padding}
-use Rattle.des_io.specs.declared.mode.Mode.TheVariants.{Cbc}
+use Rattle.des_io.specs.declared.mode.BlockMode.TheVariants.{Cbc}
 use Rattle.des_io.specs.declared.padding.Padding.TheVariants.{Pkcs7}
 use Rattle.des_lines.specs.declared.fault.FileFault.TheVariants.{KeyPadding, Password}
 use Rattle.des_lines.specs.declared.fault.FaultKind.{FaultKind}

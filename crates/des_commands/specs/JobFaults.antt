@@ -8,7 +8,7 @@ use Rattle.des_modes.specs.declared.direction.Direction.TheVariants.{Encrypt as 
 use Rattle.des_modes.specs.declared.stream.Stream.{Stream as StreamState}
 use Rattle.des_io.specs.declared.error.StreamError.{StreamError}
 use Rattle.des_io.specs.declared.error.StreamError.TheVariants.{Start}
-use Rattle.des_io.specs.declared.mode.Mode.{Mode}
+use Rattle.des_io.specs.declared.mode.BlockMode.{BlockMode}
 use Rattle.des_io.specs.declared.padding.Padding.{Padding}
 use Rattle.des_lines.specs.declared.fault.FaultKind.{FaultKind}
 use Rattle.des_lines.specs.declared.fault.FaultKind.TheVariants.{KeyLength, Memory}
@@ -35,7 +35,7 @@ LacksKeyOrMemory kind job =
     ⊎ ((kind ≡ KeyLength (Some (key_size_of job.cipher))) × (length job.key.now ≢ key_size_of job.cipher))
 
 -- what was written begins the plaintext of all that is read, or of a part, and what the fault says
-abbrev pub StopsHere : (fault : StreamError) (answer : List ℕ → List ℕ) (mode : Mode) (padding : Padding)
+abbrev pub StopsHere : (fault : StreamError) (answer : List ℕ → List ℕ) (mode : BlockMode) (padding : Padding)
     (part : Option BlockRange) (passage : Passage) → Type 0
 StopsHere fault answer mode padding None passage =
     DecryptsPrefix answer mode padding passage × FailsToDecrypt fault answer mode padding passage
@@ -44,7 +44,7 @@ StopsHere fault answer mode padding (Some part) passage =
 
 -- to encrypt, nothing was read, and a prefix of the heading was written, or after the heading what begins the
 -- ciphertext; to decrypt, it ended where blocks are passed over, and nothing was written, or after them
-abbrev pub StopsPadded : (fault : StreamError) (encrypted decrypted : List ℕ → List ℕ) (mode : Mode) (padding : Padding)
+abbrev pub StopsPadded : (fault : StreamError) (encrypted decrypted : List ℕ → List ℕ) (mode : BlockMode) (padding : Padding)
     (work : Work) (passage : Passage) → Type 0
 StopsPadded fault encrypted decrypted mode padding (Encrypt heading) passage =
     (IsOfWriting fault × (passage.read_to ≡ passage.read_from)
@@ -54,7 +54,7 @@ StopsPadded fault encrypted decrypted mode padding (Encrypt heading) passage =
     × FailsToEncrypt fault padding passage.read_from passage.read_to)
 StopsPadded fault encrypted decrypted mode padding (Decrypt skipped part) passage =
     (FailsToSkip fault skipped passage.read_from passage.read_to × (passage.written_to ≡ passage.written_from))
-    ⊎ ((next : Mode) × (begun : Option (List ℕ)) × Skips mode next skipped passage.read_from begun
+    ⊎ ((next : BlockMode) × (begun : Option (List ℕ)) × Skips mode next skipped passage.read_from begun
     × StopsHere fault decrypted next padding part
     (passage_of begun passage.read_to passage.written_from passage.written_to))
 
@@ -72,7 +72,7 @@ StopsStream fault encryption mode job (Encrypt heading) passage =
 StopsStream fault encryption mode job (Decrypt skipped part) passage =
     (FailsToSkip fault (min skipped job.vectors) passage.read_from passage.read_to
     × (passage.written_to ≡ passage.written_from))
-    ⊎ ((first : Mode) × (middle : Option (List ℕ))
+    ⊎ ((first : BlockMode) × (middle : Option (List ℕ))
     × Skips job.begin first (min skipped job.vectors) passage.read_from middle
     × FailsToSkip fault (skipped - min skipped job.vectors) middle passage.read_to
     × (passage.written_to ≡ passage.written_from))

@@ -13,8 +13,8 @@ use Rattle.des_modes.specs.declared.direction.Direction.TheVariants.{Encrypt as 
 use Rattle.des_modes.specs.declared.modes.TheConstants.{CFB1, CTR, OFB}
 use Rattle.des_modes.specs.declared.stream.Stream.{Stream as StreamState}
 use Rattle.des_io.specs.StreamCiphers.{Applies}
-use Rattle.des_io.specs.declared.mode.Mode.{Mode}
-use Rattle.des_io.specs.declared.mode.Mode.TheVariants.{Ecb, Cbc}
+use Rattle.des_io.specs.declared.mode.BlockMode.{BlockMode}
+use Rattle.des_io.specs.declared.mode.BlockMode.TheVariants.{Ecb, Cbc}
 use Rattle.des_io.specs.declared.padding.Padding.{Padding}
 use Rattle.des_arguments.specs.declared.command.streams.Cipher.{Cipher}
 use Rattle.des_arguments.specs.declared.command.streams.Cipher.TheVariants.{Des, TdesEde2, TdesEde3}
@@ -50,7 +50,7 @@ IsNamed cipher key_size encrypts decrypts =
     × ((key : List ℕ) → decrypts key ≡ decryption_of cipher key)
 
 -- CBC goes on from a block
-abbrev pub GoesOnFromBlock : Mode → Type 0
+abbrev pub GoesOnFromBlock : BlockMode → Type 0
 GoesOnFromBlock Ecb = ⊤
 GoesOnFromBlock (Cbc vector) = IsBlock vector
 
@@ -64,28 +64,28 @@ pub record AreOfKey (encrypted decrypted : List ℕ → List ℕ) (job : Job) : 
 -- ---- what is done
 
 -- all that is left is decrypted, up to the end, or the blocks of a part
-abbrev pub DecryptsHere : (answer : List ℕ → List ℕ) (mode : Mode) (padding : Padding) (part : Option BlockRange)
+abbrev pub DecryptsHere : (answer : List ℕ → List ℕ) (mode : BlockMode) (padding : Padding) (part : Option BlockRange)
     (passage : Passage) → Type 0
 DecryptsHere answer mode padding None passage = Decrypts answer mode padding passage × IsAtEnd passage.read_to
 DecryptsHere answer mode padding (Some part) passage = DecryptsPart answer mode padding part.count passage
 
 -- the heading is written, and all that is left is encrypted, up to the end; or a number of blocks is passed over, and
 -- from there on it is decrypted
-abbrev pub DoesPadded : (encrypted decrypted : List ℕ → List ℕ) (mode : Mode) (padding : Padding) (work : Work)
+abbrev pub DoesPadded : (encrypted decrypted : List ℕ → List ℕ) (mode : BlockMode) (padding : Padding) (work : Work)
     (passage : Passage) → Type 0
 DoesPadded encrypted decrypted mode padding (Encrypt heading) passage =
     (headed : Option (List ℕ)) × Appends passage.written_from headed heading.now
     × Encrypts encrypted mode padding (passage_of passage.read_from passage.read_to headed passage.written_to)
     × IsAtEnd passage.read_to
 DoesPadded encrypted decrypted mode padding (Decrypt skipped part) passage =
-    (next : Mode) × (begun : Option (List ℕ)) × Skips mode next skipped passage.read_from begun
+    (next : BlockMode) × (begun : Option (List ℕ)) × Skips mode next skipped passage.read_from begun
     × DecryptsHere decrypted next padding part
     (passage_of begun passage.read_to passage.written_from passage.written_to)
 
 -- ---- stream ciphers
 
 -- the vector that a mode goes on from
-abbrev pub vector_of : Mode → List ℕ
+abbrev pub vector_of : BlockMode → List ℕ
 vector_of Ecb = replicate 8 0
 vector_of (Cbc vector) = vector
 
@@ -118,8 +118,8 @@ bytes_at_most (Some part) = bytes_of_blocks part.count
 -- the vector, if it is the first block, and the other blocks before a part are passed over, and the stream goes on there
 pub record Reaches (mode : StreamMode) (job : Job) (skipped : ℕ) (part : Option BlockRange)
     (read_from begun : Option (List ℕ)) (stream : StreamState) : Type 0 where
-  pub first : Mode
-  pub last : Mode
+  pub first : BlockMode
+  pub last : BlockMode
   pub middle : Option (List ℕ)
   pub vector : Skips job.begin first (min skipped job.vectors) read_from middle
   pub others : Skips first last (skipped - min skipped job.vectors) middle begun

@@ -8,7 +8,7 @@ ghost use Rattle.des_commands.specs.DecryptedKeys.{IsPlain, IsDecryptedKey, Fail
 use crate::streams::cipher_of;
 use base64::engine::general_purpose::STANDARD;
 use des_fast::TdesEde3;
-use des_io::{Mode, Padding, StreamError, Transformation, decrypt_stream};
+use des_io::{BlockMode, Padding, StreamError, Transformation, decrypt_stream};
 use des_lines::fault::{FaultKind, FileFault};
 use des_passwords::{KeyAndVector, Label};
 use std::alloc::{AllocError, Global};
@@ -98,7 +98,7 @@ fn plain_of(alloc: Global, both: &KeyAndVector<24>, encrypted: &[u8]) -> Result<
 {
     let transformation = Transformation {
         cipher: &cipher_of::<TdesEde3>(&both.key),
-        mode: Mode::Cbc(both.vector),
+        mode: BlockMode::Cbc(both.vector),
         padding: Padding::Pkcs7,
     };
     let mut reader = encrypted;

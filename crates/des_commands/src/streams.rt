@@ -18,8 +18,8 @@ use des_fast::many::ManyBlocks;
 use des_fast::{Des, TdesEde2, TdesEde3};
 use des_io::pieces::write_whole;
 use des_io::{
-    Mode, StreamError, Transformation, apply_stream, decrypt_part, decrypt_stream, encrypt_stream,
-    skip_blocks,
+    BlockMode, StreamError, Transformation, apply_stream, decrypt_part, decrypt_stream,
+    encrypt_stream, skip_blocks,
 };
 use des_lines::fault::FaultKind;
 use des_modes::Direction;
@@ -70,12 +70,12 @@ fn run_padded<C: ManyBlocks, R: Read, W: Write>(
 }
 
 // The vector that a mode goes on from.
-fn vector_in(mode: Mode) -> [u8; 8]
+fn vector_in(mode: BlockMode) -> [u8; 8]
     ensures { result ≡ vector_of mode }
 {
     match mode {
-        Mode::Ecb => [0; 8],
-        Mode::Cbc(vector) => vector,
+        BlockMode::Ecb => [0; 8],
+        BlockMode::Cbc(vector) => vector,
     }
 }
 
@@ -197,10 +197,10 @@ pub fn cipher_of<C: KeyedCipher>(key: &C::Key) -> C
 }
 
 // A function for the proof alone: the vector that CBC goes on from is a block.
-fn goes_on_from_block(mode: Mode)
+fn goes_on_from_block(mode: BlockMode)
     ensures { GoesOnFromBlock mode }
 {
-    if let Mode::Cbc(vector) = mode {
+    if let BlockMode::Cbc(vector) = mode {
         are_bytes(&vector);
     }
 }

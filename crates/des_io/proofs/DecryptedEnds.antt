@@ -9,7 +9,7 @@ use Rattle.des_io.specs.Streams.{passage_of, joined, bytes_of, IsBlockIfThere, I
 use Rattle.des_io.specs.StreamFaults.{EndsStream, IsWronglyPadded, FailsToDecrypt}
 use Rattle.des_io.specs.declared.error.StreamError.{StreamError}
 use Rattle.des_io.specs.declared.error.StreamError.TheVariants.{Read, Write, Length, Start, Padding as WrongPadding}
-use Rattle.des_io.specs.declared.mode.Mode.{Mode}
+use Rattle.des_io.specs.declared.mode.BlockMode.{BlockMode}
 use Rattle.des_io.specs.declared.padding.Padding.{Padding}
 use Rattle.des_io.specs.declared.padding.Padding.TheVariants.{Pkcs7, Iso7816, Zeros, Unpadded}
 use Rattle.des_io.proofs.DecryptedPrefixes.{DeciphersPrefix-ended, HoldsPrefix-read, WithinPrefix, WithinPrefix-pending}
@@ -17,7 +17,7 @@ use Rattle.des_io.proofs.DecryptedPieces.{even_bytes}
 use Rattle.des_io.proofs.PaddedLists.{padded-append, last_block}
 
 -- what was written and the last block are whole blocks
-even_whole : {decryption : List ℕ → List ℕ} {mode : Mode} {r s u v : Option (List ℕ)} {pending : Option (List ℕ)}
+even_whole : {decryption : List ℕ → List ℕ} {mode : BlockMode} {r s u v : Option (List ℕ)} {pending : Option (List ℕ)}
     → (so_far : HoldsLast decryption mode (passage_of r s u v) pending) → length (joined so_far.p) % 8 ≡ 0
 even_whole {pending} so_far =
     omega (
@@ -29,7 +29,7 @@ even_whole {pending} so_far =
     )
 
 -- the last bytes without their padding
-pub Decrypts-ended : {decryption : List ℕ → List ℕ} {mode : Mode} (padding : Padding) {r s u v w : Option (List ℕ)}
+pub Decrypts-ended : {decryption : List ℕ → List ℕ} {mode : BlockMode} (padding : Padding) {r s u v w : Option (List ℕ)}
     {pending : Option (List ℕ)} (plain : List ℕ)
     → (so_far : HoldsLast decryption mode (passage_of r s u v) pending) → padded (taken_off padding) plain ≡ bytes_of pending
     → Appends v w plain
@@ -51,7 +51,7 @@ Decrypts-ended padding {u} {v} {w} plain so_far is written = (
 )
 
 -- a prefix of them
-pub WithinPrefix-ended : {decryption : List ℕ → List ℕ} {mode : Mode} {padding : Padding} {limit : Option ℕ}
+pub WithinPrefix-ended : {decryption : List ℕ → List ℕ} {mode : BlockMode} {padding : Padding} {limit : Option ℕ}
     {r s u v w : Option (List ℕ)} {pending : Option (List ℕ)} (plain put missing : List ℕ)
     → (so_far : HoldsLast decryption mode (passage_of r s u v) pending)
     → IsWithin limit (length so_far.q)
@@ -108,7 +108,7 @@ all_but (Some block) prefix all size is none =
     let count : length all - 8 ≡ length prefix = omega (arith, ap length (sym is) ∙ length-append prefix block, size) in
     ap (λ n. take n all) count ∙ ap (take (length prefix)) (sym is) ∙ take_at prefix block (length prefix) refl
 
-pub IsWronglyPadded-ended : {decryption : List ℕ → List ℕ} {mode : Mode} (padding : Padding)
+pub IsWronglyPadded-ended : {decryption : List ℕ → List ℕ} {mode : BlockMode} (padding : Padding)
     {r s u v w : Option (List ℕ)} {pending : Option (List ℕ)}
     → (so_far : HoldsLast decryption mode (passage_of r s u v) pending)
     → ((plain : List ℕ) → padded (taken_off padding) plain ≢ bytes_of pending)
@@ -133,7 +133,7 @@ IsWronglyPadded-ended padding {u} {w} {pending} so_far wrong same end =
 -- ---- faults at the end
 
 -- what a fault at the end says
-pub FailsToDecrypt-ended : (fault : StreamError) {decryption : List ℕ → List ℕ} {mode : Mode} (padding : Padding)
+pub FailsToDecrypt-ended : (fault : StreamError) {decryption : List ℕ → List ℕ} {mode : BlockMode} (padding : Padding)
     {r s u v : Option (List ℕ)} (w : Option (List ℕ)) {pending : Option (List ℕ)}
     → HoldsLast decryption mode (passage_of r s u v) pending
     → EndsStream padding (bytes_of pending) v w (Err fault)
@@ -146,7 +146,7 @@ FailsToDecrypt-ended WrongPadding padding w so_far ended end =
     (IsWronglyPadded-ended padding so_far ended.0 ended.1 end).0
 
 -- and the prefix that was written before it
-pub WithinPrefix-fault : (fault : StreamError) {decryption : List ℕ → List ℕ} {mode : Mode} {padding : Padding}
+pub WithinPrefix-fault : (fault : StreamError) {decryption : List ℕ → List ℕ} {mode : BlockMode} {padding : Padding}
     {limit : Option ℕ} {r s u v w : Option (List ℕ)} {pending : Option (List ℕ)}
     → (so_far : HoldsLast decryption mode (passage_of r s u v) pending)
     → IsWithin limit (length so_far.q)

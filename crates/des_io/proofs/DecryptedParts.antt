@@ -9,7 +9,7 @@ use Rattle.des_io.specs.Streams.{Passage, passage_of, joined, bytes_of, IsWithin
 use Rattle.des_io.specs.StreamFaults.{EndsStream, FailsInPart}
 use Rattle.des_io.specs.declared.error.StreamError.{StreamError}
 use Rattle.des_io.specs.declared.error.StreamError.TheVariants.{Read, Write, Length, Start, Padding as WrongPadding}
-use Rattle.des_io.specs.declared.mode.Mode.{Mode}
+use Rattle.des_io.specs.declared.mode.BlockMode.{BlockMode}
 use Rattle.des_io.specs.declared.padding.Padding.{Padding}
 use Rattle.des_io.specs.declared.padding.Padding.TheVariants.{Unpadded}
 use Rattle.des_io.proofs.DecryptedEnds.{Decrypts-ended, WithinPrefix-ended, WithinPrefix-fault, IsWronglyPadded-ended}
@@ -19,14 +19,14 @@ use Rattle.des_io.proofs.ModesInPieces.{Deciphered-nil, Deciphered-only_nil}
 -- ---- what was written
 
 -- with the last block held back
-pub DecryptsPartPrefix-pending : {decryption : List ℕ → List ℕ} {mode : Mode} {padding : Padding} {limit : Option ℕ}
+pub DecryptsPartPrefix-pending : {decryption : List ℕ → List ℕ} {mode : BlockMode} {padding : Padding} {limit : Option ℕ}
     {r t u w : Option (List ℕ)}
     → HoldsPrefix decryption mode limit (passage_of r t u w) → DecryptsPartPrefix decryption mode padding limit
     (passage_of r t u w)
 DecryptsPartPrefix-pending holds = DecryptsPartPrefix-within (WithinPrefix-pending holds)
 
 -- also if more was read
-pub DecryptsPartPrefix-read : {decryption : List ℕ → List ℕ} {mode : Mode} {padding : Padding} {limit : Option ℕ}
+pub DecryptsPartPrefix-read : {decryption : List ℕ → List ℕ} {mode : BlockMode} {padding : Padding} {limit : Option ℕ}
     {r s t u v : Option (List ℕ)} {pending : Option (List ℕ)} (bytes : List ℕ)
     → HoldsPart decryption mode limit (passage_of r s u v) pending → Consumes s t bytes
     → DecryptsPartPrefix decryption mode padding limit (passage_of r t u v)
@@ -43,7 +43,7 @@ not_at_end (Some x) (Some y) (Some z) a b all first second one is end =
     omega (arith, ap length (sym end ∙ second) ∙ length-append b z, one)
 
 -- the last block, or a prefix of it, if more follows
-DecryptsPartPrefix-followed : {decryption : List ℕ → List ℕ} {mode : Mode} {padding : Padding} {limit : Option ℕ}
+DecryptsPartPrefix-followed : {decryption : List ℕ → List ℕ} {mode : BlockMode} {padding : Padding} {limit : Option ℕ}
     {r s t u v w : Option (List ℕ)} {pending : Option (List ℕ)} (bytes put missing : List ℕ)
     → HoldsPart decryption mode limit (passage_of r s u v) pending
     → Consumes s t bytes → length bytes ≡ 1
@@ -66,7 +66,7 @@ DecryptsPartPrefix-followed {limit} {r} {s} {t} {pending} bytes put missing part
 -- ---- what a fault says
 
 -- if more follows, no padding is wrong
-FailsInPart-unpadded : (fault : StreamError) (decryption : List ℕ → List ℕ) (mode : Mode) (padding : Padding)
+FailsInPart-unpadded : (fault : StreamError) (decryption : List ℕ → List ℕ) (mode : BlockMode) (padding : Padding)
     (limit : Option ℕ) (passage : Passage) (v : Option (List ℕ)) (last : List ℕ)
     → EndsStream Unpadded last v passage.written_to (Err fault)
     → FailsInPart fault decryption mode padding limit passage
@@ -78,7 +78,7 @@ FailsInPart-unpadded WrongPadding decryption mode padding limit passage v last e
     (ended.0 last (append-nil last))
 
 -- at the end of the input it may be
-FailsInPart-ended : (fault : StreamError) {decryption : List ℕ → List ℕ} {mode : Mode} (padding : Padding)
+FailsInPart-ended : (fault : StreamError) {decryption : List ℕ → List ℕ} {mode : BlockMode} (padding : Padding)
     {limit : Option ℕ} {r s u v : Option (List ℕ)} (w : Option (List ℕ)) {pending : Option (List ℕ)}
     → (part : HoldsPart decryption mode limit (passage_of r s u v) pending)
     → part.holds.q ≢ []
@@ -99,7 +99,7 @@ FailsInPart-ended WrongPadding padding {limit} w part some ended end =
 -- ---- blocks
 
 -- a part after which nothing was read
-HoldsPart-same : {decryption : List ℕ → List ℕ} {mode : Mode} {limit : Option ℕ} {r s t u v : Option (List ℕ)}
+HoldsPart-same : {decryption : List ℕ → List ℕ} {mode : BlockMode} {limit : Option ℕ} {r s t u v : Option (List ℕ)}
     {pending : Option (List ℕ)} (bytes : List ℕ) → HoldsPart decryption mode limit (passage_of r s u v) pending
     → Consumes s t bytes → bytes ≡ [] → IsAtEnd t
     → HoldsPart decryption mode limit (passage_of r t u v) pending
@@ -125,7 +125,7 @@ HoldsPart-same {r} {s} {t} bytes part read none end =
     }
 
 -- if a block was held back, blocks were read
-some_blocks : {decryption : List ℕ → List ℕ} {mode : Mode} {r s u v : Option (List ℕ)} {block : List ℕ}
+some_blocks : {decryption : List ℕ → List ℕ} {mode : BlockMode} {r s u v : Option (List ℕ)} {block : List ℕ}
     → (holds : HoldsLast decryption mode (passage_of r s u v) (Some block)) → holds.q ≢ []
 some_blocks {decryption} {mode} {block} holds none =
     let blocks : holds.p ≡ [] = Deciphered-nil decryption mode holds.q holds.p holds.deciphered none in
@@ -133,7 +133,7 @@ some_blocks {decryption} {mode} {block} holds none =
     omega (arith, length-append holds.put block, lengths, holds.size)
 
 -- if none was held back, none was read
-pub no_blocks : {decryption : List ℕ → List ℕ} {mode : Mode} {r s : Option (List ℕ)} (t : Option (List ℕ))
+pub no_blocks : {decryption : List ℕ → List ℕ} {mode : BlockMode} {r s : Option (List ℕ)} (t : Option (List ℕ))
     {u v : Option (List ℕ)} {pending : Option (List ℕ)} (bytes : List ℕ)
     → pending ≡ None → HoldsLast decryption mode (passage_of r s u v) pending → Consumes s t bytes → (bytes ≡ []) × IsAtEnd t
     → Consumes r t [] × IsAtEnd t
@@ -144,7 +144,7 @@ no_blocks {decryption} {mode} {r} {s} t bytes is holds read end =
 -- ---- the end of a part
 
 -- a part that ends with the input, or before it
-DecryptsPart-ended : {decryption : List ℕ → List ℕ} {mode : Mode} {padding : Padding} (taken : Padding)
+DecryptsPart-ended : {decryption : List ℕ → List ℕ} {mode : BlockMode} {padding : Padding} (taken : Padding)
     {limit : Option ℕ} {r s t u v w : Option (List ℕ)} {pending : Option (List ℕ)} (bytes plain : List ℕ)
     → (part : HoldsPart decryption mode limit (passage_of r s u v) pending)
     → Consumes s t bytes
@@ -168,14 +168,14 @@ DecryptsPart-ended taken {limit} {s} bytes plain part read is written after =
     }
 
 -- what holds of a part at its end: what it is, that what was written begins it, and what its fault says
-pub record EndsPart (result : Result (Unit {0}) StreamError) (decryption : List ℕ → List ℕ) (mode : Mode)
+pub record EndsPart (result : Result (Unit {0}) StreamError) (decryption : List ℕ → List ℕ) (mode : BlockMode)
     (padding : Padding) (limit : Option ℕ) (passage : Passage) : Type 0 where
   pub done : IfOk result (λ _. DecryptsPart decryption mode padding limit passage)
   pub prefix : DecryptsPartPrefix decryption mode padding limit passage
   pub fault : IfErr result (λ fault. FailsInPart fault decryption mode padding limit passage)
 
 -- what was written if more follows and the writer failed
-prefix_more : (fault : StreamError) {decryption : List ℕ → List ℕ} {mode : Mode} {padding : Padding} {limit : Option ℕ}
+prefix_more : (fault : StreamError) {decryption : List ℕ → List ℕ} {mode : BlockMode} {padding : Padding} {limit : Option ℕ}
     {r s t u v w : Option (List ℕ)} {pending : Option (List ℕ)} (bytes : List ℕ)
     → HoldsPart decryption mode limit (passage_of r s u v) pending → Consumes s t bytes
     → length bytes ≡ 1 → EndsStream Unpadded (bytes_of pending) v w (Err fault)
@@ -191,7 +191,7 @@ prefix_more (Write error) bytes part read one ended =
     (take-append-drop k plain ∙ sym (append-nil plain) ∙ is) written
 
 -- of a part that more follows
-pub EndsPart-more : (result : Result (Unit {0}) StreamError) {decryption : List ℕ → List ℕ} {mode : Mode}
+pub EndsPart-more : (result : Result (Unit {0}) StreamError) {decryption : List ℕ → List ℕ} {mode : BlockMode}
     (padding : Padding) {limit : Option ℕ} {r s t u v w : Option (List ℕ)} {pending : Option (List ℕ)} (bytes : List ℕ)
     → HoldsPart decryption mode limit (passage_of r s u v) pending → Consumes s t bytes
     → length bytes ≡ 1 → EndsStream Unpadded (bytes_of pending) v w result
@@ -210,7 +210,7 @@ EndsPart-more (Err fault) padding {r} {t} {u} {v} {w} {pending} bytes part read 
 }
 
 -- of a part at the end of the input, whose last block was held back
-ends_some : (result : Result (Unit {0}) StreamError) {decryption : List ℕ → List ℕ} {mode : Mode} {padding : Padding}
+ends_some : (result : Result (Unit {0}) StreamError) {decryption : List ℕ → List ℕ} {mode : BlockMode} {padding : Padding}
     {limit : Option ℕ} {r t u v w : Option (List ℕ)} {block : List ℕ}
     → HoldsPart decryption mode limit (passage_of r t u v) (Some block) → IsAtEnd t
     → EndsStream padding block v w result → EndsPart result decryption mode padding limit (passage_of r t u w)
@@ -230,7 +230,7 @@ ends_some (Err fault) {padding} {w} part end ended = record {
   fault = FailsInPart-ended fault padding w part (some_blocks part.holds) ended end;
 }
 
-pub EndsPart-last : (result : Result (Unit {0}) StreamError) {decryption : List ℕ → List ℕ} {mode : Mode}
+pub EndsPart-last : (result : Result (Unit {0}) StreamError) {decryption : List ℕ → List ℕ} {mode : BlockMode}
     {padding : Padding} {limit : Option ℕ} {r s t u v w : Option (List ℕ)} (pending : Option (List ℕ))
     (block bytes : List ℕ) → pending ≡ Some block
     → HoldsPart decryption mode limit (passage_of r s u v) pending → Consumes s t bytes → bytes ≡ [] → IsAtEnd t

@@ -7,7 +7,7 @@ use Rattle.std.proofs.lemmas.List.Elements.{All-append, All-nil}
 use Rattle.std.proofs.Math.Seq.{get_or-append_seam}
 use Rattle.des.specs.Blocks.{IsBlock}
 use Rattle.des_io.specs.CipherModes.{mode_after}
-use Rattle.des_io.specs.declared.mode.Mode.{Mode}
+use Rattle.des_io.specs.declared.mode.BlockMode.{BlockMode}
 use Rattle.des_io.proofs.EncryptedPieces.{joined-append, length-joined}
 use Rattle.des_io.proofs.ModesInPieces.{Deciphered-append, Deciphered-none, mode_after-append, mode_after-none}
 
@@ -127,7 +127,7 @@ WritesPiece-none pending (block ∷ blocks) u Succeeds none = absurd (omega arit
 
 -- ---- piece after piece
 
-pub HoldsLast-none : (decryption : List ℕ → List ℕ) (mode : Mode) (r u : Option (List ℕ))
+pub HoldsLast-none : (decryption : List ℕ → List ℕ) (mode : BlockMode) (r u : Option (List ℕ))
     → (all : HoldsLast decryption mode (passage_of r r u u) None) × (mode ≡ mode_after mode all.q) × (length all.q ≡ 0)
 HoldsLast-none decryption mode r u = (
   record {
@@ -148,7 +148,7 @@ HoldsLast-none decryption mode r u = (
 )
 
 -- one piece more
-pub HoldsLast-more : {decryption : List ℕ → List ℕ} {mode next last : Mode} {r s t u v w : Option (List ℕ)}
+pub HoldsLast-more : {decryption : List ℕ → List ℕ} {mode next last : BlockMode} {r s t u v w : Option (List ℕ)}
     {pending then : Option (List ℕ)} {bytes : List ℕ} {Succeeds : Type 0} → Succeeds
     → (so_far : HoldsLast decryption mode (passage_of r s u v) pending) → next ≡ mode_after mode so_far.q
     → Consumes s t bytes
@@ -182,7 +182,7 @@ HoldsLast-more {decryption} {mode} {r} {s} {t} {u} {v} {w} {pending} {then} succ
     )
 
 -- the blocks of a piece are as many as its bytes have
-pub length-piece : {decryption : List ℕ → List ℕ} {mode next : Mode} {bytes : List ℕ} {pending then v w : Option (List ℕ)}
+pub length-piece : {decryption : List ℕ → List ℕ} {mode next : BlockMode} {bytes : List ℕ} {pending then v w : Option (List ℕ)}
     {Succeeds : Type 0} (n : ℕ) → length bytes ≡ n → (piece : DeciphersPiece decryption bytes (stage_of mode pending v)
     (stage_of next then w) Succeeds)
     → 8 * length piece.q ≡ n
@@ -190,14 +190,14 @@ length-piece n count piece = sym (length-joined piece.q piece.blocks)
     ∙ ap length piece.whole ∙ count
 
 -- the block that was held back is missing, or there was none and nothing was written
-pub held_back : {decryption : List ℕ → List ℕ} {mode : Mode} {r s u v : Option (List ℕ)} (pending : Option (List ℕ))
+pub held_back : {decryption : List ℕ → List ℕ} {mode : BlockMode} {r s u v : Option (List ℕ)} (pending : Option (List ℕ))
     → (so_far : HoldsLast decryption mode (passage_of r s u v) pending) → IsHeldBack so_far.put (bytes_of pending)
 held_back None so_far = inl (sym (append-nil so_far.put) ∙ so_far.whole
     ∙ ap joined (so_far.none refl))
 held_back (Some block) so_far = inr (omega (arith, so_far.size))
 
 -- and after one piece more, perhaps not the whole of it
-pub held_back-more : {decryption : List ℕ → List ℕ} {mode : Mode} {r s u v w : Option (List ℕ)}
+pub held_back-more : {decryption : List ℕ → List ℕ} {mode : BlockMode} {r s u v w : Option (List ℕ)}
     {pending then : Option (List ℕ)} {blocks : List (List ℕ)} {Succeeds : Type 0}
     → (so_far : HoldsLast decryption mode (passage_of r s u v) pending)
     → (new : WritesPiece pending then blocks v w Succeeds)

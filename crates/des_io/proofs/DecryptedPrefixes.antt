@@ -7,14 +7,14 @@ use Rattle.des.specs.Blocks.{IsBlock}
 use Rattle.des_io.specs.CipherModes.{mode_after}
 use Rattle.des_io.specs.Streams.{Passage, passage_of, stage_of, joined, bytes_of, IsWithin, IsHeldBack, DeciphersPiece, HoldsLast, DeciphersPrefix, HoldsPrefix, BeginsPlain, DecryptsPrefix, DecryptsPartPrefix}
 use Rattle.des_io.specs.StreamFaults.{EndsInBlock, EndsInPart}
-use Rattle.des_io.specs.declared.mode.Mode.{Mode}
+use Rattle.des_io.specs.declared.mode.BlockMode.{BlockMode}
 use Rattle.des_io.specs.declared.padding.Padding.{Padding}
 use Rattle.des_io.proofs.DecryptedPieces.{held_back, held_back-more}
 use Rattle.des_io.proofs.EncryptedPieces.{joined-append, length-joined}
 use Rattle.des_io.proofs.ModesInPieces.{Deciphered-append}
 
 -- after a part of what was held back
-abbrev pub DeciphersPrefix-ended : {decryption : List ℕ → List ℕ} {mode : Mode} {r s u v w : Option (List ℕ)}
+abbrev pub DeciphersPrefix-ended : {decryption : List ℕ → List ℕ} {mode : BlockMode} {r s u v w : Option (List ℕ)}
     {pending : Option (List ℕ)} (put missing : List ℕ)
     → HoldsLast decryption mode (passage_of r s u v) pending → put ++ missing ≡ bytes_of pending → Appends v w put
     → DeciphersPrefix decryption mode (passage_of r s u w)
@@ -32,7 +32,7 @@ DeciphersPrefix-ended {r} {s} {u} {v} {w} put missing so_far is written = record
 }
 
 -- also if more was read
-abbrev pub DeciphersPrefix-more : {decryption : List ℕ → List ℕ} {mode : Mode} {r s t u v : Option (List ℕ)}
+abbrev pub DeciphersPrefix-more : {decryption : List ℕ → List ℕ} {mode : BlockMode} {r s t u v : Option (List ℕ)}
     (bytes : List ℕ)
     → DeciphersPrefix decryption mode (passage_of r s u v) → Consumes s t bytes
     → DeciphersPrefix decryption mode (passage_of r t u v)
@@ -53,7 +53,7 @@ DeciphersPrefix-more {r} {s} {t} bytes prefix read = record {
 -- ---- with the last block held back
 
 -- after bytes that were read and not written
-pub HoldsPrefix-read : {decryption : List ℕ → List ℕ} {mode : Mode} {limit : Option ℕ} {r s t u v : Option (List ℕ)}
+pub HoldsPrefix-read : {decryption : List ℕ → List ℕ} {mode : BlockMode} {limit : Option ℕ} {r s t u v : Option (List ℕ)}
     {pending : Option (List ℕ)} (bytes : List ℕ) → (so_far : HoldsLast decryption mode (passage_of r s u v) pending)
     → IsWithin limit (length so_far.q)
     → Consumes s t bytes
@@ -76,7 +76,7 @@ HoldsPrefix-read {r} {s} {t} {pending} bytes so_far within read = record {
 }
 
 -- after a piece that was written, perhaps not the whole of it
-pub HoldsPrefix-written : {decryption : List ℕ → List ℕ} {mode next last : Mode} {limit : Option ℕ}
+pub HoldsPrefix-written : {decryption : List ℕ → List ℕ} {mode next last : BlockMode} {limit : Option ℕ}
     {r s t u v w : Option (List ℕ)} {pending then : Option (List ℕ)} {bytes : List ℕ} {Succeeds : Type 0}
     → (so_far : HoldsLast decryption mode (passage_of r s u v) pending)
     → next ≡ mode_after mode so_far.q → Consumes s t bytes
@@ -112,26 +112,26 @@ HoldsPrefix-written {decryption} {mode} {r} {s} {t} {u} {v} {w} {pending} so_far
 
 -- what was written within a limit begins what was read: with the last block held back, or at the end without the
 -- padding
-pub record WithinPrefix (decryption : List ℕ → List ℕ) (mode : Mode) (padding : Padding) (limit : Option ℕ)
+pub record WithinPrefix (decryption : List ℕ → List ℕ) (mode : BlockMode) (padding : Padding) (limit : Option ℕ)
     (passage : Passage) : Type 0 where
   pub prefix : DeciphersPrefix decryption mode passage
   pub within : IsWithin limit (length prefix.q)
   pub pending : IsHeldBack prefix.put prefix.missing ⊎ BeginsPlain padding prefix.p prefix.rest prefix.put passage.read_to
 
-pub WithinPrefix-pending : {decryption : List ℕ → List ℕ} {mode : Mode} {padding : Padding} {limit : Option ℕ}
+pub WithinPrefix-pending : {decryption : List ℕ → List ℕ} {mode : BlockMode} {padding : Padding} {limit : Option ℕ}
     {passage : Passage}
     → HoldsPrefix decryption mode limit passage → WithinPrefix decryption mode padding limit passage
 WithinPrefix-pending holds = record
     { prefix = holds.prefix; within = holds.within; pending = inl holds.pending }
 
 -- of a stream
-pub DecryptsPrefix-within : {decryption : List ℕ → List ℕ} {mode : Mode} {padding : Padding} {limit : Option ℕ}
+pub DecryptsPrefix-within : {decryption : List ℕ → List ℕ} {mode : BlockMode} {padding : Padding} {limit : Option ℕ}
     {passage : Passage}
     → WithinPrefix decryption mode padding limit passage → DecryptsPrefix decryption mode padding passage
 DecryptsPrefix-within all = record { prefix = all.prefix; pending = all.pending }
 
 -- of a part
-pub DecryptsPartPrefix-within : {decryption : List ℕ → List ℕ} {mode : Mode} {padding : Padding} {limit : Option ℕ}
+pub DecryptsPartPrefix-within : {decryption : List ℕ → List ℕ} {mode : BlockMode} {padding : Padding} {limit : Option ℕ}
     {passage : Passage}
     → WithinPrefix decryption mode padding limit passage → DecryptsPartPrefix decryption mode padding limit passage
 DecryptsPartPrefix-within all = record
@@ -139,7 +139,7 @@ DecryptsPartPrefix-within all = record
 
 -- ---- the end within a block
 
-pub EndsInPart-read : {decryption : List ℕ → List ℕ} {mode : Mode} (limit : Option ℕ) {r s t u v : Option (List ℕ)}
+pub EndsInPart-read : {decryption : List ℕ → List ℕ} {mode : BlockMode} (limit : Option ℕ) {r s t u v : Option (List ℕ)}
     {pending : Option (List ℕ)} (bytes : List ℕ) (n : ℕ) → (so_far : HoldsLast decryption mode (passage_of r s u v) pending)
     → Consumes s t bytes → IsAtEnd t
     → length bytes ≡ n → n % 8 ≢ 0

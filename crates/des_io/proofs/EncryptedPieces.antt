@@ -10,7 +10,7 @@ use Rattle.des_io.specs.CipherModes.{Enciphered, mode_after}
 use Rattle.des_io.specs.PaddedBytes.{padded}
 use Rattle.des_io.specs.Streams.{Passage, passage_of, joined, EnciphersPiece, Encrypts, EncryptsPrefix}
 use Rattle.des_io.specs.StreamFaults.{EndsInBlock}
-use Rattle.des_io.specs.declared.mode.Mode.{Mode}
+use Rattle.des_io.specs.declared.mode.BlockMode.{BlockMode}
 use Rattle.des_io.specs.declared.padding.Padding.{Padding}
 use Rattle.des_io.specs.declared.padding.Padding.TheVariants.{Pkcs7, Iso7816, Zeros, Unpadded}
 use Rattle.des_io.proofs.ModesInPieces.{Enciphered-append, Enciphered-none, mode_after-append, mode_after-none}
@@ -29,7 +29,7 @@ length-joined (block ∷ blocks) are =
     ∙ omega arith
 
 -- blocks p were read and q, which is p enciphered, was written; the mode goes on from them
-pub record EncryptsBlocks (encryption : List ℕ → List ℕ) (mode next : Mode) (passage : Passage) : Type 0 where
+pub record EncryptsBlocks (encryption : List ℕ → List ℕ) (mode next : BlockMode) (passage : Passage) : Type 0 where
   pub p : List (List ℕ)
   pub q : List (List ℕ)
   pub read : Consumes passage.read_from passage.read_to (joined p)
@@ -38,7 +38,7 @@ pub record EncryptsBlocks (encryption : List ℕ → List ℕ) (mode next : Mode
   pub after : next ≡ mode_after mode q
   pub written : Appends passage.written_from passage.written_to (joined q)
 
-pub EncryptsBlocks-none : (encryption : List ℕ → List ℕ) (mode : Mode) (r u : Option (List ℕ))
+pub EncryptsBlocks-none : (encryption : List ℕ → List ℕ) (mode : BlockMode) (r u : Option (List ℕ))
     → EncryptsBlocks encryption mode mode (passage_of r r u u)
 EncryptsBlocks-none encryption mode r u = record {
   p = [];
@@ -51,7 +51,7 @@ EncryptsBlocks-none encryption mode r u = record {
 }
 
 -- one piece more
-pub EncryptsBlocks-more : {encryption : List ℕ → List ℕ} {mode next last : Mode} {r s t u v w : Option (List ℕ)}
+pub EncryptsBlocks-more : {encryption : List ℕ → List ℕ} {mode next last : BlockMode} {r s t u v w : Option (List ℕ)}
     {bytes : List ℕ} {Succeeds : Type 0} → Succeeds
     → EncryptsBlocks encryption mode next (passage_of r s u v) → Consumes s t bytes
     → EnciphersPiece encryption next last bytes v w Succeeds
@@ -76,7 +76,7 @@ padded-after : (padding : Padding) (p : List (List ℕ)) (bytes : List ℕ) → 
 padded-after padding p bytes are = padded-append padding (joined p) bytes (omega (arith, length-joined p are))
 
 -- the last piece, of bytes with their padding
-pub Encrypts-last : {encryption : List ℕ → List ℕ} {mode next last : Mode} {padding : Padding}
+pub Encrypts-last : {encryption : List ℕ → List ℕ} {mode next last : BlockMode} {padding : Padding}
     {r s t u v w : Option (List ℕ)} (bytes : List ℕ) {Succeeds : Type 0} → Succeeds
     → EncryptsBlocks encryption mode next (passage_of r s u v) → Consumes s t bytes
     → EnciphersPiece encryption next last (padded padding bytes) v w Succeeds
@@ -99,7 +99,7 @@ Encrypts-last {encryption} {mode} {padding} {r} {s} {t} {u} {v} {w} bytes succee
 -- ---- prefixes
 
 -- after bytes that were read and not written
-pub EncryptsPrefix-read : {encryption : List ℕ → List ℕ} {mode next : Mode} {padding : Padding}
+pub EncryptsPrefix-read : {encryption : List ℕ → List ℕ} {mode next : BlockMode} {padding : Padding}
     {r s t u v : Option (List ℕ)} (bytes : List ℕ)
     → EncryptsBlocks encryption mode next (passage_of r s u v) → Consumes s t bytes
     → EncryptsPrefix encryption mode padding (passage_of r t u v)
@@ -119,7 +119,7 @@ EncryptsPrefix-read {r} {s} {t} bytes so_far read = record {
 }
 
 -- after a piece that was written, perhaps not the whole of it
-pub EncryptsPrefix-written : {encryption : List ℕ → List ℕ} {mode next last : Mode} {padding : Padding}
+pub EncryptsPrefix-written : {encryption : List ℕ → List ℕ} {mode next last : BlockMode} {padding : Padding}
     {r s t u v w : Option (List ℕ)} (bytes : List ℕ) {prefix : List ℕ} (rest : List ℕ) {Succeeds : Type 0}
     → EncryptsBlocks encryption mode next (passage_of r s u v) → Consumes s t bytes
     → EnciphersPiece encryption next last prefix v w Succeeds
@@ -174,7 +174,7 @@ past-padded padding bytes n count past =
     let bare : length (padded Unpadded bytes) ≡ n = rw (unpadded-past padding bytes n count past) at count in
     ap (λ m. m % 8) (ap length (sym (append-nil bytes)) ∙ bare)
 
-pub EndsInBlock-padded : {encryption : List ℕ → List ℕ} {mode next : Mode} (padding : Padding)
+pub EndsInBlock-padded : {encryption : List ℕ → List ℕ} {mode next : BlockMode} (padding : Padding)
     {r s t u v : Option (List ℕ)} (bytes : List ℕ) (n : ℕ)
     → EncryptsBlocks encryption mode next (passage_of r s u v) → Consumes s t bytes → IsAtEnd t
     → length (padded padding bytes) ≡ n

@@ -8,11 +8,11 @@ use Rattle.des.specs.Blocks.{IsBlock}
 use Rattle.des_io.specs.CipherModes.{mode_after}
 use Rattle.des_io.specs.Streams.{joined, Skips}
 use Rattle.des_io.specs.StreamFaults.{EndsBefore}
-use Rattle.des_io.specs.declared.mode.Mode.{Mode}
+use Rattle.des_io.specs.declared.mode.BlockMode.{BlockMode}
 use Rattle.des_io.proofs.EncryptedPieces.{joined-append, length-joined}
 use Rattle.des_io.proofs.ModesInPieces.{mode_after-append, mode_after-none}
 
-pub Skips-none : (mode : Mode) (r : Option (List ℕ)) (count : ℕ) → count ≡ 0 → Skips mode mode count r r
+pub Skips-none : (mode : BlockMode) (r : Option (List ℕ)) (count : ℕ) → count ≡ 0 → Skips mode mode count r r
 Skips-none mode r count none = record {
   q = [];
   read = Consumes-nil r;
@@ -22,7 +22,7 @@ Skips-none mode r count none = record {
 }
 
 -- one piece more
-pub Skips-more : {mode next last : Mode} {m n : ℕ} {r s t : Option (List ℕ)} (bytes : List ℕ) (more : List (List ℕ))
+pub Skips-more : {mode next last : BlockMode} {m n : ℕ} {r s t : Option (List ℕ)} (bytes : List ℕ) (more : List (List ℕ))
     → Skips mode next m r s
     → Consumes s t bytes → joined more ≡ bytes → All IsBlock more → last ≡ mode_after next more → m + length more ≡ n
     → Skips mode last n r t
@@ -36,7 +36,7 @@ Skips-more {mode} {m} {r} {s} {t} bytes more so_far read whole are after size = 
 }
 
 -- the end before the part
-pub EndsBefore-read : {mode next : Mode} {m : ℕ} (n : ℕ) {count : ℕ} {r s t : Option (List ℕ)} (bytes : List ℕ)
+pub EndsBefore-read : {mode next : BlockMode} {m : ℕ} (n : ℕ) {count : ℕ} {r s t : Option (List ℕ)} (bytes : List ℕ)
     → Skips mode next m r s → Consumes s t bytes
     → IsAtEnd t → length bytes ≡ n → 8 * m + n < 8 * count → EndsBefore count r t
 EndsBefore-read n {r} {s} {t} bytes so_far read end size short = record {

@@ -9,7 +9,7 @@ use Rattle.des.specs.Blocks.{IsBlock}
 use Rattle.des_io.specs.PaddedBytes.{padded, taken_off}
 use Rattle.des_io.specs.CipherModes.{Deciphered}
 use Rattle.des_io.specs.Streams.{joined, IsWithin, Passage}
-use Rattle.des_io.specs.declared.mode.Mode.{Mode}
+use Rattle.des_io.specs.declared.mode.BlockMode.{BlockMode}
 use Rattle.des_io.specs.declared.padding.Padding.{Padding}
 use Rattle.des_io.specs.declared.padding.Padding.TheVariants.{Unpadded}
 use Rattle.des_io.specs.declared.error.StreamError.{StreamError}
@@ -25,7 +25,7 @@ pub record EndsInBlock (read_from read_to : Option (List ℕ)) (past : ℕ) : Ty
 
 -- all was read, blocks q, and p is q deciphered; no bytes are p with the padding that is taken off,
 -- and all but the last block of p was written
-pub record IsWronglyPadded (decryption : List ℕ → List ℕ) (mode : Mode) (padding : Padding) (passage : Passage)
+pub record IsWronglyPadded (decryption : List ℕ → List ℕ) (mode : BlockMode) (padding : Padding) (passage : Passage)
     : Type 0 where
   pub q : List (List ℕ)
   pub p : List (List ℕ)
@@ -89,7 +89,7 @@ EndsStream padding last written_from written_to (Err fault) =
     × Appends written_from written_to (take k plain))
 
 -- what a fault says of a decryption
-abbrev pub FailsToDecrypt : (fault : StreamError) (decryption : List ℕ → List ℕ) (mode : Mode) (padding : Padding)
+abbrev pub FailsToDecrypt : (fault : StreamError) (decryption : List ℕ → List ℕ) (mode : BlockMode) (padding : Padding)
     (passage : Passage) → Type 0
 FailsToDecrypt (Length past) decryption mode padding passage = EndsInBlock passage.read_from passage.read_to past
 FailsToDecrypt Start decryption mode padding passage = ⊥
@@ -115,7 +115,7 @@ FailsToSkip _ count read_from read_to = ⊥
 -- what a fault says of a part: the input has no block where it begins; its padding is wrong, and it
 -- has a block, and no more than its limit; it ends within a block of the part; or the reader or the
 -- writer failed
-abbrev pub FailsInPart : (fault : StreamError) (decryption : List ℕ → List ℕ) (mode : Mode) (padding : Padding)
+abbrev pub FailsInPart : (fault : StreamError) (decryption : List ℕ → List ℕ) (mode : BlockMode) (padding : Padding)
     (limit : Option ℕ) (passage : Passage) → Type 0
 FailsInPart Start decryption mode padding limit passage =
     Consumes passage.read_from passage.read_to [] × IsAtEnd passage.read_to

@@ -5,7 +5,7 @@ use Rattle.std.specs.Io.KnownBytes.{Consumes, Appends, IsAtEnd}
 use Rattle.des.specs.Blocks.{IsBlock}
 use Rattle.des_io.specs.PaddedBytes.{padded, taken_off}
 use Rattle.des_io.specs.CipherModes.{Enciphered, Deciphered, mode_after}
-use Rattle.des_io.specs.declared.mode.Mode.{Mode}
+use Rattle.des_io.specs.declared.mode.BlockMode.{BlockMode}
 use Rattle.des_io.specs.declared.padding.Padding.{Padding}
 use Rattle.des_io.specs.declared.padding.Padding.TheVariants.{Unpadded}
 
@@ -42,7 +42,7 @@ passage_of read_from read_to written_from written_to = record {
 -- ---- encryption
 
 -- the bytes that were read are p with their padding, and q, which is p enciphered, was written
-pub record Encrypts (encryption : List ℕ → List ℕ) (mode : Mode) (padding : Padding) (passage : Passage)
+pub record Encrypts (encryption : List ℕ → List ℕ) (mode : BlockMode) (padding : Padding) (passage : Passage)
     : Type 0 where
   pub plain : List ℕ
   pub p : List (List ℕ)
@@ -56,7 +56,7 @@ pub record Encrypts (encryption : List ℕ → List ℕ) (mode : Mode) (padding 
 -- what was written begins the ciphertext of what was read: the bytes that were read begin with blocks
 -- p, or, only if the input is at its end, those bytes with their padding do; and the bytes that were
 -- written begin q, which is p enciphered
-pub record EncryptsPrefix (encryption : List ℕ → List ℕ) (mode : Mode) (padding : Padding) (passage : Passage)
+pub record EncryptsPrefix (encryption : List ℕ → List ℕ) (mode : BlockMode) (padding : Padding) (passage : Passage)
     : Type 0 where
   pub bytes : List ℕ
   pub p : List (List ℕ)
@@ -73,7 +73,7 @@ pub record EncryptsPrefix (encryption : List ℕ → List ℕ) (mode : Mode) (pa
 
 -- whole blocks p, which the bytes are, are q enciphered, of which the writer has a prefix, or at
 -- success all
-pub record EnciphersPiece (encryption : List ℕ → List ℕ) (mode next : Mode) (bytes : List ℕ)
+pub record EnciphersPiece (encryption : List ℕ → List ℕ) (mode next : BlockMode) (bytes : List ℕ)
     (written_from written_to : Option (List ℕ)) (Succeeds : Type 0) : Type 0 where
   pub p : List (List ℕ)
   pub q : List (List ℕ)
@@ -108,11 +108,11 @@ pub record WritesPiece (pending next : Option (List ℕ)) (blocks : List (List �
 -- how far a decryption has come: the mode of the block that follows, the block that is held back, and
 -- what the writer holds
 pub record Stage : Type 0 where
-  pub mode : Mode
+  pub mode : BlockMode
   pub pending : Option (List ℕ)
   pub written : Option (List ℕ)
 
-abbrev pub stage_of : (mode : Mode) (pending written : Option (List ℕ)) → Stage
+abbrev pub stage_of : (mode : BlockMode) (pending written : Option (List ℕ)) → Stage
 stage_of mode pending written = record { mode = mode; pending = pending; written = written }
 
 -- whole blocks q, which the bytes are, are p deciphered, of which the writer has what `WritesPiece`
@@ -130,7 +130,7 @@ pub record DeciphersPiece (decryption : List ℕ → List ℕ) (bytes : List ℕ
 
 -- blocks q were read, and p is q deciphered; bytes were written that with the padding that is taken
 -- off are p, and whole blocks
-pub record Decrypts (decryption : List ℕ → List ℕ) (mode : Mode) (padding : Padding) (passage : Passage)
+pub record Decrypts (decryption : List ℕ → List ℕ) (mode : BlockMode) (padding : Padding) (passage : Passage)
     : Type 0 where
   pub q : List (List ℕ)
   pub p : List (List ℕ)
@@ -143,7 +143,7 @@ pub record Decrypts (decryption : List ℕ → List ℕ) (mode : Mode) (padding 
   pub written : Appends passage.written_from passage.written_to plain
 
 -- blocks q were read, and p, which is q deciphered, was written but for its last block
-pub record HoldsLast (decryption : List ℕ → List ℕ) (mode : Mode) (passage : Passage) (last : Option (List ℕ))
+pub record HoldsLast (decryption : List ℕ → List ℕ) (mode : BlockMode) (passage : Passage) (last : Option (List ℕ))
     : Type 0 where
   pub q : List (List ℕ)
   pub p : List (List ℕ)
@@ -169,7 +169,7 @@ IsWithin None count = ⊤
 IsWithin (Some limit) count = count ≤ limit
 
 -- the same of a stream that ends where the reader does, or at a limit in blocks
-pub record HoldsPart (decryption : List ℕ → List ℕ) (mode : Mode) (limit : Option ℕ) (passage : Passage)
+pub record HoldsPart (decryption : List ℕ → List ℕ) (mode : BlockMode) (limit : Option ℕ) (passage : Passage)
     (last : Option (List ℕ)) : Type 0 where
   pub holds : HoldsLast decryption mode passage last
   pub ends : IsAtEnd passage.read_to ⊎ (limit ≡ Some (length holds.q))
@@ -177,7 +177,7 @@ pub record HoldsPart (decryption : List ℕ → List ℕ) (mode : Mode) (limit :
 
 -- what was written begins what was read, deciphered: bytes were read that begin with blocks q, and
 -- bytes were written that begin p, which is q deciphered
-pub record DeciphersPrefix (decryption : List ℕ → List ℕ) (mode : Mode) (passage : Passage) : Type 0 where
+pub record DeciphersPrefix (decryption : List ℕ → List ℕ) (mode : BlockMode) (passage : Passage) : Type 0 where
   pub q : List (List ℕ)
   pub p : List (List ℕ)
   pub rest : List ℕ
@@ -190,7 +190,7 @@ pub record DeciphersPrefix (decryption : List ℕ → List ℕ) (mode : Mode) (p
   pub written : Appends passage.written_from passage.written_to put
 
 -- the same within a limit in blocks, if there is one, with the last block held back
-pub record HoldsPrefix (decryption : List ℕ → List ℕ) (mode : Mode) (limit : Option ℕ) (passage : Passage)
+pub record HoldsPrefix (decryption : List ℕ → List ℕ) (mode : BlockMode) (limit : Option ℕ) (passage : Passage)
     : Type 0 where
   pub prefix : DeciphersPrefix decryption mode passage
   pub within : IsWithin limit (length prefix.q)
@@ -209,7 +209,7 @@ pub record BeginsPlain (padding : Padding) (p : List (List ℕ)) (rest put : Lis
 
 -- what was written begins what was read, deciphered, with the last block held back, or, only if
 -- the input is at its end, without the padding
-pub record DecryptsPrefix (decryption : List ℕ → List ℕ) (mode : Mode) (padding : Padding) (passage : Passage)
+pub record DecryptsPrefix (decryption : List ℕ → List ℕ) (mode : BlockMode) (padding : Padding) (passage : Passage)
     : Type 0 where
   pub prefix : DeciphersPrefix decryption mode passage
   pub pending : IsHeldBack prefix.put prefix.missing
@@ -218,7 +218,7 @@ pub record DecryptsPrefix (decryption : List ℕ → List ℕ) (mode : Mode) (pa
 -- ---- parts
 
 -- `count` blocks were read, and the blocks after them go on from them
-pub record Skips (mode next : Mode) (count : ℕ) (read_from read_to : Option (List ℕ)) : Type 0 where
+pub record Skips (mode next : BlockMode) (count : ℕ) (read_from read_to : Option (List ℕ)) : Type 0 where
   pub q : List (List ℕ)
   pub read : Consumes read_from read_to (joined q)
   pub blocks : All IsBlock q
@@ -233,7 +233,7 @@ IsEndOrMore false bytes read_to = length bytes ≡ 1
 -- a part was decrypted up to the end of the input or to a limit in blocks, if there is one. If
 -- nothing follows it, it has a block and its padding was taken off, and if more follows it has no
 -- padding; `taken` is what was taken off
-pub record DecryptsPart (decryption : List ℕ → List ℕ) (mode : Mode) (padding : Padding) (limit : Option ℕ)
+pub record DecryptsPart (decryption : List ℕ → List ℕ) (mode : BlockMode) (padding : Padding) (limit : Option ℕ)
     (passage : Passage) : Type 0 where
   pub taken : Padding
   pub middle : Option (List ℕ)
@@ -255,7 +255,7 @@ pub record IsFollowed (limit : Option ℕ) (count : ℕ) (rest : List ℕ) (read
 -- what was written begins what was read, deciphered, within a limit in blocks, if there is one:
 -- with the last block held back; or, only if the input is at its end, without the padding; or,
 -- only if more follows the part, with its last block
-pub record DecryptsPartPrefix (decryption : List ℕ → List ℕ) (mode : Mode) (padding : Padding) (limit : Option ℕ)
+pub record DecryptsPartPrefix (decryption : List ℕ → List ℕ) (mode : BlockMode) (padding : Padding) (limit : Option ℕ)
     (passage : Passage) : Type 0 where
   pub prefix : DeciphersPrefix decryption mode passage
   pub within : IsWithin limit (length prefix.q)

@@ -8,7 +8,7 @@ ghost use Rattle.des_io.specs.Streams.{HoldsPart, HoldsPrefix, Decrypts, Decrypt
 ghost use Rattle.des_io.specs.StreamFaults.{FailsBefore, EndsStream, FailsToDecrypt, IsOfWriting};
 
 use crate::error::{StreamError, without_end};
-use crate::mode::Mode;
+use crate::mode::BlockMode;
 use crate::padding::{Padding, count_before};
 use crate::pieces::{fill_prefix, write_whole};
 use crate::transformation::Transformation;
@@ -51,7 +51,7 @@ fn write_piece<W: Write>(
 // are deciphered, but for the last block, which is then held back.
 fn decrypt_piece<W: Write, C: ManyBlocks>(
     cipher: &C,
-    mode: &mut Mode,
+    mode: &mut BlockMode,
     pending: &mut Option<[u8; 8]>,
     writer: &mut W,
     bytes: &mut [u8],
@@ -100,7 +100,7 @@ fn left_after(left: Option<u64>, count: usize) -> Option<u64>
 /// last block, and the reader may have gone further.
 pub fn decrypt_blocks<R: Read, W: Write, C: ManyBlocks>(
     cipher: &C,
-    mode: Mode,
+    mode: BlockMode,
     limit: Option<u64>,
     reader: &mut R,
     writer: &mut W,

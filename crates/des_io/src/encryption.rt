@@ -6,7 +6,7 @@ ghost use Rattle.des_io.specs.Streams.{passage_of, EnciphersPiece, Encrypts, Enc
 ghost use Rattle.des_io.specs.StreamFaults.{FailsToEncrypt, IsOfWriting};
 
 use crate::error::{StreamError, without_end};
-use crate::mode::Mode;
+use crate::mode::BlockMode;
 use crate::padding::pad;
 use crate::pieces::{fill, write_whole};
 use crate::transformation::Transformation;
@@ -16,7 +16,7 @@ use std::io::{Read, Write};
 // Encrypts bytes that are whole blocks, and writes them.
 fn encrypt_piece<W: Write, C: ManyBlocks>(
     cipher: &C,
-    mode: &mut Mode,
+    mode: &mut BlockMode,
     writer: &mut W,
     bytes: &mut [u8],
 ) -> Result<(), StreamError>

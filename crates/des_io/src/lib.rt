@@ -27,7 +27,7 @@ pub mod transformation;
 pub use decryption::decrypt_stream;
 pub use encryption::encrypt_stream;
 pub use error::StreamError;
-pub use mode::Mode;
+pub use mode::BlockMode;
 pub use padding::Padding;
 pub use part::{decrypt_part, skip_blocks};
 pub use stream_cipher::apply_stream;

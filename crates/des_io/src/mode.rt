@@ -11,7 +11,7 @@ use des_fast::many::ManyBlocks;
 
 /// How blocks follow each other (FIPS 81).
 #[derive(Clone, Copy)]
-pub enum Mode {
+pub enum BlockMode {
     /// Electronic codebook: each block by itself.
     Ecb,
     /// Cipher block chaining, with the block before the first: the initialization vector, or the
@@ -19,7 +19,7 @@ pub enum Mode {
     Cbc([u8; 8]),
 }
 
-impl Mode {
+impl BlockMode {
     /// Goes on to what follows ciphertext blocks.
     pub fn pass(&mut self, blocks: &[[u8; 8]])
         ensures blocks { All IsBlock blocks.now }
@@ -27,8 +27,8 @@ impl Mode {
     {
         are_blocks(blocks);
         match self {
-            Mode::Ecb => {}
-            Mode::Cbc(iv) => *iv = cbc::next_vector(iv, blocks),
+            BlockMode::Ecb => {}
+            BlockMode::Cbc(iv) => *iv = cbc::next_vector(iv, blocks),
         }
     }
 
@@ -39,8 +39,8 @@ impl Mode {
         ensures after { self.new ≡ mode_after self.old blocks.new }
     {
         match self {
-            Mode::Ecb => cipher.encrypt_many(blocks),
-            Mode::Cbc(iv) => {
+            BlockMode::Ecb => cipher.encrypt_many(blocks),
+            BlockMode::Cbc(iv) => {
                 cbc::encrypt(cipher, iv, blocks);
                 *iv = cbc::next_vector(iv, blocks);
             }
@@ -54,8 +54,8 @@ impl Mode {
         ensures after { self.new ≡ mode_after self.old blocks.old }
     {
         match self {
-            Mode::Ecb => cipher.decrypt_many(blocks),
-            Mode::Cbc(iv) => {
+            BlockMode::Ecb => cipher.decrypt_many(blocks),
+            BlockMode::Cbc(iv) => {
                 let next = cbc::next_vector(iv, blocks);
                 cipher.decrypt_cbc(iv, blocks);
                 *iv = next;

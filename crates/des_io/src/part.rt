@@ -7,7 +7,7 @@ ghost use Rattle.des_io.specs.StreamFaults.{FailsToSkip, FailsInPart, IsOfReadin
 
 use crate::decryption::{decrypt_blocks, finish, next_count};
 use crate::error::{StreamError, without_end};
-use crate::mode::Mode;
+use crate::mode::BlockMode;
 use crate::padding::Padding;
 use crate::pieces::{fill, fill_prefix};
 use crate::transformation::Transformation;
@@ -20,11 +20,11 @@ use std::io::{Read, Write};
 /// The error is `Start` if there are fewer blocks, and `Read` if the reader failed, which may
 /// then be anywhere in them.
 pub fn skip_blocks<R: Read>(
-    mode: Mode,
+    mode: BlockMode,
     count: u64,
     reader: &mut R,
     buffer: &mut [[u8; 8]],
-) -> Result<Mode, StreamError>
+) -> Result<BlockMode, StreamError>
     requires capacity { 0 < length buffer.old }
     ensures skips { IfOk result (λ next. Skips mode next count
         (R.remaining reader.old) (R.remaining reader.new)) }

@@ -1,6 +1,6 @@
 //! What is done to a stream of bytes.
 
-use crate::mode::Mode;
+use crate::mode::BlockMode;
 use crate::padding::Padding;
 
 /// A cipher, the mode that it is used in, and the padding of the bytes.
@@ -9,7 +9,7 @@ pub struct Transformation<'a, C> {
     /// The cipher, with its key.
     pub cipher: &'a C,
     /// How blocks follow each other, and what stands before the first.
-    pub mode: Mode,
+    pub mode: BlockMode,
     /// How the bytes are made whole blocks.
     pub padding: Padding,
 }

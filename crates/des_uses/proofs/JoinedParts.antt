@@ -12,7 +12,7 @@ use Rattle.des_io.specs.StreamFaults.{FailsInPart}
 use Rattle.des_io.specs.declared.error.StreamError.{StreamError}
 use Rattle.des_io.specs.declared.error.StreamError.TheVariants.{Start}
 use Rattle.std.specs.Prelude.{Result, Ok, Err, IfOk, IfErr}
-use Rattle.des_io.specs.declared.mode.Mode.{Mode}
+use Rattle.des_io.specs.declared.mode.BlockMode.{BlockMode}
 use Rattle.des_io.specs.declared.padding.Padding.{Padding}
 use Rattle.des_io.specs.declared.padding.Padding.TheVariants.{Unpadded}
 use Rattle.des_io.proofs.EncryptedPieces.{joined-append, length-joined}
@@ -76,7 +76,7 @@ pub record IsFirstPart (all : List ℕ) (n : ℕ) (taken : Padding) (q : List (L
   pub count : length q ≡ n
   pub whole : taken ≡ Unpadded
 
-first_part : (decryption : List ℕ → List ℕ) (mode : Mode) (padding : Padding) (n : ℕ) (r t u v : Option (List ℕ))
+first_part : (decryption : List ℕ → List ℕ) (mode : BlockMode) (padding : Padding) (n : ℕ) (r t u v : Option (List ℕ))
     (all : List ℕ)
     → r ≡ Some all → 8 * n + 1 ≤ length all
     → (first : DecryptsPart decryption mode padding (Some n) (passage_of r t u v))
@@ -114,7 +114,7 @@ ends_alone : (r : Option (List ℕ)) (count : ℕ) → IsAtEnd r ⊎ (None ≡ S
 ends_alone r count (inl end) = end
 ends_alone r count (inr is) = cc
 
-last_part : (decryption : List ℕ → List ℕ) (mode : Mode) (padding : Padding) (r t u v : Option (List ℕ)) (all : List ℕ)
+last_part : (decryption : List ℕ → List ℕ) (mode : BlockMode) (padding : Padding) (r t u v : Option (List ℕ)) (all : List ℕ)
     → r ≡ Some all
     → (last : DecryptsPart decryption mode padding None (passage_of r t u v))
     → IsLastPart all padding last.taken last.part.q last.rest t
@@ -137,7 +137,7 @@ last_part decryption mode padding r t u v all is last =
 -- ---- both
 
 -- a list of more than n blocks, of which the first n were read
-more_blocks : (mode next : Mode) (n : ℕ) (r s t : Option (List ℕ)) (all left : List ℕ) (padding taken : Padding)
+more_blocks : (mode next : BlockMode) (n : ℕ) (r s t : Option (List ℕ)) (all left : List ℕ) (padding taken : Padding)
     (q : List (List ℕ)) (rest : List ℕ)
     → (skips : Skips mode next n r s) → all ≡ joined skips.q ++ left → All IsBlock q
     → IsLastPart left padding taken q rest t
@@ -153,7 +153,7 @@ more_blocks mode next n r s t all left padding taken q rest skips split blocks l
     )
 
 -- the first part and the blocks after it, of the same bytes, are the whole
-pub Decrypts-joined : (decryption : List ℕ → List ℕ) (mode next : Mode) (padding : Padding) (n : ℕ)
+pub Decrypts-joined : (decryption : List ℕ → List ℕ) (mode next : BlockMode) (padding : Padding) (n : ℕ)
     (r t s m e u v w : Option (List ℕ))
     (all : List ℕ) → r ≡ Some all → s ≡ Some all → DecryptsPart decryption mode padding (Some n) (passage_of r t u v)
     → Skips mode next n s m
@@ -186,7 +186,7 @@ Decrypts-joined decryption mode next padding n r t s m e u v w all first_is seco
             ∙ sym (joined-append skips.q two.q)) read;
         blocks = All-append IsBlock skips.q two.q skips.blocks two.blocks;
         deciphered = Deciphered-append decryption mode skips.q one.p two.q two.p deciphered
-            (subst (λ (from : Mode). Deciphered decryption from two.q two.p) skips.after two.deciphered);
+            (subst (λ (from : BlockMode). Deciphered decryption from two.q two.p) skips.after two.deciphered);
         whole = joined-append one.p two.p
             ∙ ap₂ ◌++◌ plain (two.whole ∙ ap (λ taken. padded (taken_off taken) two.plain) after.padded)
             ∙ sym (padded-append (taken_off padding) one.plain two.plain whole_blocks);
@@ -203,7 +203,7 @@ Decrypts-joined decryption mode next padding n r t s m e u v w all first_is seco
     )
 
 -- so it is if the last call returns so
-pub joined_done : (result : Result (Unit {0}) StreamError) {decryption : List ℕ → List ℕ} {mode next : Mode}
+pub joined_done : (result : Result (Unit {0}) StreamError) {decryption : List ℕ → List ℕ} {mode next : BlockMode}
     {padding : Padding} {n : ℕ} {r t s m u v : Option (List ℕ)} (e w : Option (List ℕ))
     → DecryptsPart decryption mode padding (Some n) (passage_of r t u v) → Skips mode next n s m
     → IfOk result (λ _. DecryptsPart decryption next padding None (passage_of m e v w))
@@ -217,7 +217,7 @@ joined_done (Err fault) e w first skips last = tt
 -- ---- no second part
 
 -- the input has n blocks and no more
-pub start_last : (result : Result (Unit {0}) StreamError) (decryption : List ℕ → List ℕ) {mode next : Mode}
+pub start_last : (result : Result (Unit {0}) StreamError) (decryption : List ℕ → List ℕ) {mode next : BlockMode}
     (padding : Padding) {n : ℕ} {s m : Option (List ℕ)} (r e v w : Option (List ℕ)) → Skips mode next n s m
     → IfErr result (λ fault. FailsInPart fault decryption next padding None (passage_of m e v w))
     → IfErr result (λ fault. (all : List ℕ) → r ≡ Some all → s ≡ Some all → fault ≡ Start → length all ≤ 8 * n)

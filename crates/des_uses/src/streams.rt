@@ -10,12 +10,12 @@ ghost use Rattle.des_io.specs.Streams.{Skips, DecryptsPart, DecryptsPartPrefix};
 ghost use Rattle.des_io.specs.StreamFaults.{FailsToEncrypt, FailsToDecrypt, FailsToSkip};
 ghost use Rattle.des_io.specs.StreamFaults.{FailsInPart};
 ghost use Rattle.des_io.specs.declared.error.StreamError.TheVariants.{Start, Padding as WrongPadding};
-ghost use Rattle.des_io.specs.declared.mode.Mode.TheVariants.{Cbc};
+ghost use Rattle.des_io.specs.declared.mode.BlockMode.TheVariants.{Cbc};
 ghost use Rattle.des_io.specs.declared.padding.Padding.TheVariants.{Pkcs7, Zeros, Unpadded};
 
 use des_fast::many::ManyBlocks;
 use des_io::{
-    Mode, Padding, StreamError, Transformation, decrypt_part, decrypt_stream, encrypt_stream,
+    BlockMode, Padding, StreamError, Transformation, decrypt_part, decrypt_stream, encrypt_stream,
     skip_blocks,
 };
 use std::io::{Read, Write};
@@ -39,7 +39,7 @@ pub fn encrypt<R: Read, W: Write, C: ManyBlocks>(
 {
     let transformation = Transformation {
         cipher,
-        mode: Mode::Cbc(iv),
+        mode: BlockMode::Cbc(iv),
         padding: Padding::Pkcs7,
     };
     encrypt_stream(&transformation, reader, writer, &mut [[0; 8]; 512])
@@ -65,20 +65,20 @@ pub fn decrypt<R: Read, W: Write, C: ManyBlocks>(
 {
     let transformation = Transformation {
         cipher,
-        mode: Mode::Cbc(iv),
+        mode: BlockMode::Cbc(iv),
         padding: Padding::Pkcs7,
     };
     decrypt_stream(&transformation, reader, writer, &mut [[0; 8]; 512])
 }
 
 /// Reads the first `from` blocks of what `encrypt` wrote, and gives how the part goes on from them.
-pub fn begin_part<R: Read>(iv: [u8; 8], from: u64, reader: &mut R) -> Result<Mode, StreamError>
+pub fn begin_part<R: Read>(iv: [u8; 8], from: u64, reader: &mut R) -> Result<BlockMode, StreamError>
     ensures skips { IfOk result (λ next. Skips (Cbc iv) next from
         (R.remaining reader.old) (R.remaining reader.new)) }
     ensures fault { IfErr result (λ fault. FailsToSkip fault from
         (R.remaining reader.old) (R.remaining reader.new)) }
 {
-    skip_blocks(Mode::Cbc(iv), from, reader, &mut [[0; 8]; 512])
+    skip_blocks(BlockMode::Cbc(iv), from, reader, &mut [[0; 8]; 512])
 }
 
 /// Encrypts by CBC what a reader gives, with zeros up to a whole block.
@@ -94,7 +94,7 @@ pub fn encrypt_with_zeros<R: Read, W: Write, C: ManyBlocks>(
 {
     let transformation = Transformation {
         cipher,
-        mode: Mode::Cbc(iv),
+        mode: BlockMode::Cbc(iv),
         padding: Padding::Zeros,
     };
     encrypt_stream(&transformation, reader, writer, &mut [[0; 8]; 512])
@@ -114,7 +114,7 @@ pub fn decrypt_with_zeros<R: Read, W: Write, C: ManyBlocks>(
 {
     let transformation = Transformation {
         cipher,
-        mode: Mode::Cbc(iv),
+        mode: BlockMode::Cbc(iv),
         padding: Padding::Zeros,
     };
     decrypt_stream(&transformation, reader, writer, &mut [[0; 8]; 512])
@@ -123,7 +123,7 @@ pub fn decrypt_with_zeros<R: Read, W: Write, C: ManyBlocks>(
 /// Decrypts a part of `count` blocks, or of fewer if the reader ends before.
 pub fn decrypt_blocks_of_part<R: Read, W: Write, C: ManyBlocks>(
     cipher: &C,
-    mode: Mode,
+    mode: BlockMode,
     count: u64,
     reader: &mut R,
     writer: &mut W,
@@ -156,7 +156,7 @@ pub fn decrypt_blocks_of_part<R: Read, W: Write, C: ManyBlocks>(
 /// Decrypts all that follows the blocks that `begin_part` read.
 pub fn decrypt_rest<R: Read, W: Write, C: ManyBlocks>(
     cipher: &C,
-    mode: Mode,
+    mode: BlockMode,
     reader: &mut R,
     writer: &mut W,
 ) -> Result<(), StreamError>
@@ -202,7 +202,7 @@ pub fn decrypt_in_two_parts<R: Read, S: Read, W: Write, C: ManyBlocks>(
         → R.remaining first.old ≡ Some bytes → S.remaining second.old ≡ Some bytes
         → fault ≡ Start → length bytes ≤ 8 * from) }
 {
-    decrypt_blocks_of_part(cipher, Mode::Cbc(iv), from, first, writer)?;
+    decrypt_blocks_of_part(cipher, BlockMode::Cbc(iv), from, first, writer)?;
     let mode = begin_part(iv, from, second)?;
     decrypt_rest(cipher, mode, second, writer)
 }

@@ -5,7 +5,7 @@ ghost use Rattle.des_lines.specs.Keys.{IsKeySize};
 ghost use Rattle.des_arguments.specs.StreamRequests.{key_size_of, blocks_before as blocks_before_of, source_of, begin_of as begin_by, heading_of as heading_by, vectors_of as vectors_by, IsJobOf};
 ghost use Rattle.des_arguments.specs.StreamRequests.{takes_vector as takes_vector_by, is_stream as is_stream_by, takes_part as takes_part_by};
 
-use des_io::{Mode, Padding};
+use des_io::{BlockMode, Padding};
 use des_lines::source::Source;
 use des_passwords::Derivation;
 
@@ -188,7 +188,7 @@ pub struct Job<'a> {
     pub key: &'a [u8],
     pub mode: CipherMode,
     /// How the first block that is read goes on: by itself in ECB, else from a vector.
-    pub begin: Mode,
+    pub begin: BlockMode,
     /// How many of the blocks that are passed over are the vector: one or none.
     pub vectors: u64,
     pub padding: Padding,
@@ -230,14 +230,14 @@ pub fn blocks_before(request: &StreamRequest) -> u64
 
 // How the first block that is read goes on. A vector that is the first block is passed over as a
 // block, by CBC from zeros; one that is random, or of a password, is `vector`.
-fn begin_of(asked: Option<Vector>, vector: [u8; 8]) -> Mode
+fn begin_of(asked: Option<Vector>, vector: [u8; 8]) -> BlockMode
     ensures { result ≡ begin_by asked vector }
 {
     match asked {
-        None => Mode::Ecb,
-        Some(Vector::Bytes(iv)) => Mode::Cbc(iv),
-        Some(Vector::FirstBlock) => Mode::Cbc([0; 8]),
-        Some(Vector::Random | Vector::OfPassword) => Mode::Cbc(vector),
+        None => BlockMode::Ecb,
+        Some(Vector::Bytes(iv)) => BlockMode::Cbc(iv),
+        Some(Vector::FirstBlock) => BlockMode::Cbc([0; 8]),
+        Some(Vector::Random | Vector::OfPassword) => BlockMode::Cbc(vector),
     }
 }
 

@@ -3,7 +3,7 @@
 
 use des::cipher::KeyInit;
 use des_fast::Des;
-use des_io::{Mode, Padding, Transformation, decrypt_stream, encrypt_stream, skip_blocks};
+use des_io::{BlockMode, Padding, Transformation, decrypt_stream, encrypt_stream, skip_blocks};
 use std::io::{self, Error, ErrorKind, Read, Write};
 
 // A reader or a writer of another's bytes, one at a time, that is interrupted before each.
@@ -108,7 +108,7 @@ const KEY: [u8; 8] = *b"\x01\x23\x45\x67\x89\xab\xcd\xef";
 fn by_blocks(cipher: &Des) -> Transformation<'_, Des> {
     Transformation {
         cipher,
-        mode: Mode::Ecb,
+        mode: BlockMode::Ecb,
         padding: Padding::Unpadded,
     }
 }
@@ -129,7 +129,8 @@ fn decrypts_block_by_block() -> bool {
 
 fn skips_block_by_block() -> bool {
     let mut reader = Zeros { left: BYTES + 8 };
-    skip_blocks(Mode::Ecb, BLOCKS as u64, &mut reader, &mut [[0; 8]]).is_ok() && reader.left == 8
+    skip_blocks(BlockMode::Ecb, BLOCKS as u64, &mut reader, &mut [[0; 8]]).is_ok()
+        && reader.left == 8
 }
 
 // A buffer of 64 KiB, filled by as many reads of a byte and written by as many writes.

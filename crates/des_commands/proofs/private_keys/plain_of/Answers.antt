@@ -6,7 +6,7 @@ use Rattle.des_io.specs.Streams.{passage_of}
 use Rattle.des_io.specs.StreamFaults.{EndsInBlock, FailsToDecrypt}
 use Rattle.des_io.specs.declared.error.StreamError.{StreamError}
 use Rattle.des_io.specs.declared.error.StreamError.TheVariants.{Read, Write, Length, Start, Padding}
-use Rattle.des_io.specs.declared.mode.Mode.TheVariants.{Cbc}
+use Rattle.des_io.specs.declared.mode.BlockMode.TheVariants.{Cbc}
 use Rattle.des_io.specs.declared.padding.Padding.TheVariants.{Pkcs7}
 use Rattle.des_commands.specs.DecryptedKeys.{FailsAsPrivateKey, private_key_fault}
 use Rattle.des_commands.proofs.private_keys.plain_of.Goals as goal

@@ -3,13 +3,13 @@ use Rattle.des_io.specs.Streams.{Passage, Decrypts}
 use Rattle.des_io.specs.StreamFaults.{FailsToDecrypt}
 use Rattle.des_io.specs.declared.error.StreamError.{StreamError}
 use Rattle.des_io.specs.declared.error.StreamError.TheVariants.{Padding as WrongPadding}
-use Rattle.des_io.specs.declared.mode.Mode.{Mode}
+use Rattle.des_io.specs.declared.mode.BlockMode.{BlockMode}
 use Rattle.des_io.specs.declared.padding.Padding.TheVariants.{Zeros, Unpadded}
 use Rattle.des_io.specs.Streams.{joined}
 use Rattle.des_uses.proofs.streams.decrypt_with_zeros.Goals as goal
 
 -- no zeros are taken off
-unpadded : (result : Result (Unit {0}) StreamError) (decryption : List ℕ → List ℕ) (mode : Mode) (passage : Passage)
+unpadded : (result : Result (Unit {0}) StreamError) (decryption : List ℕ → List ℕ) (mode : BlockMode) (passage : Passage)
     → IfOk result (λ _. Decrypts decryption mode Zeros passage)
     → IfOk result (λ _. Decrypts decryption mode Unpadded passage)
 unpadded (Err fault) decryption mode passage done = tt
@@ -26,7 +26,7 @@ unpadded (Ok unit) decryption mode passage done = record {
 }
 
 -- so none are wrong
-never_wrong : (result : Result (Unit {0}) StreamError) (decryption : List ℕ → List ℕ) (mode : Mode) (passage : Passage)
+never_wrong : (result : Result (Unit {0}) StreamError) (decryption : List ℕ → List ℕ) (mode : BlockMode) (passage : Passage)
     → IfErr result (λ fault. FailsToDecrypt fault decryption mode Zeros passage)
     → IfErr result (λ fault. fault ≢ WrongPadding)
 never_wrong (Ok unit) decryption mode passage fails = tt
