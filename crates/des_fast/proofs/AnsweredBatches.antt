@@ -9,12 +9,6 @@ pub answered-at : (f : List ℕ → List ℕ) (old new : List (List ℕ)) → le
 answered-at f old new count each =
     ext_get_or [] new (map f old) (count ∙ sym (length-map old f))
     (λ k below. each k (omega arith) ∙ sym (get_or-map f old k [] [] (omega arith)))
-
--- one block
-pub answered-one : (f : List ℕ → List ℕ) (old : List (List ℕ)) (answer : List ℕ) → length old ≡ 1
-    → answer ≡ f (get_or old 0 []) → set old 0 answer ≡ map f old
-answered-one f [] answer one made = absurd (omega (arith, one))
-answered-one f (block ∷ []) answer one made = ap (λ block. block ∷ []) made
 answered-one f (block ∷ other ∷ more) answer one made = absurd (omega (arith, one))
 
 -- ---- lists

@@ -26,20 +26,6 @@ round_keys_of-at_reverse round_keys m n d count =
     let place : length keys - 1 - m ≡ n = omega arith in
     rw (get_or-reverse keys m [] (omega arith), place) (round_keys_of-at round_keys n d (omega arith))
 
--- a round key that the code took from a place, and the place of its bits
-pub bits_of_groups-at : (round_keys : List RoundKey) (round_key : RoundKey) (n m : ℕ) (d : RoundKey)
-    → round_key ≡ slice_index_or round_keys n d
-    → n < length round_keys → n ≡ m → bits_of_groups round_key.groups ≡ slice_index_or (round_keys_of round_keys) m []
-bits_of_groups-at round_keys round_key n m d taken below same =
-    rw (taken, ← same) (round_keys_of-at round_keys n d below)
-
-pub bits_of_groups-at_reverse : (round_keys : List RoundKey) (round_key : RoundKey) (n m : ℕ) (d : RoundKey)
-    → round_key ≡ slice_index_or round_keys n d
-    → m + n + 1 ≡ length round_keys
-    → bits_of_groups round_key.groups ≡ slice_index_or (reverse (round_keys_of round_keys)) m []
-bits_of_groups-at_reverse round_keys round_key n m d taken count =
-    rw taken (round_keys_of-at_reverse round_keys m n d count)
-
 -- round keys with these bits, place by place, are those of the list
 pub round_keys_of-by_index : (round_keys : List RoundKey) (keys : List (List Bool)) → length round_keys ≡ length keys
     → ((i : ℕ) (d : RoundKey) → i < length keys

@@ -11,8 +11,8 @@ pub trait BoxLookup: Copy {
     // The most blocks that go side by side in a list.
     ghost MOST: { ℕ };
 
-    /// How many of the blocks that are left in a list go next: no clause says which number is
-    /// quickest, since only the time depends on it.
+    /// How many of the blocks left in a list go next. No clause says how many are quickest: the result
+    /// is the same.
     fn next_count(left: usize) -> usize
         requires { 1 ≤ left }
         ensures some { 1 ≤ result }
@@ -33,7 +33,7 @@ pub trait BoxLookup: Copy {
     ghost at_most: { MOST ≤ 6 };
 }
 
-// The numbers of blocks that go side by side by tables.
+// Four, five and six blocks, of one and two.
 type Four = Beside<TwoBlocks, TwoBlocks>;
 
 type Five = Beside<Four, OneBlock>;
@@ -51,7 +51,7 @@ impl BoxLookup for Tables {
 
     ghost MOST = { 6 };
 
-    // The last that are more than six go in two halves: few are slower for each block.
+    // Seven to eleven go in two halves: the fewer go together, the slower each.
     #[inline(always)]
     fn next_count(left: usize) -> usize {
         if left <= 6 {
@@ -88,6 +88,7 @@ impl BoxLookup for Tables {
 #[derive(Clone, Copy)]
 pub struct NoTables;
 
+// No clause says that no table is read: tests do.
 impl BoxLookup for NoTables {
     ghost use Rattle.std.proofs.Common.{lit≤};
 

@@ -1,5 +1,5 @@
-//! Lists of blocks, some side by side, which is faster, and of those that CBC chained (FIPS 81,
-//! cipher block chaining mode).
+//! Lists of blocks, as many side by side as the lookup says. So are lists decrypted that CBC chained
+//! (FIPS 81, cipher block chaining mode).
 
 ghost use Rattle.std.specs.Prelude.{◌≡◌, ◌≤◌, length, map};
 ghost use Rattle.std.specs.List.{All};
@@ -37,7 +37,7 @@ fn decrypt_cbc_part<W: BoxLookup, A: BlockTransform>(
     }
 }
 
-/// Takes each block of a list through passes, some side by side, and then those that are left over.
+/// Takes each block of a list through passes, as many side by side as the lookup says.
 pub(crate) fn process<W: BoxLookup, A: BlockTransform>(blocks: &mut [[u8; 8]], passes: &A)
     ensures blocks { All IsBlock blocks.old }
     ensures output { blocks.new ≡ map (A.output passes.now) blocks.old }

@@ -2,7 +2,7 @@
 //!
 //! A list goes in batches of `S::BATCH` blocks: 128 over vectors of two words, and 256 over vectors
 //! of four, which are quicker in a program that is built for a processor with vectors of 256 bits,
-//! and slower elsewhere. What it has after its last whole batch goes up to six blocks side by side if
+//! and slower elsewhere. What it has after its last whole batch goes a few blocks side by side if
 //! it is few blocks, and else in a batch that is filled up with zeros, which takes about as long as
 //! a whole one. Few are at most 31 blocks if tables may be read, and at most 8 if
 //! none may be. Only encryption by CBC goes block after block, since each waits for the one before

@@ -1,6 +1,6 @@
 //! The initial and the final permutation of two blocks side by side. Each of their rows is a column:
-//! one bit of each of eight bytes, which a vector gives at once. For one block `halves` has the same,
-//! by `des::utils`, and tells the layout of the halves.
+//! one bit of each of eight bytes, which a vector gives at once. For one block
+//! `one_block` has the same, by `des::utils`; `halves` tells the layout.
 
 ghost use Rattle.std.specs.Prelude.{◌≡◌, ◌<◌, ◌+◌, ◌-◌, ◌*◌, ◌/◌, ◌%◌, ◌^◌, ◌++◌, ℕ, List, Bool, length, map, slice_index};
 ghost use Rattle.std.specs.Int.{w64, bit_at, to_le_bytes};
@@ -92,7 +92,7 @@ fn rows(columns: [u64; 8]) -> u64x2
     u64x2::from_le_bytes(low.shuffle(high, EVERY_OTHER))
 }
 
-// The expansions of half blocks that stand twice in each word: as in `Halves::of_block`, the groups
+// The expansions of half blocks that stand twice in each word: as in `halves_of_block`, the groups
 // 1, 3, 5 and 7 are a half rotated right by three, the groups 2, 4, 6 and 8 one rotated left by one.
 #[inline(always)]
 fn expanded(words: u64x2) -> u64x2

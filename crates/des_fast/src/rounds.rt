@@ -21,7 +21,8 @@ pub trait Groups: Copy {
     // The word of block b, from 0.
     ghost word: { ℕ → Self → ℕ };
 
-    /// The number of blocks: as many of these at least.
+    /// The number of blocks. The list has at least so many, so that sums of such numbers do not
+    /// overflow.
     fn count(blocks: &[[u8; 8]]) -> usize
         requires { BLOCKS ≤ length blocks.now }
         ensures { result ≡ BLOCKS };
@@ -34,7 +35,7 @@ pub trait Groups: Copy {
         ensures halves { InEachBlock BLOCKS (λ b. (half_of (word b result.0), half_of (word b result.1))
             ≡ first_halves (slice_index_or blocks.now b [])) };
 
-    /// Makes the blocks those that their halves make after the rounds (FIPS 46-3, enciphering).
+    /// Writes the blocks that the halves after the rounds make (FIPS 46-3, enciphering).
     fn write_blocks(blocks: &mut [[u8; 8]], left: Self, right: Self)
         requires count { length blocks.old ≡ BLOCKS }
         requires left { AreExpansions BLOCKS word left }
@@ -47,9 +48,9 @@ pub trait Groups: Copy {
     fn with_key(self, round_key: RoundKey) -> Self
         ensures { InEachBlock BLOCKS (λ b. word b result ≡ bit_xor (word b self) round_key.groups) };
 
-    /// These words, with the substitution by S1 to S8 of the 48 bits in each of the others xored in,
-    /// and P after it, as the word of groups of its expansion E (FIPS 46-3, cipher function). One
-    /// call has both, so that no more than a word of each block waits at a time.
+    /// These words, each with what S1 to S8, P and then E make of the 48 bits in one of the others
+    /// xored in (FIPS 46-3, cipher function). Lookup and xor are one call, so that the lookups of
+    /// one block at a time take registers.
     fn xor_substituted(self, others: Self) -> Self
         requires { InEachBlock BLOCKS (λ b. IsOfGroups (word b others)) }
         ensures { InEachBlock BLOCKS (λ b.
@@ -104,8 +105,7 @@ fn next<G: Groups>(left: G, right: G, round_key: RoundKey) -> G
     left.xor_substituted(right.with_key(round_key))
 }
 
-// Sixteen rounds in one direction. It is inlined if the direction is known, so that no round asks
-// for it.
+// Sixteen rounds in one direction. Inlined where the direction is known, so that no round tests it.
 #[inline(always)]
 fn rounds<G: Groups>(left: G, right: G, round_keys: &[RoundKey; 16], deciphers: bool) -> (G, G)
     requires left { AreExpansions G.BLOCKS G.word left }
@@ -134,8 +134,8 @@ fn rounds<G: Groups>(left: G, right: G, round_keys: &[RoundKey; 16], deciphers: 
     (next_left, next_right)
 }
 
-// Half blocks with a round key xored in. Those that a round makes have that of the round after it, so
-// that what the lookups of one round add up to are the indexes of the next.
+// Half blocks with the round key of their next lookup xored in: what a round makes is the indexes of
+// the next.
 #[derive(Clone, Copy)]
 struct Keyed<G> {
     groups: G,
@@ -223,8 +223,9 @@ fn keyed_rounds<G: Groups>(
 {
     let mut keyed_left = Keyed::new(left, round_key_of(round_keys, deciphers, 1));
     let mut keyed_right = Keyed::new(right, round_key_of(round_keys, deciphers, 0));
-    // `right_after` are the right halves with the key of their next turn, made while `keyed_right` is
-    // looked up by: were the key changed between two rounds, the second would wait for it. The last
+    // `right_after` are the right halves with the key of their next turn, made while the
+    // lookups of `keyed_right` are under way: were the key changed between two rounds, the second would
+    // wait for it. The last
     // index wraps round: after the last round no key is next, and `halves` takes that out.
     let mut right_after = keyed_right.with_key(round_key_of(round_keys, deciphers, 2));
     for i in 0..7usize {
@@ -238,8 +239,8 @@ fn keyed_rounds<G: Groups>(
     (keyed_left.halves(), keyed_right.halves())
 }
 
-/// The halves after sixteen rounds. Inlined, since three passes in a row would else take the halves
-/// through memory.
+/// The halves after sixteen rounds. Inlined, since three passes in a row would otherwise take the
+/// halves through memory.
 #[inline(always)]
 pub(crate) fn after_rounds<G: Groups>(
     left: G,

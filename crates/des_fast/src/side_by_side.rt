@@ -50,7 +50,7 @@ pub(crate) fn process_side_by_side<G: SixteenRounds, A: BlockTransform>(
     process_groups::<G, A>(blocks, passes);
 }
 
-/// Takes two to four blocks through passes as four side by side: places after the last block repeat
+/// Takes at most four blocks through passes as four side by side: places after the last block repeat
 /// it.
 pub(crate) fn process_padded<A: BlockTransform>(blocks: &mut [[u8; 8]], passes: &A)
     requires some { 1 ≤ length blocks.old }

@@ -9,7 +9,7 @@ use super::Slice;
 /// width of a call by the length of a list: `bindings/describe` copies it for C.
 pub const MOST_NARROW: usize = 128;
 
-// The most blocks that go side by side, if tables may be read and if none may be, whatever
+// The most blocks left over that go in no batch, if tables may be read and if none may be, whatever
 // the cipher, the direction and the width. On a processor where a batch took 1.04 microseconds of DES
 // and 2.66 of EDE3, 31 blocks by tables took 0.97 and 2.48, and without tables 8 blocks 0.86 and
 // 2.41 (9: 1.04 and 2.94).
