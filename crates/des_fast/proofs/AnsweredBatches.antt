@@ -1,5 +1,5 @@
 -- Blocks answered in place, batch after batch.
-use Rattle.std.proofs.Common.{◌≡◌, ℕ, ◌+◌, ◌<◌, ◌≤◌, List, [], ◌∷◌, ◌++◌, length, take, drop, map, get_or, set, ap, ap₂, sym, ◌∙◌, arith, length-take-le, take-add}
+use Rattle.std.proofs.Common.{◌≡◌, ℕ, ◌+◌, ◌<◌, ◌≤◌, List, [], ◌++◌, length, take, drop, map, get_or, ap, ap₂, sym, ◌∙◌, arith, length-take-le, take-add}
 use Rattle.std.proofs.lemmas.List.{length-map, get_or-map, ext_get_or, map-append, take_all, drop_all, append-nil}
 use Rattle.des_fast.proofs.WrittenParts.{behind, written-more}
 
@@ -9,7 +9,6 @@ pub answered-at : (f : List ℕ → List ℕ) (old new : List (List ℕ)) → le
 answered-at f old new count each =
     ext_get_or [] new (map f old) (count ∙ sym (length-map old f))
     (λ k below. each k (omega arith) ∙ sym (get_or-map f old k [] [] (omega arith)))
-answered-one f (block ∷ other ∷ more) answer one made = absurd (omega (arith, one))
 
 -- ---- lists
 
