@@ -13,4 +13,5 @@ pub mod EncryptedBlocks
 pub mod PaddedTexts
 pub mod WrittenColumns
 pub mod SchemeRelations
+pub mod AlgorithmKeys
 pub mod TextsOfValues

@@ -1,14 +1,16 @@
 -- Columns that are written, and the texts that they are written of.
-use Rattle.std.proofs.Common.{◌≡◌, ℕ, ◌+◌, ◌<◌, List, [], ◌∷◌, ◌++◌, length, take, drop, get_or, sum, refl, ap, ap₂, sym, ◌∙◌, subst, arith, inl, inr, length-append, append-nil}
-use Rattle.std.specs.List.{All}
+use Rattle.std.proofs.Common.{◌≡◌, ℕ, ◌+◌, ◌-◌, ◌≤◌, ◌<◌, List, [], ◌∷◌, ◌++◌, length, take, drop, get_or, sum, refl, ap, ap₂, sym, ◌∙◌, subst, arith, inl, inr, length-append, append-nil}
+use Rattle.std.specs.List.{All, sum_by}
 use Rattle.std.proofs.lemmas.Bool.{cases_lt}
-use Rattle.std.proofs.lemmas.List.{get_or_append_left, length-drop, length-take-le}
+use Rattle.std.proofs.lemmas.List.{get_or_append_left, length-drop, length-take-le, take_all, take_more}
 use Rattle.std.proofs.lemmas.List.Concat.{flat_map-append}
-use Rattle.std.proofs.lemmas.List.Sums.{sum_by_more_le}
+use Rattle.std.proofs.lemmas.List.Sums.{sum_by_more, sum_by_more_le}
+use Rattle.std.proofs.lemmas.Slice.{take-put_mid}
 use Rattle.des_columns.specs.Columns.{pieces}
 use Rattle.des_columns.specs.Writings.{IsColumnWritten, IsTextSize}
 use Rattle.des_columns.specs.declared.form.Form.{Form}
 use Rattle.des_columns.proofs.Pieces.{last-of, length-pieces, pieces-at}
+use borrow.Rule.Slice.PartMut.{put_mid}
 
 -- two lists are related place by place, and so are an element more of each
 each-more : (P : List ℕ → List ℕ → Type 0) (xs ys : List (List ℕ)) (x y : List ℕ) → length ys ≡ length xs
@@ -47,6 +49,50 @@ module _ (size_of : ℕ → ℕ) (Writes : List ℕ → List ℕ → Type 0) whe
         ap₂ ◌++◌ column.places (sym (append-nil value))
         ∙ sym (flat_map-append (λ block. block) column.written (value ∷ []));
   }
+
+-- ---- the values of the texts before k, one after another: the value of a text of n bytes has `span_of` n
+
+module _ (size_of span_of : ℕ → ℕ) (Writes : List ℕ → List ℕ → Type 0) (texts : List (List ℕ)) (lengths bytes values : List ℕ)
+    (k from start : ℕ) (whole : sum lengths ≡ length bytes) (room : length values ≡ sum_by span_of lengths)
+    (count : length texts ≡ length lengths) (at : from ≡ sum (take k lengths)) (to : start ≡ sum_by span_of (take k lengths))
+    (column : IsColumnWritten size_of Writes (take k texts) (take start values)) where
+  -- with one more
+  pub written-next : (size span : ℕ) (text value : List ℕ) → k < length lengths → size ≡ get_or lengths k 0
+      → span ≡ span_of (length (take size (drop from bytes)))
+      → length value ≡ length (take (start + span - start) (drop start values))
+      → (length (take size (drop from bytes)) ≡ get_or lengths k 0 → get_or texts k [] ≡ text × span ≡ size_of (length text))
+      → Writes text value
+      → (from + length (take size (drop from bytes)) ≡ sum (take (k + 1) lengths))
+      × (start + span ≡ sum_by span_of (take (k + 1) lengths))
+      × IsColumnWritten size_of Writes (take (k + 1) texts)
+      (take (start + span) (put_mid start (start + span - start) values value))
+  written-next size span text value below is span_is as_long of writes =
+      let some : List ℕ = take size (drop from bytes) in
+      let within : from + get_or lengths k 0 ≤ length bytes =
+      omega (arith, sum_by_more_le (λ n. n) lengths k 0 below, whole, at) in
+      let long : length some ≡ get_or lengths k 0 =
+      length-take-le size (drop from bytes) (omega (arith, length-drop from bytes, within, is)) ∙ is in
+      let spans : span ≡ span_of (get_or lengths k 0) = span_is ∙ ap span_of long in
+      let inside : start + span ≤ length values = omega (arith, sum_by_more_le span_of lengths k 0 below, spans, room, to) in
+      let placed : length value ≡ span =
+      as_long
+      ∙ length-take-le (start + span - start) (drop start values) (omega (arith, length-drop start values, inside))
+      ∙ omega arith in
+      let kind = of long in (
+        ap₂ ◌+◌ at long ∙ sym (sum_by_more (λ n. n) lengths k 0 below),
+        ap₂ ◌+◌ to spans ∙ sym (sum_by_more span_of lengths k 0 below),
+        rw (
+          take_more texts k [] (omega (arith, count, below)),
+          kind.0,
+          take-put_mid start (start + span - start) values value (start + span) (omega (arith, placed)) (omega (arith, inside)),
+        ) (written-more size_of Writes (take k texts) (take start values) text value (placed ∙ kind.1) writes column),
+      )
+
+  -- if they are all
+  pub written-end : length lengths ≤ k → IsColumnWritten size_of Writes texts values
+  written-end all =
+      let end : start ≡ length values = to ∙ ap (sum_by span_of) (take_all k lengths all) ∙ sym room in
+      rw (take_all k texts (omega (arith, count, all)), take_all start values (omega (arith, end))) at column
 
 -- ---- the texts of a column
 

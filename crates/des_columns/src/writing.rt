@@ -48,14 +48,14 @@ impl Form {
     }
 }
 
-// How the values of a column are written: by which cipher, into which form, under which number of
-// a key, and by which mode.
+/// How the values of a column are written: by which cipher, into which form, under which number of
+/// a key, and by which mode.
 #[derive(Drop)]
-struct Writer<C> {
-    cipher: C,
-    form: Form,
-    number: u8,
-    mode: BlockMode,
+pub(crate) struct Writer<C> {
+    pub cipher: C,
+    pub form: Form,
+    pub number: u8,
+    pub mode: BlockMode,
 }
 
 impl<C: ManyBlocks + Drop> Writer<C> {
@@ -98,8 +98,13 @@ impl<C: ManyBlocks + Drop> Writer<C> {
         }
     }
 
-    // Writes the value of a text.
-    fn write_value<S: Slice>(&self, text: &[u8], value: &mut [u8], buffer: &mut [[u8; 8]])
+    /// Writes the value of a text.
+    pub(crate) fn write_value<S: Slice>(
+        &self,
+        text: &[u8],
+        value: &mut [u8],
+        buffer: &mut [[u8; 8]],
+    )
         requires number { self.now.number < 128 }
         requires size { IsTextSize self.now.form (length text.now) }
         requires value { length value.old ≡ value_size self.now.form (length text.now) }
