@@ -12,7 +12,7 @@ use Rattle.des_columns.specs.declared.pbe.Algorithm.{Algorithm}
 use Rattle.des_columns.specs.declared.pbe.Algorithm.TheVariants.{Md5Des, Sha1Des, Md5TripleDes, Sha1TripleDes, Sha1TwoKeys}
 
 -- what holds of a result that is `Ok`
-on-ok : {T E : Type 0} (result : Result T E) (P : Type 0) → IsOk result → OnOk result P → P
+pub on-ok : {T E : Type 0} (result : Result T E) (P : Type 0) → IsOk result → OnOk result P → P
 on-ok (Ok x) P ok on = on
 on-ok (Err e) P ok on = cc ok
 

@@ -12,6 +12,7 @@ pub mod Base64Groups
 pub mod EncryptedBlocks
 pub mod PaddedTexts
 pub mod WrittenColumns
+pub mod GatheredTexts
 pub mod SchemeRelations
 pub mod AlgorithmKeys
 pub mod TextsOfValues

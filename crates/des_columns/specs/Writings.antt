@@ -1,5 +1,7 @@
 -- What is written of the texts of a column: each value by its definition.
-use Rattle.std.specs.Prelude.{◌≡◌, ◌<◌, ℕ, ◌+◌, ◌-◌, ◌*◌, ◌/◌, ◌%◌, ◌==◌, if◌then◌else◌, List, [], ◌∷◌, ◌++◌, length, replicate, get_or}
+use Rattle.std.specs.Prelude.{◌≡◌, ◌<◌, ℕ, ◌+◌, ◌-◌, ◌*◌, ◌/◌, ◌%◌, ◌==◌, if◌then◌else◌, List, [], ◌∷◌, ◌++◌, length, map, replicate, sum, get_or}
+use Rattle.std.specs.List.{All}
+use Rattle.des_fast.specs.Records.{record_of}
 use Rattle.des_columns.specs.EncryptedBytes.{joined, IsEncrypted}
 use Rattle.des_columns.specs.Mysql.{padded}
 use Rattle.des_columns.specs.declared.form.BlockMode.{BlockMode}
@@ -51,3 +53,11 @@ pub record IsColumnWritten (size_of : ℕ → ℕ) (Writes : List ℕ → List �
   pub sizes : (k : ℕ) → k < length texts → length (get_or written k []) ≡ size_of (length (get_or texts k []))
   pub writes : (k : ℕ) → k < length texts → Writes (get_or texts k []) (get_or written k [])
   pub places : values ≡ joined written
+
+-- texts, each with its padding, are records of blocks
+pub record AreGathered (form : Form) (lengths : List ℕ) (texts : List (List ℕ)) (sizes : List ℕ) (blocks : List (List ℕ)) : Type 0 where
+  pub lengths_are : lengths ≡ map length texts
+  pub sizes_are : sizes ≡ map (λ size. value_size form size / 8) lengths
+  pub fit : All (IsTextSize form) lengths
+  pub whole : length blocks ≡ sum sizes
+  pub padded : (k : ℕ) → k < length texts → joined (record_of sizes blocks k) ≡ padded_by form (get_or texts k [])

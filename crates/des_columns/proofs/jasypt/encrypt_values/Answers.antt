@@ -5,7 +5,7 @@ use Rattle.std.proofs.lemmas.Simd.{get_or-zip2, length-zip2}
 use Rattle.des_columns.specs.Columns.{pieces}
 use Rattle.des_columns.specs.Jasypt.{IsWritten, salted, value_size}
 use Rattle.des_columns.proofs.Pieces.{length-pieces, value-at}
-use Rattle.des_columns.proofs.WrittenColumns.{written-end, written-next}
+use Rattle.des_columns.proofs.WrittenColumns.{text-next, written-end, written-next}
 use Rattle.des_columns.proofs.jasypt.encrypt_values.Goals as goal
 
 length-salted : (salts texts : List (List ℕ)) (count : ℕ) → length salts ≡ count → length texts ≡ count
@@ -22,24 +22,22 @@ texts-preserved c =
     let text : List ℕ = take size (drop from bytes) in
     let salts : List (List ℕ) = c.args.salts.now in
     let there : k < length salts = omega (arith, c.texts-test.true, c.requires.salts) in
+    let below : k < length lengths = c.texts-test.true in
+    let at = text-next lengths bytes k from size c.requires.whole c.texts.invariant.from below (omega arith) in
     let next =
     written-next value_size (λ n. value_size (8 + n)) (IsWritten c.args.by c.args.iterations c.args.password.now)
-    (salted salts (pieces lengths bytes)) lengths bytes c.texts.values k from c.texts.start c.requires.whole
-    (c.texts.auto.values ∙ c.requires.values) (length-salted salts (pieces lengths bytes) (length lengths) c.requires.salts (length-pieces lengths bytes)) c.texts.invariant.from c.texts.invariant.start
-    c.texts.invariant.written size c.value_size-size.result _ c.write_value.new.value c.texts-test.true (omega arith)
-    c.value_size-size.ensures c.write_value.auto.value
-    (λ long. (
-      get_or-zip2 ◌++◌ salts (pieces lengths bytes) k [] [] [] there (omega (arith, c.texts-test.true, length-pieces lengths bytes))
-          ∙ ap (λ l. get_or salts k [] ++ l)
-          (sym (value-at lengths bytes k from size c.texts-test.true c.texts.invariant.from (omega arith))),
-      c.value_size-size.ensures
-          ∙ ap value_size (omega (arith, length-append (get_or salts k []) text, c.told-salts k there)),
-    ))
-    c.write_value.ensures in
+    (salted salts (pieces lengths bytes)) lengths c.texts.values k c.texts.start (c.texts.auto.values ∙ c.requires.values)
+    (length-salted salts (pieces lengths bytes) (length lengths) c.requires.salts (length-pieces lengths bytes))
+    c.texts.invariant.start c.texts.invariant.written c.value_size-size.result _ c.write_value.new.value below
+    (c.value_size-size.ensures ∙ ap (λ n. value_size (8 + n)) at.0) c.write_value.auto.value
+    (get_or-zip2 ◌++◌ salts (pieces lengths bytes) k [] [] [] there (omega (arith, below, length-pieces lengths bytes))
+    ∙ ap (λ l. get_or salts k [] ++ l) (sym (value-at lengths bytes k from size below c.texts.invariant.from (omega arith))))
+    (c.value_size-size.ensures
+    ∙ ap value_size (omega (arith, length-append (get_or salts k []) text, c.told-salts k there))) c.write_value.ensures in
     record {
-      from = next.0;
-      start = next.1;
-      written = next.2;
+      from = at.1;
+      start = next.0;
+      written = next.1;
     }
 
 pub returns-clause-written : goal.returns-clause-written
@@ -48,7 +46,7 @@ returns-clause-written c =
     let bytes : List ℕ = c.args.texts.now in
     let salts : List (List ℕ) = c.args.salts.now in
     written-end value_size (λ n. value_size (8 + n)) (IsWritten c.args.by c.args.iterations c.args.password.now)
-    (salted salts (pieces lengths bytes)) lengths bytes c.texts.values c.texts.k c.texts.from c.texts.start
-    c.requires.whole (c.texts.auto.values ∙ c.requires.values)
+    (salted salts (pieces lengths bytes)) lengths c.texts.values c.texts.k c.texts.start
+    (c.texts.auto.values ∙ c.requires.values)
     (length-salted salts (pieces lengths bytes) (length lengths) c.requires.salts (length-pieces lengths bytes))
-    c.texts.invariant.from c.texts.invariant.start c.texts.invariant.written c.texts-test.false
+    c.texts.invariant.start c.texts.invariant.written c.texts-test.false
