@@ -19,8 +19,11 @@ const BLOCKS: usize = 1024;
 
 const TEXTS: usize = 256;
 
-// So few texts are encrypted one by one: a step of all of them takes no less time than their blocks.
+// A step of all texts takes about as long as so many blocks one by one.
 const FEW: usize = 8;
+
+// The most blocks of a text that goes with others: of longer ones too few fit.
+const LONGEST: usize = 64;
 
 impl Form {
     // How many bytes the value of a text of `size` bytes has.
@@ -67,13 +70,15 @@ fn write_blocks(form: Form, text: &[u8], place: &mut [u8], blocks: &mut [[u8; 8]
     blocks.copy_from_slice(padded);
 }
 
-// The texts that were gathered: how many, and how many bytes, blocks, and bytes of values they have.
+// The texts that were gathered: how many, how many bytes, blocks, and bytes of values they have, and
+// how many blocks the longest has.
 #[derive(Clone, Copy)]
 struct Gathered {
     count: usize,
     bytes: usize,
     blocks: usize,
     span: usize,
+    longest: usize,
 }
 
 // Writes the first texts with their padding into the buffer, as long as they fit, and how many blocks
@@ -102,11 +107,13 @@ fn gather(
     let mut bytes = 0;
     let mut blocks = 0;
     let mut span = 0;
+    let mut longest = 0;
     'texts: while count < lengths.len() && count < sizes.len() {
         let text = &texts[bytes..bytes + lengths[count]];
         let value_size = form.value_size(text.len());
         let size = value_size / 8;
-        if size > buffer.len() - blocks {
+        let room = LONGEST.min(buffer.len() - blocks);
+        if size > room {
             break;
         }
         let place = &mut values[span..span + size * 8];
@@ -116,12 +123,14 @@ fn gather(
         bytes += text.len();
         blocks += size;
         span += value_size;
+        longest = longest.max(size);
     }
     Gathered {
         count,
         bytes,
         blocks,
         span,
+        longest,
     }
 }
 
@@ -311,7 +320,7 @@ pub fn write_values<C: SpreadOnce + Drop, S: Slice>(
             &mut sizes,
             &mut buffer,
         );
-        if taken.count > FEW {
+        if taken.blocks / FEW > taken.longest {
             let value = &mut values[start..start + taken.span];
             let blocks = &mut buffer[..taken.blocks];
             let some = &lengths[k..k + taken.count];

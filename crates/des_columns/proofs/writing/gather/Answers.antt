@@ -27,7 +27,7 @@ texts-preserved c =
     let size : ℕ = c.value_size-value_size.result / 8 in
     let blocks : ℕ = c.texts.blocks in
     let new : List (List ℕ) = c.write_blocks.new.blocks in
-    let room : blocks + size ≤ length c.texts.buffer = omega (arith, c.if-size-buffer.false, c.texts.invariant.blocks) in
+    let room : blocks + size ≤ length c.texts.buffer = omega (arith, c.if-size-room.false, c.min-room.ensures, c.texts.invariant.blocks) in
     let long : length new ≡ size =
     c.write_blocks.auto.blocks
     ∙ length-take-le (blocks + size - blocks) (drop blocks c.texts.buffer) (omega (arith, length-drop blocks c.texts.buffer, room))

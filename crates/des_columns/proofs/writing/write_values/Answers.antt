@@ -1,6 +1,7 @@
 -- Some values more, or one.
-use Rattle.std.proofs.Common.{rules, ◌≡◌, ℕ, ◌+◌, ◌-◌, ◌*◌, ◌<◌, ◌≤◌, max, List, [], ◌++◌, length, take, drop, get_or, sum, refl, ap, sym, ◌∙◌, subst, arith}
+use Rattle.std.proofs.Common.{rules, ◌≡◌, ℕ, ◌+◌, ◌-◌, ◌*◌, ◌<◌, ◌≤◌, max, List, [], ◌++◌, length, take, drop, get_or, sum, inl, inr, refl, ap, sym, ◌∙◌, subst, arith}
 use Rattle.std.specs.List.{sum_by}
+use Rattle.std.proofs.lemmas.Bool.{cases_lt}
 use Rattle.std.proofs.lemmas.List.{drop_all, length-append, length-drop, length-take, length-take-le}
 use Rattle.std.proofs.lemmas.List.Sums.{sum_by-take-le, sum_by_more_le}
 use Rattle.std.proofs.lemmas.Slice.{take-put_mid_below}
@@ -183,8 +184,26 @@ write_group-requires g c =
       ),
     )
 
-pub groups-preserved-then-taken-gt-FEW : goal.groups-preserved-then-taken-gt-FEW
-groups-preserved-then-taken-gt-FEW g c =
+-- if there are blocks, there are texts
+pub groups-smaller-then-taken : goal.groups-smaller-then-taken
+groups-smaller-then-taken g c =
+    let count : ℕ = c.gather-taken.result.count in
+    let sizes : List ℕ = c.gather-taken.new.sizes in
+    let blocks : c.gather-taken.result.blocks ≡ sum (take count sizes) =
+    sym (length-take-le c.gather-taken.result.blocks c.gather-taken.new.buffer
+    (omega (arith, c.gather-taken.ensures.blocks, c.gather-taken.auto.buffer)))
+    ∙ c.gather-taken.ensures.gathered.whole in
+    let some : 1 ≤ count =
+    elim (cases_lt count 1) [
+      | inl none ↦
+          let nothing : sum (take count sizes) ≡ 0 = ap (λ n. sum (take n sizes)) (let zero : count ≡ 0 = omega (arith, none) in zero) in
+          absurd (omega (arith, blocks, nothing, c.if-taken.true))
+      | inr more ↦ more
+    ] in
+    omega (arith, some, c.groups-test.true)
+
+pub groups-preserved-then-taken : goal.groups-preserved-then-taken
+groups-preserved-then-taken g c =
     let form : Form = c.args.form in
     let key : List ℕ = g.C.Key.KeyBytes.bytes_of c.args.key.now in
     let W : List ℕ → List ℕ → Type 0 = IsWriting form c.args.number c.args.mode (g.C.Relating.relation key) in
