@@ -1,34 +1,14 @@
--- What an algorithm derives from a password and a salt, and the key and the vector in it.
-use Rattle.std.proofs.Common.{◌≡◌, ◌≢◌, ◌↔◌, ◌⊎◌, inl, inr, ℕ, ◌+◌, List, ◌++◌, length, take, drop, Result, Ok, Err, sym, ap, ◌∙◌, subst, arith}
-use Rattle.std.specs.Result.{IsOk, OnOk}
+-- The key and the vector of an algorithm, as they stand in what was derived.
+use Rattle.std.proofs.Common.{◌≡◌, ◌⊎◌, inl, inr, ℕ, ◌+◌, List, ◌++◌, length, take, drop, sym, ap, ◌∙◌, subst, arith}
 use Rattle.std.proofs.lemmas.List.{drop_at, take_all, take_at}
 use Rattle.des.specs.Enciphering.{Enciphers}
 use Rattle.des.specs.Triple.{EnciphersEde2, EnciphersEde3}
 use Rattle.des_columns.specs.Jasypt.{relation_by}
-use Rattle.des_columns.specs.Pbe.{IsSaltOf, derived_by, key_size}
+use Rattle.des_columns.specs.Pbe.{key_size}
 use Rattle.des_columns.specs.declared.form.BlockMode.{BlockMode}
 use Rattle.des_columns.specs.declared.form.BlockMode.TheVariants.{Cbc}
 use Rattle.des_columns.specs.declared.pbe.Algorithm.{Algorithm}
 use Rattle.des_columns.specs.declared.pbe.Algorithm.TheVariants.{Md5Des, Sha1Des, Md5TripleDes, Sha1TripleDes, Sha1TwoKeys}
-
--- what holds of a result that is `Ok`
-pub on-ok : {T E : Type 0} (result : Result T E) (P : Type 0) → IsOk result → OnOk result P → P
-on-ok (Ok x) P ok on = on
-on-ok (Err e) P ok on = cc ok
-
--- each algorithm takes a salt of eight bytes
-eight-salts : (by : Algorithm) (size : ℕ) → size ≡ 8 → IsSaltOf by size
-eight-salts Md5Des size is = tt
-eight-salts Sha1Des size is = tt
-eight-salts Md5TripleDes size is = is
-eight-salts Sha1TripleDes size is = tt
-eight-salts Sha1TwoKeys size is = tt
-
-pub by-salt : {T E : Type 0} (by : Algorithm) (count : ℕ) (password salt bytes : List ℕ) (result : Result T E) → count ≢ 0
-    → length salt ≡ 8 → (IsOk result ↔ (count ≢ 0) × IsSaltOf by (length salt))
-    → OnOk result (bytes ≡ derived_by by password salt count) → bytes ≡ derived_by by password salt count
-by-salt by count password salt bytes result some eight accepted ok =
-    on-ok result _ (accepted.1 (some, eight-salts by (length salt) eight)) ok
 
 -- ---- what is said by the key and the vector is said by those that the definition takes out
 

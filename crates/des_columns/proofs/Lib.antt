@@ -15,4 +15,5 @@ pub mod WrittenColumns
 pub mod GatheredTexts
 pub mod SchemeRelations
 pub mod AlgorithmKeys
+pub mod Results
 pub mod TextsOfValues

@@ -103,6 +103,16 @@ fn decrypt_by(by: Algorithm, both: &[u8], encrypted: &mut [u8], buffer: &mut [[u
     }
 }
 
+// Writes the key of a password and a salt, and the vector behind it.
+fn derive(by: Algorithm, iterations: u32, password: &[u8], salt: &[u8], both: &mut [u8])
+    requires iterations { iterations ≢ 0 }
+    requires salt { length salt.now ≡ 8 }
+    requires both { length both.old ≡ key_size by + 8 }
+    ensures { both.new ≡ derived_by by password.now salt.now iterations }
+{
+    let _ = by.write_key(password, salt, iterations, both);
+}
+
 // Makes of a salt, and what is encrypted behind it, the text at their front.
 fn open(
     by: Algorithm,
@@ -123,7 +133,7 @@ fn open(
     let (encrypted, salt) = bytes.split_at_mut(count);
     let mut both = [0; 32];
     let both = &mut both[..by.key_size() + 8];
-    let _ = by.write_key(password, salt, iterations, both);
+    derive(by, iterations, password, salt, both);
     decrypt_by(by, both, encrypted, buffer)
 }
 
@@ -267,7 +277,7 @@ fn write_value(
 {
     let mut both = [0; 32];
     let both = &mut both[..by.key_size() + 8];
-    let _ = by.write_key(password, salt, iterations, both);
+    derive(by, iterations, password, salt, both);
     let count = (text.len() / 8 + 1) * 8;
     value[..8].copy_from_slice(salt);
     encrypt_by(by, both, text, &mut value[8..8 + count], buffer);

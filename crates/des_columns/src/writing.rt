@@ -20,10 +20,10 @@ const BLOCKS: usize = 1024;
 const TEXTS: usize = 256;
 
 // A step of all texts takes about as long as so many blocks one by one.
-const FEW: usize = 8;
+const FEW: usize = 4;
 
 // The most blocks of a text that goes with others: of longer ones too few fit.
-const LONGEST: usize = 64;
+const LONGEST: usize = 128;
 
 impl Form {
     // How many bytes the value of a text of `size` bytes has.
@@ -184,6 +184,14 @@ impl<C: ManyBlocks + Drop> Writer<C> {
         }
     }
 
+    // Writes what stands before the blocks of a value.
+    fn write_head(&self, head: &mut [u8])
+        requires { self.now.number < 128 }
+        ensures { head.new ≡ replicate (length head.old) (128 + self.now.number) }
+    {
+        head.fill(128 + self.number);
+    }
+
     /// Writes the value of a text.
     pub(crate) fn write_value<S: Slice>(
         &self,
@@ -199,7 +207,7 @@ impl<C: ManyBlocks + Drop> Writer<C> {
             → IsWriting self.now.form self.now.number self.now.mode (C.relation key) text.now value.new }
     {
         let (head, bytes) = value.split_at_mut(value.len() % 8);
-        head.fill(128 + self.number);
+        self.write_head(head);
         self.form.write_padded(text, bytes);
         self.encipher::<S>(bytes, buffer);
     }
@@ -238,7 +246,7 @@ impl<C: SpreadOnce + Drop> Writer<C> {
             ≡ replicate (length value.old % 8) (128 + self.now.number) ++ joined blocks.now }
     {
         let (head, bytes) = value.split_at_mut(value.len() % 8);
-        head.fill(128 + self.number);
+        self.write_head(head);
         bytes.copy_from_slice(blocks.as_flattened());
     }
 

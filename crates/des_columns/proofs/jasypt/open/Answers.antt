@@ -3,7 +3,6 @@ use Rattle.std.proofs.lemmas.List.{drop_at, length-drop, length-take-le, take-ap
 use Rattle.des_columns.specs.Jasypt.{ReadsBy}
 use Rattle.des_columns.specs.Pbe.{derived_by}
 use Rattle.des_columns.specs.declared.pbe.Algorithm.{Algorithm}
-use Rattle.des_columns.proofs.AlgorithmKeys.{by-salt}
 use Rattle.des_columns.proofs.jasypt.open.Goals as goal
 
 -- what is read, said by equal bytes
@@ -27,12 +26,15 @@ returns-clause-read c =
     let before : salt ≡ take 8 bytes =
     c.split_at_mut-encrypted.ensures.back ∙ ap (drop count) c.rotate_left.ensures.after
     ∙ drop_at (drop 8 bytes) (take 8 bytes) count long in
-    let eight : length salt ≡ 8 = ap length before ∙ length-take-le 8 bytes c.requires.salt in
-    let derived =
-    by-salt c.args.by c.args.iterations c.args.password.now salt c.write_key.new.bytes c.write_key.result c.requires.iterations
-    eight c.write_key.ensures.accepted c.write_key.ensures.ok in
-    read-same c.args.by c.write_key.new.bytes (derived_by c.args.by c.args.password.now (take 8 bytes) c.args.iterations)
+    read-same c.args.by c.derive.new.both (derived_by c.args.by c.args.password.now (take 8 bytes) c.args.iterations)
     encrypted (drop 8 bytes) _ _ c.decrypt_by.result.status
-    (derived ∙ ap (λ (l : List ℕ). derived_by c.args.by c.args.password.now l c.args.iterations) before) behind
+    (c.derive.ensures ∙ ap (λ (l : List ℕ). derived_by c.args.by c.args.password.now l c.args.iterations) before) behind
     (sym (take-append-le c.decrypt_by.result.length c.decrypt_by.new.encrypted salt c.decrypt_by.ensures.within))
     c.decrypt_by.ensures.read
+
+pub derive-requires-clause-salt : goal.derive-requires-clause-salt
+derive-requires-clause-salt c =
+    let bytes : List ℕ = c.args.bytes.now in
+    ap length (c.split_at_mut-encrypted.ensures.back ∙ ap (drop (length bytes - 8)) c.rotate_left.ensures.after
+    ∙ drop_at (drop 8 bytes) (take 8 bytes) (length bytes - 8) (length-drop 8 bytes))
+    ∙ length-take-le 8 bytes c.requires.salt

@@ -7,7 +7,6 @@ use Rattle.base64.specs.GeneralPurpose.{encode_of}
 use Rattle.des_columns.specs.Jasypt.{IsWritten, WritesBy}
 use Rattle.des_columns.specs.Pbe.{derived_by}
 use Rattle.des_columns.specs.declared.pbe.Algorithm.{Algorithm}
-use Rattle.des_columns.proofs.AlgorithmKeys.{by-salt}
 use Rattle.des_columns.proofs.jasypt.write_value.Goals as goal
 
 written-of : (by : Algorithm) (count : ℕ) (password salt text both encrypted value : List ℕ) → length salt ≡ 8
@@ -39,10 +38,8 @@ returns c =
     c.encrypt_by.auto.encrypted
     ∙ length-take-le (8 + count - 8) (drop 8 (salted ++ behind)) (omega (arith, length-drop 8 (salted ++ behind), within))
     ∙ omega arith in
-    written-of c.args.by c.args.iterations c.args.password.now salt c.args.text.now c.write_key.new.bytes encrypted
-    c.encode.new.place c.told-salt
-    (by-salt c.args.by c.args.iterations c.args.password.now salt c.write_key.new.bytes c.write_key.result c.requires.iterations
-    c.told-salt c.write_key.ensures.accepted c.write_key.ensures.ok) c.encrypt_by.ensures
+    written-of c.args.by c.args.iterations c.args.password.now salt c.args.text.now c.derive.new.both encrypted c.encode.new.place
+    c.told-salt c.derive.ensures c.encrypt_by.ensures
     (c.encode.ensures
     ∙ ap (encode_of standard)
     (take-put_mid 8 (8 + count - 8) (salted ++ behind) encrypted (8 + count) (omega (arith, long)) (omega (arith, within))
