@@ -13,6 +13,7 @@ pub mod EncryptedBlocks
 pub mod PaddedTexts
 pub mod WrittenColumns
 pub mod GatheredTexts
+pub mod SpreadKeySizes
 pub mod SchemeRelations
 pub mod AlgorithmKeys
 pub mod Results

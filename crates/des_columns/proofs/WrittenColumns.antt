@@ -2,10 +2,10 @@
 use Rattle.std.proofs.Common.{◌≡◌, ℕ, zero, suc, ◌+◌, ◌-◌, ◌≤◌, ◌<◌, List, [], ◌∷◌, ◌++◌, length, take, drop, get_or, sum, refl, ap, ap₂, sym, ◌∙◌, subst, arith, inl, inr, length-append, append-nil, take-add, take-append-drop}
 use Rattle.std.specs.List.{All, sum_by}
 use Rattle.std.proofs.lemmas.Bool.{cases_lt}
-use Rattle.std.proofs.lemmas.List.{get_or-append_right, get_or_append_left, length-drop, length-take-le, drop_more, take_all}
+use Rattle.std.proofs.lemmas.List.{get_or-append_right, get_or_append_left, length-drop, length-take-le, drop_all, drop_more, take_all}
 use Rattle.std.proofs.lemmas.List.Concat.{flat_map-append}
 use Rattle.std.proofs.lemmas.List.Sums.{sum_by-append, sum_by-take-le, sum_by_more, sum_by_more_le}
-use Rattle.std.proofs.lemmas.Slice.{take-put_mid}
+use Rattle.std.proofs.lemmas.Slice.{take-put_mid, take-put_mid_below}
 use Rattle.des_columns.specs.Columns.{pieces}
 use Rattle.des_columns.specs.Writings.{IsColumnWritten, IsTextSize}
 use Rattle.des_columns.specs.declared.form.Form.{Form}
@@ -71,6 +71,24 @@ module _ (size_of : ℕ → ℕ) (Writes : List ℕ → List ℕ → Type 0) whe
 module _ (size_of span_of : ℕ → ℕ) (Writes : List ℕ → List ℕ → Type 0) (texts : List (List ℕ)) (lengths values : List ℕ)
     (k start : ℕ) (room : length values ≡ sum_by span_of lengths) (count : length texts ≡ length lengths)
     (to : start ≡ sum_by span_of (take k lengths)) (column : IsColumnWritten size_of Writes (take k texts) (take start values)) where
+  -- whatever is written over the places of the others
+  pub written-over : (rest : List ℕ) → length rest ≡ length (take (length values - start) (drop start values))
+      → (length (put_mid start (length values - start) values rest) ≡ length values)
+      × IsColumnWritten size_of Writes (take k texts) (take start (put_mid start (length values - start) values rest))
+  written-over rest as_long =
+      let within : start ≤ length values = omega (arith, to, sum_by-take-le span_of lengths k, room) in
+      let over : put_mid start (length values - start) values rest ≡ take start values ++ rest =
+      ap (λ l. take start values ++ (rest ++ l))
+      (drop_all (length values - start) (drop start values) (omega (arith, length-drop start values)))
+      ∙ ap (λ l. take start values ++ l) (append-nil rest) in (
+        ap length over ∙ length-append (take start values) rest
+            ∙ ap₂ ◌+◌ (length-take-le start values within)
+            (as_long ∙ length-take-le (length values - start) (drop start values) (omega (arith, length-drop start values)))
+            ∙ omega (arith, within),
+        subst (λ (l : List ℕ). IsColumnWritten size_of Writes (take k texts) l)
+            (sym (take-put_mid_below start (length values - start) values rest start (omega arith) within)) column,
+      )
+
   -- with some more
   pub written-group : (more span : ℕ) (others : List ℕ) → start + span ≡ sum_by span_of (take (k + more) lengths)
       → length others ≡ length (take (start + span - start) (drop start values))
@@ -133,11 +151,11 @@ sum-left f lengths bytes k start whole at =
     ap (sum_by f) (all-left lengths k) ∙ rest ∙ sym (ap length (all-left bytes start) ∙ length-drop start bytes)
 
 -- some of them more
-pub sum-more : (f : ℕ → ℕ) (lengths : List ℕ) (k start more span : ℕ) → start ≡ sum_by f (take k lengths)
-    → span ≡ sum_by f (take more (take (length lengths - k) (drop k lengths)))
-    → (start + span ≡ sum_by f (take (k + more) lengths)) × (start + span ≤ sum_by f lengths)
+pub sum-more : (f : ℕ → ℕ) (lengths bytes : List ℕ) (k start more span : ℕ) → sum_by f lengths ≡ length bytes
+    → start ≡ sum_by f (take k lengths) → span ≡ sum_by f (take more (take (length lengths - k) (drop k lengths)))
+    → (start + span ≡ sum_by f (take (k + more) lengths)) × (start + span ≤ length bytes)
     × (span ≡ sum_by f (take (k + more - k) (drop k lengths)))
-sum-more f lengths k start more span at spans =
+sum-more f lengths bytes k start more span whole at spans =
     let here : span ≡ sum_by f (take more (drop k lengths)) =
     spans ∙ ap (λ (l : List ℕ). sum_by f (take more l)) (all-left lengths k) in
     let next : start + span ≡ sum_by f (take (k + more) lengths) =
@@ -145,7 +163,7 @@ sum-more f lengths k start more span at spans =
     ∙ ap (sum_by f) (sym (take-add k more lengths)) in
     let same : more ≡ k + more - k = omega arith in (
       next,
-      omega (arith, next, sum_by-take-le f lengths (k + more)),
+      omega (arith, next, sum_by-take-le f lengths (k + more), whole),
       here ∙ ap (λ n. sum_by f (take n (drop k lengths))) same,
     )
 
