@@ -16,7 +16,7 @@ ghost use Rattle.des_columns.specs.declared.form.BlockMode.TheVariants.{Cbc};
 ghost use Rattle.des_columns.specs.declared.form.Form.TheVariants.{Pkcs7};
 
 use crate::base64_in_place::{decode, encode, write_characters};
-use crate::column::{Reader, are_ok};
+use crate::column::{Reader, add_up_to, are_ok};
 use crate::form::{BlockMode, Form, Reading, finish};
 use crate::pbe::{Algorithm, PbeError};
 use crate::status::{ERR_BASE64, ERR_SALT_LENGTH, OK};
@@ -336,4 +336,32 @@ pub fn encrypt_values(
         start += size;
     }
     Ok(())
+}
+
+/// Whether the arguments of `encrypt_values` fit: the lengths add up to the bytes of the texts, those of
+/// their values to the length of the buffer, and each text has a salt.
+pub fn fits(salts: &[[u8; 8]], texts: &[u8], lengths: &[usize], values: &[u8]) -> bool
+    ensures { IsTrue result ↔ (sum lengths.now ≡ length texts.now)
+        × (length salts.now ≡ length lengths.now)
+        × (sum_by (λ size. value_size (8 + size)) lengths.now ≡ length values.now) }
+{
+    add_up_to(lengths, texts.len())
+        && salts.len() == lengths.len()
+        && values_add_up_to(lengths, values.len())
+}
+
+// Whether the values of texts of these lengths have `total` characters together.
+fn values_add_up_to(lengths: &[usize], total: usize) -> bool
+    requires { sum lengths.now < 2 ^ 63 }
+    ensures { IsTrue result ↔ (sum_by (λ size. value_size (8 + size)) lengths.now ≡ total) }
+{
+    let mut left = total;
+    'texts: for k in 0..lengths.len() {
+        let size = value_size(lengths[k]);
+        if left < size {
+            return false;
+        }
+        left -= size;
+    }
+    left == 0
 }
