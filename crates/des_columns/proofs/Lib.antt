@@ -18,3 +18,4 @@ pub mod SchemeRelations
 pub mod AlgorithmKeys
 pub mod Results
 pub mod TextsOfValues
+pub mod JasyptStrings
