@@ -16,7 +16,7 @@ use Rattle.des_columns.specs.Writings.{IsWriting}
 use Rattle.des_columns.specs.declared.form.BlockMode.TheVariants.{Cbc}
 use Rattle.des_columns.specs.declared.form.Form.TheVariants.{Pkcs7}
 use Rattle.des_columns.specs.declared.pbe.Algorithm.{Algorithm}
-use Rattle.des_columns.specs.declared.pbe.Algorithm.TheVariants.{Md5Des, Sha1Des, Md5TripleDes, Sha1TripleDes, Sha1TwoKeys}
+use Rattle.des_columns.specs.declared.pbe.Algorithm.TheVariants.{Md5Des, Sha1Des, Sha1TwoKeys}
 use Rattle.des_columns.specs.declared.status.TheConstants.{ERR_BASE64, ERR_SALT_LENGTH}
 
 -- ---- the text of a value
@@ -45,9 +45,8 @@ Encodes bytes characters = AreBytes bytes × (characters ≡ encode_of standard 
 abbrev pub relation_by : Algorithm → List ℕ → List ℕ → List ℕ → Type 0
 relation_by Md5Des key = Enciphers key
 relation_by Sha1Des key = Enciphers key
-relation_by Md5TripleDes key = EnciphersEde3 key
-relation_by Sha1TripleDes key = EnciphersEde3 key
 relation_by Sha1TwoKeys key = EnciphersEde2 key
+relation_by by key = EnciphersEde3 key
 
 -- what is encrypted, by a key and the vector behind it: CBC, and the padding of PKCS#7
 abbrev pub ReadsBy : Algorithm → List ℕ → List ℕ → ℤ → List ℕ → Type 0

@@ -49,14 +49,12 @@ filled size bytes = take size bytes ++ replicate (size - length bytes) 0
 abbrev pub relation_by : Cipher → List ℕ → List ℕ → List ℕ → Type 0
 relation_by Des key = Enciphers (filled 8 key)
 relation_by DesEcb key = Enciphers (filled 8 key)
-relation_by TripleDes key = EnciphersEde3 (filled 24 key)
-relation_by TripleDesEcb key = EnciphersEde3 (filled 24 key)
+relation_by cipher key = EnciphersEde3 (filled 24 key)
 
 abbrev pub mode_by : Cipher → List ℕ → BlockMode
-mode_by Des iv = Cbc (filled 8 iv)
 mode_by DesEcb iv = Ecb
-mode_by TripleDes iv = Cbc (filled 8 iv)
 mode_by TripleDesEcb iv = Ecb
+mode_by cipher iv = Cbc (filled 8 iv)
 
 abbrev pub Reads : Scheme → List ℕ → List ℕ → List ℕ → ℤ → List ℕ → Type 0
 Reads by key iv value status text =

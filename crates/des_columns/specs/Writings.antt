@@ -12,9 +12,8 @@ use Rattle.des_columns.specs.declared.form.Form.TheVariants.{Mysql, Pkcs7, Unpad
 
 -- a text of `size` bytes can be written: without padding it is whole blocks
 abbrev pub IsTextSize : Form → ℕ → Type 0
-IsTextSize Mysql size = Unit {0}
-IsTextSize Pkcs7 size = Unit {0}
 IsTextSize Unpadded size = size % 8 ≡ 0
+IsTextSize form size = Unit {0}
 
 -- a text and its padding: by PKCS#7 (RFC 5652, section 6.3) n bytes, 1 to 8, each with the value n; MySQL pads no empty text
 abbrev pub padded_by : Form → List ℕ → List ℕ
@@ -27,10 +26,8 @@ padded_by Unpadded text = text
 
 -- what stands before the blocks of a value: in MySQL 128 and the number of the key
 abbrev pub head_of : Form → ℕ → List ℕ → List ℕ
-head_of Mysql number [] = []
 head_of Mysql number (byte ∷ text) = (128 + number) ∷ []
-head_of Pkcs7 number text = []
-head_of Unpadded number text = []
+head_of form number text = []
 
 -- how many bytes the value of a text of `size` bytes has
 abbrev pub value_size : Form → ℕ → ℕ
