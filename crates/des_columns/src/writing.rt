@@ -1,4 +1,5 @@
-//! Columns, written under one key: the values of texts, one after another.
+//! Columns, written under one key: the values of texts, one after another. Short ones are encrypted in
+//! step, a block of each at a time, as records of `des_fast` are; a longer one goes by itself.
 
 ghost use Rattle.std.specs.Prelude.{◌≡◌, ◌≤◌, ◌<◌, ◌+◌, ◌*◌, ◌/◌, ◌%◌, ◌^◌, ◌++◌, ◌↔◌, ℕ, List, IsTrue, length, replicate, sum, take};
 ghost use Rattle.std.specs.List.{All, sum_by};
