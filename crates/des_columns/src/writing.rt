@@ -288,7 +288,9 @@ impl<C: SpreadOnce + Drop> Writer<C> {
 
 /// Writes the values of a column under one key, of texts of these lengths, one after another: each
 /// with the number of the key, if the form has one. Value k stands behind those before it. Texts that
-/// fit the buffer are encrypted in step, a block of each at a time.
+/// fit the buffer are encrypted in step, a block of each at a time. It is not inlined: else a call that
+/// takes several ciphers would take the stack of all.
+#[inline(never)]
 pub fn write_values<C: SpreadOnce + Drop, S: Slice>(
     key: &C::Key,
     form: Form,
