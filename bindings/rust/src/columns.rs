@@ -347,7 +347,7 @@ pub fn jasypt_decrypt<'a>(
 /// How many characters the string of Jasypt has for a text of this many bytes.
 #[must_use]
 pub const fn jasypt_length(length: usize) -> usize {
-    ((length / 8 + 2) * 8 + 2) / 3 * 4
+    ((length / 8 + 2) * 8).div_ceil(3) * 4
 }
 
 /// Encrypts texts into strings as Jasypt does, without `ENC(..)` around, one after another, which fill the list: each has the
