@@ -19,6 +19,7 @@ FAULTS = {
     "*.COUNTS if the sum of the counts*": {"counts": "no_counts"},
     "*.COUNTS if the sum of the lengths*": {"lengths": "no_counts"},
     "*.COUNTS*`vectors_length`*": {"vectors_length": "8 * count + 1"},
+    "*.COUNTS*`salts_length`*": {"salts_length": "8 * count + 1"},
     "*.COUNTS*`others_length`*": {"others_count": "2"},
     "*.COUNTS*": {"count": "count + 1"},
     "unpad.BLOCKS": {"length": "9"},

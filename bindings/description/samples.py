@@ -24,7 +24,7 @@ BY_NAME = {
     "values_count": "count", "wrapped_length": "40",
 }  # fmt: skip
 # Of lists that have a length beside their count, the size of an element.
-ELEMENTS = {"keys_length": 16, "tags_length": 8, "expected_length": 8, "values_length": 3, "serials_length": 10, "vectors_length": 8}
+ELEMENTS = {"keys_length": 16, "tags_length": 8, "expected_length": 8, "values_length": 3, "serials_length": 10, "vectors_length": 8, "salts_length": 8}
 # By patterns of a call and an argument, of which the first one counts.
 EXCEPTIONS = {
     "decimal_table_init*.length": "16", "decimal_table_init_any.digits": '"0000000000000000"', "des_open_salted.hash": "CUKVASHE_SHA1",
@@ -36,6 +36,7 @@ EXCEPTIONS = {
     "mysql_*_by_file.keys": '(const uint8_t *)"9 key\\n"', "mysql_*_by_file.keys_length": "6",
     "mysql_decrypt_*.values": "column", "mysql_decrypt_*.length": "9 * count", "mysql_decrypt_*.lengths": "nines",
     "mysql_encrypt_*.values_length": "17 * count", "pgcrypto_encrypt_*.values_length": "16 * count",
+    "jasypt_encrypt_*.values_length": "32 * count",
     "jasypt_*.algorithm": '"PBEWithMD5AndDES"', "jasypt_*.algorithm_length": "16",
     "pbe_key.algorithm": '"PBEWithMD5AndTripleDES"', "pbe_key.algorithm_length": "22", "pbe_key.key_length": "32",
     "pin_translate_to_1.block": "sent + 8", "pin_translate_to_1.translation": "&translations[1]",

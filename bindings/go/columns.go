@@ -157,8 +157,8 @@ func PBEKey(algorithm PBE, iterations int, password, salt []byte, length int) ([
 // The key of each is derived by itself. Values and errors as of MySQLDecryptValues: ErrBase64, ErrSaltLength, ErrBlockLength,
 // ErrPaddingMismatch. ErrAlgorithmName, ErrIterationCount.
 func JasyptDecryptValues(algorithm PBE, iterations int, password []byte, values []string) ([][]byte, error) {
-	if _, err := jasyptOf(algorithm); err != nil {
-		return nil, err
+	if !algorithm.isOfJasypt() {
+		return nil, ErrAlgorithmName
 	}
 	name, length := text(string(algorithm))
 	rows := make([][]byte, len(values))
@@ -171,50 +171,50 @@ func JasyptDecryptValues(algorithm PBE, iterations int, password []byte, values 
 	})
 }
 
-// jasyptOf is how many bytes key and vector have by an algorithm of Jasypt.
-func jasyptOf(algorithm PBE) (int, error) {
-	length := map[PBE]int{PBEWithMD5AndDES: 16, PBEWithMD5AndTripleDES: 32, PBEWithSHA1AndDESede: 32}[algorithm]
-	if length == 0 {
-		return 0, ErrAlgorithmName
-	}
-	return length, nil
+func (a PBE) isOfJasypt() bool {
+	return a == PBEWithMD5AndDES || a == PBEWithMD5AndTripleDES || a == PBEWithSHA1AndDESede
 }
 
-// byPassword is the cipher under a password, and the vector.
-func byPassword(algorithm PBE, iterations, length int, password, salt []byte) (*Block, []byte, error) {
-	made, err := PBEKey(algorithm, iterations, password, salt, length)
-	if err != nil {
-		return nil, nil, err
+// JasyptEncryptValues are the strings of texts, each from a random salt, without ENC(..) around. ErrAlgorithmName, ErrIterationCount.
+func JasyptEncryptValues(algorithm PBE, iterations int, password []byte, texts [][]byte) ([]string, error) {
+	salts := make([]byte, BlockSize*len(texts))
+	if _, err := rand.Read(salts); err != nil {
+		return nil, err
 	}
-	key, vector := made[:length-BlockSize], made[length-BlockSize:]
-	defer wipe(key)
-	block, err := New(key)
-	return block, vector, err
+	return jasyptEncrypt(algorithm, iterations, password, salts, texts)
 }
 
-// JasyptEncrypt is the string of a text, from a random salt, without ENC(..) around. ErrAlgorithmName, ErrIterationCount.
+// JasyptEncrypt is the string of one text.
 func JasyptEncrypt(algorithm PBE, iterations int, password, plain []byte) (string, error) {
-	var salt [BlockSize]byte
-	if _, err := rand.Read(salt[:]); err != nil {
+	made, err := JasyptEncryptValues(algorithm, iterations, password, [][]byte{plain})
+	if err != nil {
 		return "", err
 	}
-	return jasyptEncrypt(algorithm, iterations, password, salt[:], plain)
+	return made[0], nil
 }
 
-func jasyptEncrypt(algorithm PBE, iterations int, password, salt, plain []byte) (string, error) {
-	length, err := jasyptOf(algorithm)
-	if err != nil {
-		return "", err
+func jasyptEncrypt(algorithm PBE, iterations int, password, salts []byte, texts [][]byte) ([]string, error) {
+	if !algorithm.isOfJasypt() {
+		return nil, ErrAlgorithmName
 	}
-	data, err := PKCS7.Pad(plain)
-	if err != nil {
-		return "", err
+	name, length := text(string(algorithm))
+	var joined []byte
+	var total int
+	lengths, ends := make([]C.size_t, len(texts)), make([]int, len(texts))
+	for at, it := range texts {
+		joined, lengths[at] = append(joined, it...), size(it)
+		total += base64.StdEncoding.EncodedLen((len(it)/BlockSize + 2) * BlockSize)
+		ends[at] = total
 	}
-	block, vector, err := byPassword(algorithm, iterations, length, password, salt)
-	if err != nil {
-		return "", err
+	values := make([]byte, total)
+	status := C.cukvashe_jasypt_encrypt_values(name, length, C.size_t(iterations), bytes(password), size(password), bytes(salts), size(salts),
+		bytes(joined), size(joined), sizes(lengths), C.size_t(len(texts)), bytes(values), size(values))
+	if status != C.CUKVASHE_OK {
+		return nil, Error(status)
 	}
-	defer block.Wipe()
-	block.NewCBCEncrypter(vector).CryptBlocks(data, data)
-	return base64.StdEncoding.EncodeToString(append(salt, data...)), nil
+	made, from := make([]string, len(texts)), 0
+	for at, end := range ends {
+		made[at], from = string(values[from:end]), end
+	}
+	return made, nil
 }

@@ -78,9 +78,17 @@ func TestStringsOfJasypt(t *testing.T) {
 		spaced := "\t ENC( " + it[0][:5] + "\r\n" + it[0][5:] + "\f) \n"
 		texts, err := JasyptDecryptValues(algorithm, 1000, password, []string{it[0], "ENC(" + it[0] + ")", spaced})
 		reads(t, texts, err, plain, plain, plain)
-		if made, err := jasyptEncrypt(algorithm, 1000, password, x(it[1]), []byte(plain)); made != it[0] || err != nil {
+		salt := x(it[1])
+		made, err := jasyptEncrypt(algorithm, 1000, password, append(salt, salt...), [][]byte{[]byte(plain), []byte(plain)})
+		if err != nil || !reflect.DeepEqual(made, []string{it[0], it[0]}) {
 			t.Error(algorithm, made, err)
 		}
+		column := [][]byte{nil, []byte("a"), []byte(strings.Repeat("b", 100)), []byte(plain)}
+		if made, err = JasyptEncryptValues(algorithm, 3, password, column); err != nil {
+			t.Fatal(algorithm, err)
+		}
+		texts, err = JasyptDecryptValues(algorithm, 3, password, made)
+		reads(t, texts, err, "", "a", string(column[2]), plain)
 		for length := 0; length < 40; length++ {
 			text := strings.Repeat("a", length)
 			made, err := JasyptEncrypt(algorithm, 3, password, []byte(text))
@@ -145,6 +153,8 @@ func TestColumnsThatAreRefused(t *testing.T) {
 		"no cipher":    {second((&Pgcrypto{Key: key}).DecryptValues(nil)), ErrAlgorithmName},
 		"an algorithm": {second(JasyptDecryptValues(PBEWithSHA1AndDES, 1000, key, nil)), ErrAlgorithmName},
 		"no iteration": {second(JasyptDecryptValues(PBEWithMD5AndDES, 0, key, nil)), ErrIterationCount},
+		"another":      {second(JasyptEncryptValues(PBEWithSHA1AndDES, 1000, key, nil)), ErrAlgorithmName},
+		"none":         {second(JasyptEncryptValues(PBEWithMD5AndDES, 0, key, nil)), ErrIterationCount},
 		"fewer":        {second(JasyptEncrypt(PBEWithMD5AndDES, -1, key, nil)), ErrIterationCount},
 		"a salt":       {second(PBEKey(PBEWithMD5AndTripleDES, 1, key, key, 32)), ErrSaltLength},
 		"a length":     {second(PBEKey(PBEWithSHAAnd2KeyTripleDES, 1, key, key, 32)), ErrKeyLength},

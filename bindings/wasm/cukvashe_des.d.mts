@@ -671,6 +671,10 @@ export function jasyptDecryptValues(
   password: Uint8Array, values: Iterable<Row<string | Uint8Array>>,
   options?: { algorithm?: JasyptAlgorithm; iterations?: number; errors?: Errors },
 ): (Uint8Array | null)[];
+/** The strings of texts, without ENC(..) around, each from a random salt. Options and errors as of jasyptDecryptValues. */
+export function jasyptEncryptValues(
+  password: Uint8Array, texts: Iterable<Row>, options?: { algorithm?: JasyptAlgorithm; iterations?: number },
+): (string | null)[];
 /** The string of a text, without ENC(..) around, from a random salt, or one of 8 bytes. SaltLength; as jasyptDecryptValues. */
 export function jasyptEncrypt(
   password: Uint8Array, text: Uint8Array,

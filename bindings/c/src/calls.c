@@ -1151,6 +1151,16 @@ int cukvashe_jasypt_decrypt_values(const char *algorithm, size_t algorithm_lengt
   return result;
 }
 
+int cukvashe_jasypt_encrypt_values(const char *algorithm, size_t algorithm_length, size_t iterations,
+    const uint8_t *password, size_t password_length, const uint8_t *salts, size_t salts_length, const uint8_t *texts,
+    size_t length, const size_t *lengths, size_t texts_count, uint8_t *values, size_t values_length) {
+  if (!are_elements(texts_count, 8, salts_length)) return CUKVASHE_ERR_COUNTS;
+  const int result = cukvashe_internal_jasypt_encrypt_values((const uint8_t *)algorithm, algorithm_length, iterations,
+    password, password_length, salts, texts_count, texts, length, lengths, texts_count, values, values_length);
+  cukvashe_internal_wipe_stack(STACK_jasypt_encrypt_values);
+  return result;
+}
+
 size_t cukvashe_des_size(void) {
   return sizeof(cukvashe_des);
 }

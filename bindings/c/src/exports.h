@@ -15,6 +15,9 @@ int cukvashe_internal_jasypt_decrypt_values(const uint8_t *algorithm, size_t alg
     const uint8_t *password, size_t password_count, const uint8_t *values, size_t values_count, const size_t *lengths,
     size_t lengths_count, uint8_t *texts, size_t texts_count, size_t *text_lengths, size_t text_lengths_count,
     int *statuses, size_t statuses_count);
+int cukvashe_internal_jasypt_encrypt_values(const uint8_t *algorithm, size_t algorithm_count, size_t iterations,
+    const uint8_t *password, size_t password_count, const uint8_t *salts, size_t salts_count, const uint8_t *texts,
+    size_t texts_count, const size_t *lengths, size_t lengths_count, uint8_t *values, size_t values_count);
 bool cukvashe_internal_equal_but_parity(const uint8_t *first, size_t first_count, const uint8_t *second,
     size_t second_count);
 int cukvashe_internal_encrypt_ecb(const uint64_t *context, size_t context_count, uint8_t *blocks, size_t blocks_count,
@@ -321,10 +324,11 @@ enum {
   STACK_mysql_decrypt_values = 44650,
   STACK_mysql_decrypt_values_by_file = 44650,
   STACK_pgcrypto_decrypt_values = 44650,
-  STACK_mysql_encrypt_values = 44650,
-  STACK_pgcrypto_encrypt_values = 44650,
+  STACK_mysql_encrypt_values = 65650,
+  STACK_pgcrypto_encrypt_values = 65650,
   STACK_pbe_key = 5650,
   STACK_jasypt_decrypt_values = 44650,
+  STACK_jasypt_encrypt_values = 44650,
 };
 
 #endif

@@ -346,6 +346,8 @@ static void call_pbe_key(void) { returned = cukvashe_pbe_key("PBEWithMD5AndTripl
 static void call_jasypt_decrypt_values(void) { returned = cukvashe_jasypt_decrypt_values("PBEWithMD5AndDES", 16, 2,
     others, sizeof others, blocks, 8 * count, eights, count, (void *)outputs[0], (void *)outputs[1],
     (void *)outputs[2]); }
+static void call_jasypt_encrypt_values(void) { returned = cukvashe_jasypt_encrypt_values("PBEWithMD5AndDES", 16, 2,
+    others, sizeof others, blocks, 8 * count, blocks, 8 * count, eights, count, (void *)outputs[0], 32 * count); }
 static void call_des_size(void) { returned = cukvashe_des_size(); }
 static void call_tdes_ede2_size(void) { returned = cukvashe_tdes_ede2_size(); }
 static void call_tdes_ede3_size(void) { returned = cukvashe_tdes_ede3_size(); }
@@ -589,10 +591,11 @@ static const struct call calls[] = {
     {"mysql_decrypt_values", call_mysql_decrypt_values, 45000, 1, 1, 0},
     {"mysql_decrypt_values_by_file", call_mysql_decrypt_values_by_file, 45000, 1, 1, 0},
     {"pgcrypto_decrypt_values", call_pgcrypto_decrypt_values, 45000, 1, 1, 0},
-    {"mysql_encrypt_values", call_mysql_encrypt_values, 45000, 1, 1, 0},
-    {"pgcrypto_encrypt_values", call_pgcrypto_encrypt_values, 45000, 1, 1, 0},
+    {"mysql_encrypt_values", call_mysql_encrypt_values, 66000, 1, 1, 0},
+    {"pgcrypto_encrypt_values", call_pgcrypto_encrypt_values, 66000, 1, 1, 0},
     {"pbe_key", call_pbe_key, 6000, 1, 0, 0},
     {"jasypt_decrypt_values", call_jasypt_decrypt_values, 45000, 1, 1, 0},
+    {"jasypt_encrypt_values", call_jasypt_encrypt_values, 45000, 1, 1, 0},
     {"des_size", call_des_size, 6000, 0, 0, 0},
     {"tdes_ede2_size", call_tdes_ede2_size, 6000, 0, 0, 0},
     {"tdes_ede3_size", call_tdes_ede3_size, 6000, 0, 0, 0},

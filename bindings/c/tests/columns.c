@@ -89,6 +89,22 @@ static const struct {
     {"PBEWithSHA1AndDESede", 3, "UoVwmpBYVVj69/ioeARjnQ==", "abc"},
 };
 
+/* Columns that Jasypt wrote, string by string, from these salts. */
+static const struct {
+  const char *algorithm;
+  size_t iterations;
+  const char *salts, *texts;
+  size_t lengths[2], count;
+  const char *values;
+} written[] = {
+    {"PBEWithMD5AndDES", 1000, "5c52371a4387baf613c292d6e1e0dfc0", "jdbc password 1sixteen bytes ok", {15, 16}, 2,
+     "XFI3GkOHuvaUreHPZLAFn+zx81+pE+jNE8KS1uHg38AwBs7/kCY4gRlOIlkMWvhQuAAdn411wkE="},
+    {"PBEWithMD5AndTripleDES", 1000, "fb7e11044d3b2ed1", "jdbc password 1", {15}, 1, "+34RBE07LtEN82W7f6UWaHttfv/kGSJv"},
+    {"PBEWithMD5AndTripleDES", 2, "092d857a3df2a758", "", {0}, 1, "CS2Fej3yp1hhDZ58maRj1Q=="},
+    {"pbewithsha1anddesede", 1000, "00ced7c2c3b3c5f9", "jdbc password 1", {15}, 1, "AM7XwsOzxflFDMNvCTJm5cjZuLZa/GEf"},
+    {"PBEWithSHA1AndDESede", 3, "5285709a90585558", "abc", {3}, 1, "UoVwmpBYVVj69/ioeARjnQ=="},
+};
+
 /* What one call gives of one value. */
 static void reads(int status, const char *text, const uint8_t *texts, size_t text_length, int of_value, size_t length) {
   CHECK(status == CUKVASHE_OK && of_value == CUKVASHE_OK && text_length == strlen(text));
@@ -186,6 +202,24 @@ static void writes_known_values(void) {
                                             (const uint8_t *)pgcrypto[i].iv, strlen(pgcrypto[i].iv), (const uint8_t *)pgcrypto[i].text,
                                             length, &length, 1, bytes, strlen(pgcrypto[i].value) / 2),
            pgcrypto[i].value, bytes);
+  }
+}
+
+static int write_jasypt(const char *algorithm, size_t iterations, const uint8_t *salts, size_t salts_length, const void *bytes, size_t length,
+                        const size_t *sizes, size_t count, void *out, size_t out_length) {
+  return cukvashe_jasypt_encrypt_values(TEXT(algorithm), iterations, (const uint8_t *)"secret", 6, salts, salts_length, bytes, length, sizes,
+                                        count, out, out_length);
+}
+
+static void writes_strings_of_jasypt(void) {
+  for (size_t i = 0; i < sizeof written / sizeof *written; i++) {
+    uint8_t salts[16], bytes[2 * MOST];
+    const size_t length = strlen(written[i].values);
+    put(salts, written[i].salts);
+    memset(bytes, PAINT, sizeof bytes);
+    CHECK(write_jasypt(written[i].algorithm, written[i].iterations, salts, 8 * written[i].count, written[i].texts, strlen(written[i].texts),
+                       written[i].lengths, written[i].count, bytes, length) == CUKVASHE_OK);
+    CHECK(memcmp(bytes, written[i].values, length) == 0 && bytes[length] == PAINT);
   }
 }
 
@@ -333,26 +367,43 @@ static int write_blocks(const uint8_t *bytes, size_t length, const size_t *sizes
                                           out, out_length);
 }
 
-typedef int writer(const uint8_t *, size_t, const size_t *, size_t, uint8_t *, size_t);
+/* Strings of Jasypt, whose salts are alike here. */
+static uint8_t salts[8 * VALUES];
 
-/* How many bytes the value of a text has: `head` before the blocks of a text that has padding, of a whole block if it is empty and `whole`. */
-static size_t value_size(size_t length, int is_padded, size_t head, int whole) {
-  if (!is_padded || (length == 0 && !whole)) return length;
-  return (length / 8 + 1) * 8 + head;
+static int read_strings(const uint8_t *bytes, size_t length, const size_t *sizes, size_t count, uint8_t *out, size_t *out_lengths,
+                        int *out_statuses) {
+  return read_jasypt("PBEWithMD5AndTripleDES", 1, bytes, length, sizes, count, out, out_lengths, out_statuses);
 }
 
-/* Each text of a column is written as by itself, and read back. Two texts have more bytes than the library takes at a time. */
-static void writes_each_by_itself(writer *write, reader *read, int is_padded, size_t head, int whole) {
+static int write_strings(const uint8_t *bytes, size_t length, const size_t *sizes, size_t count, uint8_t *out, size_t out_length) {
+  return write_jasypt("PBEWithMD5AndTripleDES", 1, salts, 8 * count, bytes, length, sizes, count, out, out_length);
+}
+
+typedef int writer(const uint8_t *, size_t, const size_t *, size_t, uint8_t *, size_t);
+
+/* How many bytes the value of a text has. */
+typedef size_t sizer(size_t);
+
+static size_t mysql_size(size_t length) { return length == 0 ? 0 : (length / 8 + 1) * 8 + 1; }
+
+static size_t pgcrypto_size(size_t length) { return (length / 8 + 1) * 8; }
+
+static size_t blocks_size(size_t length) { return length; }
+
+static size_t string_size(size_t length) { return ((length / 8 + 2) * 8 + 2) / 3 * 4; }
+
+/* Each text of a column, of whole units, is written as by itself, and read back. Two texts have more bytes than the library takes at a time. */
+static void writes_each_by_itself(writer *write, reader *read, sizer *size, size_t unit) {
   static const size_t counts[] = {0, 1, 2, 31, 200, VALUES};
-  static uint8_t column[2 * VALUES * MOST], back[2 * VALUES * MOST], alone[10000];
+  static uint8_t column[2 * VALUES * MOST], back[2 * VALUES * MOST], alone[13000];
   static size_t sizes[VALUES];
   for (size_t n = 0; n < sizeof counts / sizeof *counts; n++) {
     const size_t count = counts[n];
     size_t length = 0, capacity = 0, from = 0, place = 0;
     for (size_t k = 0; k < count; k++) {
-      lengths[k] = k == 20 ? 9000 : k == 30 ? 8192 : k % 7 == 0 ? 0 : is_padded ? k % 31 : k % 4 * 8;
+      lengths[k] = k == 20 ? 9000 : k == 30 ? 8192 : k % 7 == 0 ? 0 : k % 31 / unit * unit;
       length += lengths[k];
-      capacity += sizes[k] = value_size(lengths[k], is_padded, head, whole);
+      capacity += sizes[k] = size(lengths[k]);
     }
     random_bytes(values, length);
     memset(column, PAINT, sizeof column);
@@ -393,6 +444,14 @@ static void refuses_to_write(void) {
   stays(write_pgcrypto(values, 17, two, 2, text, 33), CUKVASHE_ERR_COUNTS);
   stays(write_blocks(values, 17, two, 2, text, 17), CUKVASHE_ERR_BLOCKS);
   stays(cukvashe_pgcrypto_encrypt_values(TEXT("aes"), key, 8, key, 8, values, 17, two, 2, text, 32), CUKVASHE_ERR_ALGORITHM);
+  stays(write_jasypt("PBEWithMD5AndRC2", 0, salts, 8, values, 9, two, 1, text, 33), CUKVASHE_ERR_ALGORITHM);
+  stays(write_jasypt("PBEWithMD5AndDES", 0, salts, 8, values, 9, two, 1, text, 33), CUKVASHE_ERR_ITERATIONS);
+  stays(write_jasypt("PBEWithMD5AndDES", (size_t)1 << 32, salts, 8, values, 9, two, 1, text, 32), CUKVASHE_ERR_ITERATIONS);
+  for (size_t off = 0; off < 3; off += 2) {
+    stays(write_jasypt("PBEWithMD5AndDES", 1, salts, 7 + off, values, 9, two, 1, text, 32), CUKVASHE_ERR_COUNTS);
+    stays(write_jasypt("PBEWithMD5AndDES", 1, salts, 8, values, 8 + off, two, 1, text, 32), CUKVASHE_ERR_COUNTS);
+    stays(write_jasypt("PBEWithMD5AndDES", 1, salts, 8, values, 9, two, 1, text, 31 + off), CUKVASHE_ERR_COUNTS);
+  }
 }
 
 /* An error of the arguments: nothing is written. */
@@ -429,14 +488,16 @@ int main(void) {
   reads_key_files();
   reads_strings_of_jasypt();
   writes_known_values();
+  writes_strings_of_jasypt();
   writes_a_known_column();
   derives_keys();
   reads_each_by_itself(read_mysql, 1, 0xff);
   reads_each_by_itself(read_mysql_by_file, 1, 0x8f);
   reads_each_by_itself(read_pgcrypto, 0, 0xff);
-  writes_each_by_itself(write_mysql, read_mysql, 1, 1, 0);
-  writes_each_by_itself(write_pgcrypto, read_pgcrypto, 1, 0, 1);
-  writes_each_by_itself(write_blocks, read_blocks, 0, 0, 1);
+  writes_each_by_itself(write_mysql, read_mysql, mysql_size, 1);
+  writes_each_by_itself(write_pgcrypto, read_pgcrypto, pgcrypto_size, 1);
+  writes_each_by_itself(write_blocks, read_blocks, blocks_size, 8);
+  writes_each_by_itself(write_strings, read_strings, string_size, 1);
   refuses();
   refuses_to_write();
   printf("columns: %zu values of MariaDB, %zu of pgcrypto, %zu strings and %zu keys of Jasypt; columns of up to %d values\n",

@@ -176,4 +176,5 @@ void ignores(void) {
   cukvashe_pgcrypto_encrypt_values(0, 0, 0, 0, 0, 0, 0, 0, 0, 0, 0, 0);
   cukvashe_pbe_key(0, 0, 0, 0, 0, 0, 0, 0, 0);
   cukvashe_jasypt_decrypt_values(0, 0, 0, 0, 0, 0, 0, 0, 0, 0, 0, 0);
+  cukvashe_jasypt_encrypt_values(0, 0, 0, 0, 0, 0, 0, 0, 0, 0, 0, 0, 0);
 }

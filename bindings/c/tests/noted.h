@@ -23,6 +23,14 @@ int cukvashe_internal_jasypt_decrypt_values(const uint8_t *algorithm, size_t alg
     (uintptr_t)lengths, (uintptr_t)lengths_count, (uintptr_t)texts, (uintptr_t)texts_count, (uintptr_t)text_lengths,
     (uintptr_t)text_lengths_count, (uintptr_t)statuses, (uintptr_t)statuses_count));
 }
+int cukvashe_internal_jasypt_encrypt_values(const uint8_t *algorithm, size_t algorithm_count, size_t iterations,
+    const uint8_t *password, size_t password_count, const uint8_t *salts, size_t salts_count, const uint8_t *texts,
+    size_t texts_count, const size_t *lengths, size_t lengths_count, uint8_t *values, size_t values_count) {
+  return noted("internal jasypt_encrypt_values", ARGUMENTS((uintptr_t)algorithm, (uintptr_t)algorithm_count,
+    (uintptr_t)iterations, (uintptr_t)password, (uintptr_t)password_count, (uintptr_t)salts, (uintptr_t)salts_count,
+    (uintptr_t)texts, (uintptr_t)texts_count, (uintptr_t)lengths, (uintptr_t)lengths_count, (uintptr_t)values,
+    (uintptr_t)values_count));
+}
 bool cukvashe_internal_equal_but_parity(const uint8_t *first, size_t first_count, const uint8_t *second,
     size_t second_count) {
   return noted("internal equal_but_parity", ARGUMENTS((uintptr_t)first, (uintptr_t)first_count, (uintptr_t)second,

@@ -641,6 +641,11 @@ static int faulty_jasypt_decrypt_values(const bool *has) {
     sizeof others, blocks, 8 * count, has[2] ? no_counts : eights, count, (void *)outputs[0], (void *)outputs[1],
     (void *)outputs[2]);
 }
+static int faulty_jasypt_encrypt_values(const bool *has) {
+  return cukvashe_jasypt_encrypt_values(has[1] ? "PBEWithMD5AndDEX" : "PBEWithMD5AndDES", 16, has[2] ? 0 : 2, others,
+    sizeof others, blocks, has[0] ? 8 * count + 1 : 8 * count, blocks, 8 * count, has[3] ? no_counts : eights, count,
+    (void *)outputs[0], 32 * count);
+}
 
 /* The statuses of the faults of each call, in the order of the header. */
 static const struct order orders[] = {
@@ -863,4 +868,6 @@ static const struct order orders[] = {
     CUKVASHE_ERR_SALT_LENGTH}},
     {"jasypt_decrypt_values", faulty_jasypt_decrypt_values, {CUKVASHE_ERR_ALGORITHM, CUKVASHE_ERR_ITERATIONS,
     CUKVASHE_ERR_COUNTS, CUKVASHE_ERR_VALUES}},
+    {"jasypt_encrypt_values", faulty_jasypt_encrypt_values, {CUKVASHE_ERR_COUNTS, CUKVASHE_ERR_ALGORITHM,
+    CUKVASHE_ERR_ITERATIONS, CUKVASHE_ERR_COUNTS}},
 };

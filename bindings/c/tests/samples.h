@@ -8,7 +8,7 @@ enum { LIST = 300 };
 
 /* What calls take, and the buffers that they write: `outputs`. */
 static uint8_t key[24], keys[24 * LIST], others[100], blocks[8 * LIST], salted[8 * LIST] = "Salted__";
-static uint64_t contexts[9][64], outputs[3][24 * LIST / 8];
+static uint64_t contexts[9][64], outputs[3][32 * LIST / 8];
 static const char pin_digits[] = "123456789012";
 static uint8_t sent[16]; /* PIN blocks of formats 0 and 1 that are encrypted under the key, so that they are translated */
 static const uint8_t serial[10] = {0xff, 0xff, 0x98, 0x76, 0x54, 0x32, 0x10, 0xef, 0xf8};

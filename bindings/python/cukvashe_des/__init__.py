@@ -156,6 +156,7 @@ from ._faults import (
 from ._columns import (
     jasypt_decrypt_values,
     jasypt_encrypt,
+    jasypt_encrypt_values,
     mysql_decrypt_values,
     mysql_decrypt_values_by_file,
     mysql_encrypt_values,
@@ -234,13 +235,13 @@ __all__ = [
     "dukpt_next_serial", "dukpt_pin_key", "dukpt_transaction_key", "dukpt_transaction_keys_from_base",
     "emv_application_cryptogram", "emv_application_key", "emv_card_key", "emv_card_key_b", "emv_response_1", "emv_response_2",
     "emv_session_key", "encrypt_cbc_records", "encrypt_each", "encrypt_each_into", "equal_but_parity", "is_weak_key",
-    "jasypt_decrypt_values", "jasypt_encrypt", "key_block_context", "key_block_header", "key_block_optional_blocks",
-    "key_check_value", "macs", "macs_each", "mysql_decrypt_values", "mysql_decrypt_values_by_file", "mysql_encrypt_values",
-    "natural_pin", "open_salted", "pad", "pbe_key", "pbkdf2", "pgcrypto_decrypt_values", "pgcrypto_encrypt_values",
-    "pin_decode_0", "pin_decode_1", "pin_decode_2", "pin_decode_3", "pin_encode_0", "pin_encode_1", "pin_encode_2",
-    "pin_encode_3", "pin_offset", "pin_offset_verify", "pin_translate_to_0", "pin_translate_to_1", "pin_translate_to_3", "pvv",
-    "pvv_verify", "short_key_check_value", "tkw_unwrap_key", "tkw_wrap_key", "unpad", "unwrap_key_block", "with_odd_parity",
-    "wrap_key_block", "wrong_tags",
+    "jasypt_decrypt_values", "jasypt_encrypt", "jasypt_encrypt_values", "key_block_context", "key_block_header",
+    "key_block_optional_blocks", "key_check_value", "macs", "macs_each", "mysql_decrypt_values", "mysql_decrypt_values_by_file",
+    "mysql_encrypt_values", "natural_pin", "open_salted", "pad", "pbe_key", "pbkdf2", "pgcrypto_decrypt_values",
+    "pgcrypto_encrypt_values", "pin_decode_0", "pin_decode_1", "pin_decode_2", "pin_decode_3", "pin_encode_0", "pin_encode_1",
+    "pin_encode_2", "pin_encode_3", "pin_offset", "pin_offset_verify", "pin_translate_to_0", "pin_translate_to_1",
+    "pin_translate_to_3", "pvv", "pvv_verify", "short_key_check_value", "tkw_unwrap_key", "tkw_wrap_key", "unpad",
+    "unwrap_key_block", "with_odd_parity", "wrap_key_block", "wrong_tags",
 ]
 # This ends what bindings/describe made.
 

@@ -199,6 +199,7 @@ CALLS: Dict[str, Tuple[Any, ...]] = {
     "pgcrypto_encrypt_values": (INT, POINTER, SIZE, POINTER, SIZE, POINTER, SIZE, POINTER, SIZE, POINTER, SIZE, POINTER, SIZE),
     "pbe_key": (INT, POINTER, SIZE, SIZE, POINTER, SIZE, POINTER, SIZE, POINTER, SIZE),
     "jasypt_decrypt_values": (INT, POINTER, SIZE, SIZE, POINTER, SIZE, POINTER, SIZE, POINTER, SIZE, POINTER, POINTER, POINTER),
+    "jasypt_encrypt_values": (INT, POINTER, SIZE, SIZE, POINTER, SIZE, POINTER, SIZE, POINTER, SIZE, POINTER, SIZE, POINTER, SIZE),
     "des_size": (SIZE,),
     "tdes_ede2_size": (SIZE,),
     "tdes_ede3_size": (SIZE,),

@@ -2,14 +2,12 @@
 
 from __future__ import annotations
 
-import contextlib
 import ctypes
 import re
 import secrets
 from array import array
-from base64 import b64encode
 from itertools import accumulate
-from typing import AbstractSet, Any, Callable, Dict, Iterable, Iterator, List, Mapping, NamedTuple, Optional, Tuple
+from typing import AbstractSet, Any, Callable, Dict, Iterable, List, Mapping, NamedTuple, Optional, Tuple, TypeVar
 
 from ._ciphers import Cipher, Des, TdesEde3
 from ._data import BLOCK_SIZE, buffer_of, bytes_of, in_order, pointer_to, row_size, secret_of, wiped_buffer
@@ -27,8 +25,8 @@ _KEY_STRING = 127
 # What pgcrypto is given: the cipher, its mode, and its padding, of which the last counts.
 _SCHEME = re.compile(r"(3des|des3(?=-)|des)(-cbc|-ecb)?((?:/(?:pad:pkcs|pad:none)?)*)", re.IGNORECASE)
 
-# The algorithms of Jasypt, each with its cipher.
-_JASYPT = {"PBEWithMD5AndDES": Des, "PBEWithMD5AndTripleDES": TdesEde3, "PBEWithSHA1AndDESede": TdesEde3}
+# The algorithms of Jasypt, in small letters.
+_JASYPT = ("pbewithmd5anddes", "pbewithmd5andtripledes", "pbewithsha1anddesede")
 
 # The lengths of key and vector together.
 _LENGTHS = {KEY_LENGTH: ": 16, 24 or 32 bytes, as the algorithm has it"}
@@ -38,12 +36,14 @@ _OF_A_FILE = {KEY_NUMBER: "the file has no key of the value's number"}
 _OF_A_STRING = {SALT_LENGTH: "the value ends within the salt", BLOCKS: "what is encrypted is not whole blocks of 8 bytes"}
 
 _Texts = List[Optional[bytes]]
+_Answer = TypeVar("_Answer", bytes, str)
 
 _bytes_to_key = function("bytes_to_key")
 _mysql_decrypt_values = function("mysql_decrypt_values")
 _mysql_decrypt_values_by_file = function("mysql_decrypt_values_by_file")
 _pgcrypto_decrypt_values = function("pgcrypto_decrypt_values")
 _jasypt_decrypt_values = function("jasypt_decrypt_values")
+_jasypt_encrypt_values = function("jasypt_encrypt_values")
 _pbe_key = function("pbe_key")
 
 
@@ -87,11 +87,11 @@ class _Taken(NamedTuple):
     rows: int
     places: Optional[List[int]]
 
-    def spread(self, answers: _Texts) -> _Texts:
+    def spread(self, answers: List[Optional[_Answer]]) -> List[Optional[_Answer]]:
         """The answers in the rows of their values, and None elsewhere."""
         if self.places is None:
             return answers
-        spread: _Texts = [None] * self.rows
+        spread: List[Optional[_Answer]] = [None] * self.rows
         for place, answer in zip(self.places, answers):
             spread[place] = answer
         return spread
@@ -246,33 +246,12 @@ def pgcrypto_encrypt_values(cipher: str, key: ReadableBuffer, texts: Column, *, 
             return taken.spread([*_chained(made, bytes_of(iv)[:BLOCK_SIZE].ljust(BLOCK_SIZE, b"\0"), padded)])
 
 
-@contextlib.contextmanager
-def _derived(algorithm: str, password: Tuple[Any, int], iterations: int, salt: bytes, length: int) -> Iterator[Any]:
-    """The key and the vector of a password, wiped after a call."""
+def _of_jasypt(algorithm: str) -> Tuple[bytes, int]:
+    """The name of an algorithm of Jasypt, as a call takes it."""
     name = _named(algorithm, "an algorithm")
-    with wiped_buffer(length) as made:
-        status = _pbe_key(*name, iterations, *password, salt, len(salt), made, length)
-        if status == SALT_LENGTH:
-            raise SaltLengthError(f"by this algorithm a salt has {BLOCK_SIZE} bytes, not {len(salt)}")
-        check(status, taken=_LENGTHS)
-        yield made
-
-
-@contextlib.contextmanager
-def _by_password(kind: Any, algorithm: str, password: Tuple[Any, int], iterations: int, salt: bytes) -> Iterator[Tuple[Cipher, bytes]]:
-    """The cipher under a password, and the vector."""
-    with _derived(algorithm, password, iterations, salt, kind.key_size + BLOCK_SIZE) as made:
-        with kind(memoryview(made)[:-BLOCK_SIZE]) as cipher:
-            yield cipher, bytes(made[-BLOCK_SIZE:])
-
-
-def _of_jasypt(algorithm: str) -> Any:
-    """The cipher of an algorithm of Jasypt, and its name as here."""
-    _named(algorithm, "an algorithm")
-    found = [(kind, name) for name, kind in _JASYPT.items() if name.lower() == algorithm.lower()]
-    if not found:
+    if algorithm.lower() not in _JASYPT:
         raise AlgorithmNameError(SENTENCES[ALGORITHM])
-    return found[0]
+    return name
 
 
 def jasypt_decrypt_values(
@@ -290,12 +269,33 @@ def jasypt_decrypt_values(
 
     Values and errors as of `mysql_decrypt_values`: the faults are Base64Error, SaltLengthError, BlockLengthError and
     PaddingMismatchError. AlgorithmNameError, IterationCountError."""
-    (_, name), count, wanted, taken = _of_jasypt(algorithm), iterations_of(iterations), _tested(errors), _taken(values, is_text=True)
+    name, count, wanted, taken = _of_jasypt(algorithm), iterations_of(iterations), _tested(errors), _taken(values, is_text=True)
     if count == TOO_MANY:
         raise fault_of(ITERATIONS)
     with secret_of(password) as secret:
-        first = (*_named(name, "an algorithm"), count, *secret)
-        return taken.told(*_read(_jasypt_decrypt_values, first, taken.values, _OF_A_STRING), wanted)
+        return taken.told(*_read(_jasypt_decrypt_values, (*name, count, *secret), taken.values, _OF_A_STRING), wanted)
+
+
+def _strings(password: ReadableBuffer, texts: List[bytes], salts: bytes, algorithm: str, iterations: int) -> List[str]:
+    """The strings of texts, each from its salt."""
+    name, count, joined, lengths = _of_jasypt(algorithm), iterations_of(iterations), b"".join(texts), array("Q", map(len, texts))
+    sizes = [((length // BLOCK_SIZE + 2) * BLOCK_SIZE + 2) // 3 * 4 for length in lengths]
+    values = buffer_of(sum(sizes))
+    with secret_of(password) as secret:
+        laid = (salts, len(salts), joined, len(joined), _pointer(lengths), len(texts))
+        check(_jasypt_encrypt_values(*name, count, *secret, *laid, values, len(values)))
+    made, ends = str(bytes(values), "ascii"), accumulate(sizes)
+    return [made[end - size : end] for end, size in zip(ends, sizes)]
+
+
+def jasypt_encrypt_values(
+    password: ReadableBuffer, texts: Column, *, algorithm: str = "PBEWithMD5AndDES", iterations: int = 1000
+) -> List[Optional[str]]:
+    """The strings that Jasypt makes of a column of texts, without ENC(..) around, each from a random salt. Nothing authenticates them.
+    Algorithms and errors as of `jasypt_decrypt_values`."""
+    taken = _taken(texts)
+    salts = secrets.token_bytes(BLOCK_SIZE * len(taken.values))
+    return taken.spread([*_strings(password, taken.values, salts, algorithm, iterations)])
 
 
 def jasypt_encrypt(
@@ -308,12 +308,10 @@ def jasypt_encrypt(
 ) -> str:
     """The string that Jasypt makes of a text, without ENC(..) around. The salt, of 8 bytes, is random, or the one that is given.
     Algorithms and errors as of `jasypt_decrypt_values`; SaltLengthError."""
-    (kind, name), count = _of_jasypt(algorithm), iterations_of(iterations)
     grains = secrets.token_bytes(BLOCK_SIZE) if salt is None else bytes_of(salt)
     if len(grains) != BLOCK_SIZE:
         raise SaltLengthError(f"the salt of Jasypt has {BLOCK_SIZE} bytes, not {len(grains)}")
-    with secret_of(password) as secret, _by_password(kind, name, secret, count, grains) as (cipher, vector):
-        return str(b64encode(grains + cipher.encrypt_cbc(pad(text, "pkcs7"), iv=vector)), "ascii")
+    return _strings(password, [bytes_of(text)], grains, algorithm, iterations)[0]
 
 
 def pbe_key(algorithm: str, password: ReadableBuffer, salt: ReadableBuffer, iterations: int, length: int) -> bytes:
@@ -321,7 +319,10 @@ def pbe_key(algorithm: str, password: ReadableBuffer, salt: ReadableBuffer, iter
     "PBEWithMD5AndDES" or "PBEWithSHA1AndDES", 16 bytes; by Java's own rule, "PBEWithMD5AndTripleDES", 32, of a salt of 8 bytes; by
     PKCS #12 (RFC 7292, Appendix B), "PBEWithSHA1AndDESede", 32, or "pbeWithSHAAnd2-KeyTripleDES-CBC", 24, of a password in UTF-8.
     AlgorithmNameError, KeyLengthError, IterationCountError, SaltLengthError."""
-    _named(algorithm, "an algorithm")
-    count, grains, size = iterations_of(iterations), bytes_of(salt), length_of(length)
-    with secret_of(password) as secret, _derived(algorithm, secret, count, grains, size) as made:
+    name, count, grains, size = _named(algorithm, "an algorithm"), iterations_of(iterations), bytes_of(salt), length_of(length)
+    with secret_of(password) as secret, wiped_buffer(size) as made:
+        status = _pbe_key(*name, count, *secret, grains, len(grains), made, size)
+        if status == SALT_LENGTH:
+            raise SaltLengthError(f"by this algorithm a salt has {BLOCK_SIZE} bytes, not {len(grains)}")
+        check(status, taken=_LENGTHS)
         return bytes(made)

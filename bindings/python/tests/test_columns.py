@@ -19,6 +19,7 @@ from cukvashe_des import (
     UnreadableValuesError,
     jasypt_decrypt_values,
     jasypt_encrypt,
+    jasypt_encrypt_values,
     mysql_decrypt_values,
     mysql_decrypt_values_by_file,
     mysql_encrypt_values,
@@ -120,6 +121,11 @@ class Known(unittest.TestCase):
             for length in range(40):
                 made = jasypt_encrypt(b"secret", bytes(length), algorithm=algorithm, iterations=3)
                 self.assertEqual(jasypt_decrypt_values(b"secret", [made], algorithm=algorithm, iterations=3), [bytes(length)])
+            texts = [SETTING, None, b"", *map(bytes, range(40)), SETTING]
+            strings = jasypt_encrypt_values(b"secret", texts, algorithm=algorithm, iterations=3)
+            self.assertEqual(jasypt_decrypt_values(b"secret", strings, algorithm=algorithm, iterations=3), texts)
+            self.assertNotEqual(strings[0], strings[-1])
+        self.assertEqual(jasypt_encrypt_values(b"secret", [None]), [None])
         self.assertNotEqual(jasypt_encrypt(b"secret", SETTING), jasypt_encrypt(b"secret", SETTING))
 
     def test_keys(self):
@@ -199,6 +205,8 @@ class Faults(unittest.TestCase):
             (lambda: jasypt_decrypt_values(b"k", [], iterations=0), IterationCountError),
             (lambda: jasypt_decrypt_values(b"k", [STRING], iterations=2**32, errors="none"), IterationCountError),
             (lambda: jasypt_encrypt(b"k", b"", iterations=2**32), IterationCountError),
+            (lambda: jasypt_encrypt_values(b"k", [], algorithm="PBEWithSHA1AndDES"), AlgorithmNameError),
+            (lambda: jasypt_encrypt_values(b"k", [], iterations=0), IterationCountError),
             (lambda: jasypt_encrypt(b"k", b"", salt=b"1234567"), SaltLengthError),
             (lambda: jasypt_decrypt_values(b"k", [], algorithm="PBEWithSHA1AndDES"), AlgorithmNameError),
             (lambda: pbe_key("PBEWithMD5AndTripleDES", b"k", b"123456789", 1, 32), SaltLengthError),
@@ -221,6 +229,8 @@ class Faults(unittest.TestCase):
             self.assertRaises(TypeError, mysql_encrypt_values, b"k", [b"abc"], number=number)
         self.assertRaises(TypeError, pgcrypto_decrypt_values, b"3des", b"k", [value])
         self.assertRaises(TypeError, jasypt_decrypt_values, b"k", STRING)
+        self.assertRaises(TypeError, jasypt_encrypt_values, b"k", ["text"])
+        self.assertRaises(TypeError, jasypt_encrypt, b"k", None)
 
 
 class Columns(unittest.TestCase):

@@ -64,7 +64,7 @@ def read_jasypt(strings, algorithm, password, iterations):
 
 
 def write_jasypt(texts, algorithm, password, iterations):
-    return [cukvashe_des.jasypt_encrypt(password, text, algorithm=algorithm, iterations=iterations) for text in texts]
+    return cukvashe_des.jasypt_encrypt_values(password, texts, algorithm=algorithm, iterations=iterations)
 
 
 def _cipher(algorithm, password, salt, iterations):

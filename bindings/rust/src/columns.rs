@@ -49,7 +49,7 @@ sentences!(ValueError:
     ValueError::Padding => sentence(PADDING),
 );
 
-/// Why a column is not read. Nothing was written.
+/// Why a column is not read, or not written. Nothing was written.
 #[non_exhaustive]
 #[derive(Clone, Copy, Debug, PartialEq, Eq)]
 pub enum ColumnError {
@@ -273,6 +273,14 @@ impl Pbe {
         }
     }
 
+    /// The name, if Jasypt has the algorithm.
+    fn of_jasypt(self) -> Result<&'static str, ColumnError> {
+        match self {
+            Pbe::Sha1AndDes | Pbe::ShaAnd2KeyTripleDes => Err(ColumnError::Algorithm),
+            _ => Ok(self.name()),
+        }
+    }
+
     /// Fills the list with the key and, after it, the vector: 16 bytes for DES, 24 for two keys and 32 for three. By Java's own rule the
     /// salt has 8 bytes, by the others any number; by PKCS #12 the password is UTF-8.
     pub fn write_bytes(self, iterations: u32, password: &[u8], salt: &[u8], bytes: &mut [u8]) -> Result<(), PbeError> {
@@ -313,13 +321,10 @@ pub fn jasypt_decrypt<'a>(
     values: Column<'a>,
     buffers: Buffers<'a>,
 ) -> Result<Texts<'a>, ColumnError> {
-    if matches!(algorithm, Pbe::Sha1AndDes | Pbe::ShaAnd2KeyTripleDes) {
-        return Err(ColumnError::Algorithm);
-    }
+    let name = algorithm.of_jasypt()?;
     if iterations == 0 {
         return Err(ColumnError::NoIteration);
     }
-    let name = algorithm.name();
     let (secret, size, rounds) = (password.as_ptr(), password.len(), iterations as usize);
     read(values, buffers, |(at, length, lengths, count, texts, sizes, statuses)| unsafe {
         ffi::cukvashe_jasypt_decrypt_values(
@@ -337,4 +342,46 @@ pub fn jasypt_decrypt<'a>(
             statuses,
         )
     })
+}
+
+/// How many characters the string of Jasypt has for a text of this many bytes.
+#[must_use]
+pub const fn jasypt_length(length: usize) -> usize {
+    ((length / 8 + 2) * 8).div_ceil(3) * 4
+}
+
+/// Encrypts texts into strings as Jasypt does, without `ENC(..)` around, one after another, which fill the list: each has the
+/// characters that [`jasypt_length`] says, and is made from the salt at its place, which is to be random. Algorithm and iterations are as
+/// of [`jasypt_decrypt`]. Nothing authenticates the texts.
+pub fn jasypt_encrypt(
+    algorithm: Pbe,
+    iterations: u32,
+    password: &[u8],
+    salts: &[[u8; 8]],
+    texts: Column<'_>,
+    strings: &mut [u8],
+) -> Result<(), ColumnError> {
+    let name = algorithm.of_jasypt()?;
+    let status = unsafe {
+        ffi::cukvashe_jasypt_encrypt_values(
+            name.as_ptr().cast(),
+            name.len(),
+            iterations as usize,
+            password.as_ptr(),
+            password.len(),
+            salts.as_ptr().cast(),
+            8 * salts.len(),
+            texts.bytes.as_ptr(),
+            texts.bytes.len(),
+            texts.lengths.as_ptr(),
+            texts.lengths.len(),
+            strings.as_mut_ptr(),
+            strings.len(),
+        )
+    };
+    match status {
+        OK => Ok(()),
+        ITERATIONS => Err(ColumnError::NoIteration),
+        _ => Err(ColumnError::CountsDiffer),
+    }
 }

@@ -66,6 +66,11 @@ for (const [algorithm, made] of [
     assert.notEqual(one, library.jasyptEncrypt(password, bytes(text), { algorithm, iterations: 3 }));
     reads(library.jasyptDecryptValues(password, [one], { algorithm, iterations: 3 }), [text]);
   }
+  // More salts than the source of random bytes gives at a time.
+  const lines = Array.from({ length: 9000 }, (_, length) => "a".repeat(length % 40));
+  const written = library.jasyptEncryptValues(password, [null, ...lines.map(bytes)], { algorithm, iterations: 1 });
+  reads(library.jasyptDecryptValues(password, written, { algorithm, iterations: 1 }), [null, ...lines]);
+  assert.equal(new Set(written.map((line) => line?.slice(0, 10))).size, 9001);
 }
 // A value of the JDK whose salt has two equal halves.
 const made = library.pbeKey("PBEWithMD5AndTripleDES", password, unhex("0102030401020304"), 20, 32);
@@ -118,6 +123,8 @@ for (const [run, name] of [
   [() => library.jasyptDecryptValues(password, [], { algorithm: "PBEWithSHA1AndDES" }), "AlgorithmName"],
   [() => library.jasyptDecryptValues(password, [], { iterations: 0 }), "IterationCount"],
   [() => library.jasyptDecryptValues(password, [], { iterations: 2 ** 32 }), "IterationCount"],
+  [() => library.jasyptEncryptValues(password, [], { algorithm: "PBEWithSHA1AndDES" }), "AlgorithmName"],
+  [() => library.jasyptEncryptValues(password, [], { iterations: 0 }), "IterationCount"],
   [() => library.jasyptEncrypt(password, bytes(""), { salt: unhex("00") }), "SaltLength"],
   [() => library.pbeKey("PBEWithMD5AndTripleDES", password, unhex("00"), 1, 32), "SaltLength"],
   [() => library.pbeKey("PBEWithMD5AndDES", password, unhex("0102030405060708"), 1, 24), "KeyLength"],
@@ -138,6 +145,7 @@ for (const run of [
   () => library.pgcryptoDecryptValues("3des", key, [value], { iv: "12345678" }),
   () => library.jasyptDecryptValues(password, string),
   () => library.jasyptDecryptValues(password, [1]),
+  () => library.jasyptEncryptValues(password, ["text"]),
   () => library.pbeKey("PBEWithMD5AndDES", password, "salt", 1, 16),
 ]) {
   assert.throws(run, TypeError);

@@ -2,14 +2,15 @@
 
 ghost use Rattle.std.specs.Prelude.{◌≡◌, ◌≢◌, ◌≤◌, ◌↔◌, ◌⊎◌, Some, None};
 ghost use Rattle.des_columns.specs.Columns.{pieces};
-ghost use Rattle.des_columns.specs.Jasypt.{Reads};
+ghost use Rattle.des_columns.specs.Jasypt.{IsWritten, Reads, salted, value_size};
 ghost use Rattle.des_columns.specs.Pbe.{algorithm_of};
 ghost use Rattle.des_columns.specs.Readings.{IsColumnRead};
+ghost use Rattle.des_columns.specs.Writings.{IsColumnWritten};
 ghost use Rattle.des_columns.specs.declared.pbe.Algorithm.{Algorithm};
-ghost use Rattle.des_context.specs.ColumnStatuses.{IsReadStatus};
+ghost use Rattle.des_context.specs.ColumnStatuses.{IsReadStatus, TakesStrings};
 
-use des_context::jasypt::jasypt_decrypt_values;
-use des_context::status::{ERR_ALGORITHM, ERR_COUNTS, ERR_ITERATIONS};
+use des_context::jasypt::{jasypt_decrypt_values, jasypt_encrypt_values};
+use des_context::status::{ERR_ALGORITHM, ERR_COUNTS, ERR_ITERATIONS, OK};
 
 /// Reads strings of Jasypt by the algorithm of this name, as `des_columns::jasypt::decrypt_values`
 /// does. The status is that of the first fault, and then nothing is written: `ERR_ALGORITHM` if the
@@ -48,5 +49,36 @@ pub extern "C" fn cukvashe_internal_jasypt_decrypt_values(
         texts,
         text_lengths,
         statuses,
+    )
+}
+
+/// Writes strings of Jasypt by the algorithm of this name, as `des_columns::jasypt::encrypt_values`
+/// does. The status is that of the first fault, and then nothing is written: `ERR_ALGORITHM` and
+/// `ERR_ITERATIONS` as of `jasypt_decrypt_values`; `ERR_COUNTS` if the lengths do not fit, there is not
+/// a salt for each text, or the buffer is not exactly as long as the values.
+#[unsafe(no_mangle)]
+pub extern "C" fn cukvashe_internal_jasypt_encrypt_values(
+    algorithm: &[u8],
+    iterations: usize,
+    password: &[u8],
+    salts: &[[u8; 8]],
+    texts: &[u8],
+    lengths: &[usize],
+    values: &mut [u8],
+) -> i32
+    ensures algorithm { (result ≡ ERR_ALGORITHM) ↔ (algorithm_of algorithm.now ≡ None) }
+    ensures iterations { result ≢ ERR_ALGORITHM
+        → (result ≡ ERR_ITERATIONS) ↔ ((iterations ≡ 0) ⊎ (0x100000000 ≤ iterations)) }
+    ensures counts { result ≢ ERR_ALGORITHM → result ≢ ERR_ITERATIONS → (result ≡ ERR_COUNTS)
+        ↔ ¬ (TakesStrings lengths.now texts.now salts.now values.old) }
+    ensures accepted { result ≢ ERR_ALGORITHM → result ≢ ERR_ITERATIONS → (result ≡ OK)
+        ↔ TakesStrings lengths.now texts.now salts.now values.old }
+    ensures written { result ≡ OK → (by : Algorithm) → algorithm_of algorithm.now ≡ Some by
+        → IsColumnWritten value_size (IsWritten by iterations password.now)
+        (salted salts.now (pieces lengths.now texts.now)) values.new }
+    ensures kept { result ≢ OK → values.new ≡ values.old }
+{
+    jasypt_encrypt_values(
+        algorithm, iterations, password, salts, texts, lengths, values,
     )
 }

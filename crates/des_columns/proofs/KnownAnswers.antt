@@ -14,7 +14,7 @@ use Rattle.des_passwords.specs.BytesToKey.{d, ds, repeated}
 use Rattle.des_columns.specs.JavaTripleDes.{derived, digested}
 use Rattle.des_columns.specs.KeyFile.{lines_after, string_in}
 use Rattle.des_columns.specs.Mysql.{key_of, padded}
-use Rattle.des_columns.specs.Pgcrypto.{filled}
+use Rattle.des_columns.specs.PgcryptoColumns.{filled}
 
 -- what MariaDB 10.11 answers, behind the first byte, one block, chained from zeros: to `des_encrypt('abcdefg', 'k')`; to
 -- `des_encrypt('abc', 1)`, where the key file has `1 another key`; and to `des_encrypt('abc')`, whose key is the first of the file,

@@ -12,5 +12,10 @@ pub mod Base64Groups
 pub mod EncryptedBlocks
 pub mod PaddedTexts
 pub mod WrittenColumns
+pub mod GatheredTexts
+pub mod SpreadKeySizes
 pub mod SchemeRelations
+pub mod AlgorithmKeys
+pub mod Results
 pub mod TextsOfValues
+pub mod JasyptStrings

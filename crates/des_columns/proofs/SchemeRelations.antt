@@ -2,8 +2,7 @@
 use Rattle.std.proofs.Common.{◌≡◌, ◌⊎◌, inl, inr, ℕ, List, sym, subst}
 use Rattle.des.specs.Enciphering.{Enciphers}
 use Rattle.des.specs.Triple.{EnciphersEde3}
-use Rattle.des_columns.specs.Pgcrypto.{filled}
-use Rattle.des_columns.specs.PgcryptoColumns.{mode_by, relation_by}
+use Rattle.des_columns.specs.PgcryptoColumns.{mode_by, relation_by, filled}
 use Rattle.des_columns.specs.declared.form.BlockMode.{BlockMode}
 use Rattle.des_columns.specs.declared.pgcrypto.Cipher.{Cipher}
 use Rattle.des_columns.specs.declared.pgcrypto.Cipher.TheVariants.{Des, DesEcb, TripleDes, TripleDesEcb}

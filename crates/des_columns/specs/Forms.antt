@@ -19,15 +19,13 @@ abbrev pub fault_before : Form → List ℕ → Option ℤ
 fault_before Mysql [] = None
 fault_before Mysql (byte ∷ value) = if has_form (byte ∷ value) then None else Some ERR_NOT_ENCRYPTED
 fault_before Pkcs7 [] = Some ERR_BLOCKS
-fault_before Pkcs7 (byte ∷ value) = if length (byte ∷ value) % 8 == 0 then None else Some ERR_BLOCKS
-fault_before Unpadded value = if length value % 8 == 0 then None else Some ERR_BLOCKS
+fault_before form value = if length value % 8 == 0 then None else Some ERR_BLOCKS
 
 -- the bytes that were encrypted: a value of MySQL has one before them
 abbrev pub part_after : Option ℤ → Form → List ℕ → List ℕ
 part_after (Some fault) form value = []
 part_after None Mysql value = drop 1 value
-part_after None Pkcs7 value = value
-part_after None Unpadded value = value
+part_after None form value = value
 
 abbrev pub part_of : Form → List ℕ → List ℕ
 part_of form value = part_after (fault_before form value) form value

@@ -1,8 +1,9 @@
 -- Strings of Jasypt 1.9.3, in settings inside `ENC(` and `)`: in Base64 a salt of eight bytes, and behind it what is
 -- encrypted (StandardPBEStringEncryptor, StandardPBEByteEncryptor, PropertyValueEncryptionUtils).
-use Rattle.std.specs.Prelude.{◌≡◌, ◌<◌, ◌≤◌, ◌⊎◌, ℕ, ℤ, ◌-◌, ◌&&◌, Bool, not, nat_eq, if◌then◌else◌, List, [], codes, length, take, drop}
+use Rattle.std.specs.Prelude.{◌≡◌, ◌<◌, ◌≤◌, ◌⊎◌, ℕ, ℤ, ◌+◌, ◌-◌, ◌*◌, ◌/◌, ◌&&◌, Bool, not, nat_eq, if◌then◌else◌, List, [], ◌++◌, codes, length, take, drop}
 use Rattle.std.specs.Char.{is_ascii_whitespace}
 use Rattle.std.specs.List.{ends_with, filter, starts_with}
+use Rattle.std.specs.Simd.Lanes.{zip2}
 use Rattle.base64.specs.Engines.{standard}
 use Rattle.base64.specs.GeneralPurpose.{encode_of}
 use Rattle.des.specs.Blocks.{AreBytes}
@@ -11,10 +12,11 @@ use Rattle.des.specs.Triple.{EnciphersEde2, EnciphersEde3}
 use Rattle.des_passwords.specs.TextLines.{trimmed}
 use Rattle.des_columns.specs.Pbe.{derived_by, key_size}
 use Rattle.des_columns.specs.Readings.{IsReading}
+use Rattle.des_columns.specs.Writings.{IsWriting}
 use Rattle.des_columns.specs.declared.form.BlockMode.TheVariants.{Cbc}
 use Rattle.des_columns.specs.declared.form.Form.TheVariants.{Pkcs7}
 use Rattle.des_columns.specs.declared.pbe.Algorithm.{Algorithm}
-use Rattle.des_columns.specs.declared.pbe.Algorithm.TheVariants.{Md5Des, Sha1Des, Md5TripleDes, Sha1TripleDes, Sha1TwoKeys}
+use Rattle.des_columns.specs.declared.pbe.Algorithm.TheVariants.{Md5Des, Sha1Des, Sha1TwoKeys}
 use Rattle.des_columns.specs.declared.status.TheConstants.{ERR_BASE64, ERR_SALT_LENGTH}
 
 -- ---- the text of a value
@@ -43,9 +45,8 @@ Encodes bytes characters = AreBytes bytes × (characters ≡ encode_of standard 
 abbrev pub relation_by : Algorithm → List ℕ → List ℕ → List ℕ → Type 0
 relation_by Md5Des key = Enciphers key
 relation_by Sha1Des key = Enciphers key
-relation_by Md5TripleDes key = EnciphersEde3 key
-relation_by Sha1TripleDes key = EnciphersEde3 key
 relation_by Sha1TwoKeys key = EnciphersEde2 key
+relation_by by key = EnciphersEde3 key
 
 -- what is encrypted, by a key and the vector behind it: CBC, and the padding of PKCS#7
 abbrev pub ReadsBy : Algorithm → List ℕ → List ℕ → ℤ → List ℕ → Type 0
@@ -65,3 +66,24 @@ abbrev pub Reads : Algorithm → ℕ → List ℕ → List ℕ → ℤ → List 
 Reads by count password value status text =
     (((bytes : List ℕ) → ¬ (Encodes bytes (characters_of value))) × IsFault ERR_BASE64 status text)
     ⊎ ((bytes : List ℕ) × Encodes bytes (characters_of value) × ReadsBytes by count password bytes status text)
+
+-- ---- a value that is written of a text
+
+abbrev pub WritesBy : Algorithm → List ℕ → List ℕ → List ℕ → Type 0
+WritesBy by both text encrypted =
+    IsWriting Pkcs7 0 (Cbc (drop (key_size by) both)) (relation_by by (take (key_size by) both)) text encrypted
+
+-- each text behind its salt of eight bytes
+abbrev pub salted : List (List ℕ) → List (List ℕ) → List (List ℕ)
+salted salts texts = zip2 ◌++◌ salts texts
+
+-- how many characters the value of a salt and a text has, of together `size` bytes: the text is padded, and what three bytes are,
+-- or the last ones, four characters encode
+abbrev pub value_size : ℕ → ℕ
+value_size size = ((size / 8 + 1) * 8 + 2) / 3 * 4
+
+-- the value of a text behind its salt
+pub record IsWritten (by : Algorithm) (count : ℕ) (password salted value : List ℕ) : Type 0 where
+  pub encrypted : List ℕ
+  pub writes : WritesBy by (derived_by by password (take 8 salted) count) (drop 8 salted) encrypted
+  pub value_is : value ≡ encode_of standard (take 8 salted ++ encrypted)

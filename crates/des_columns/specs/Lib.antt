@@ -10,4 +10,3 @@ pub mod PgcryptoColumns
 pub mod JavaTripleDes
 pub mod Pbe
 pub mod Jasypt
-pub mod Pgcrypto

@@ -25,17 +25,13 @@ algorithm_of name =
 abbrev pub key_size : Algorithm → ℕ
 key_size Md5Des = 8
 key_size Sha1Des = 8
-key_size Md5TripleDes = 24
-key_size Sha1TripleDes = 24
 key_size Sha1TwoKeys = 16
+key_size by = 24
 
 -- Java's rule takes a salt of 8 bytes, the others any
 abbrev pub IsSaltOf : Algorithm → ℕ → Type 0
-IsSaltOf Md5Des size = Unit {0}
-IsSaltOf Sha1Des size = Unit {0}
 IsSaltOf Md5TripleDes size = size ≡ 8
-IsSaltOf Sha1TripleDes size = Unit {0}
-IsSaltOf Sha1TwoKeys size = Unit {0}
+IsSaltOf by size = Unit {0}
 
 -- the key, and the vector behind it (PKCS #5: RFC 8018, section 6.1.1; PKCS #12: RFC 7292, appendix B.3)
 abbrev pub derived_by : Algorithm → List ℕ → List ℕ → ℕ → List ℕ

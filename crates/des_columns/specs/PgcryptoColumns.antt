@@ -1,11 +1,10 @@
 -- What `decrypt`, `decrypt_iv`, `encrypt` and `encrypt_iv` of pgcrypto make of columns (PostgreSQL, contrib/pgcrypto, F.28.4 of the
 -- manual).
-use Rattle.std.specs.Prelude.{ℕ, ℤ, ◌-◌, ◌||◌, Bool, if◌then◌else◌, List, codes, Option, Some, None, length, take, drop}
+use Rattle.std.specs.Prelude.{ℕ, ℤ, ◌-◌, ◌||◌, Bool, if◌then◌else◌, List, ◌++◌, codes, Option, Some, None, length, replicate, take, drop}
 use Rattle.std.specs.Option.{option_map}
 use Rattle.std.specs.Str.{str_eq_ignore_ascii_case}
 use Rattle.des.specs.Enciphering.{Enciphers}
 use Rattle.des.specs.Triple.{EnciphersEde3}
-use Rattle.des_columns.specs.Pgcrypto.{filled}
 use Rattle.des_columns.specs.Readings.{IsReading}
 use Rattle.des_columns.specs.Writings.{IsWriting}
 use Rattle.des_columns.specs.declared.form.BlockMode.{BlockMode}
@@ -43,17 +42,19 @@ scheme_of name =
 
 -- ---- a value under a key, and a vector if there is one
 
+-- `size` bytes of a key or a vector: those that are given, cut, or with zeros behind them (contrib/pgcrypto/px.c: combo_init)
+abbrev pub filled : ℕ → List ℕ → List ℕ
+filled size bytes = take size bytes ++ replicate (size - length bytes) 0
+
 abbrev pub relation_by : Cipher → List ℕ → List ℕ → List ℕ → Type 0
 relation_by Des key = Enciphers (filled 8 key)
 relation_by DesEcb key = Enciphers (filled 8 key)
-relation_by TripleDes key = EnciphersEde3 (filled 24 key)
-relation_by TripleDesEcb key = EnciphersEde3 (filled 24 key)
+relation_by cipher key = EnciphersEde3 (filled 24 key)
 
 abbrev pub mode_by : Cipher → List ℕ → BlockMode
-mode_by Des iv = Cbc (filled 8 iv)
 mode_by DesEcb iv = Ecb
-mode_by TripleDes iv = Cbc (filled 8 iv)
 mode_by TripleDesEcb iv = Ecb
+mode_by cipher iv = Cbc (filled 8 iv)
 
 abbrev pub Reads : Scheme → List ℕ → List ℕ → List ℕ → ℤ → List ℕ → Type 0
 Reads by key iv value status text =

@@ -1,5 +1,7 @@
 -- What is written of the texts of a column: each value by its definition.
-use Rattle.std.specs.Prelude.{◌≡◌, ◌<◌, ℕ, ◌+◌, ◌-◌, ◌*◌, ◌/◌, ◌%◌, ◌==◌, if◌then◌else◌, List, [], ◌∷◌, ◌++◌, length, replicate, get_or}
+use Rattle.std.specs.Prelude.{◌≡◌, ◌<◌, ℕ, ◌+◌, ◌-◌, ◌*◌, ◌/◌, ◌%◌, ◌==◌, if◌then◌else◌, List, [], ◌∷◌, ◌++◌, length, map, replicate, sum, get_or}
+use Rattle.std.specs.List.{All}
+use Rattle.des_fast.specs.Records.{record_of}
 use Rattle.des_columns.specs.EncryptedBytes.{joined, IsEncrypted}
 use Rattle.des_columns.specs.Mysql.{padded}
 use Rattle.des_columns.specs.declared.form.BlockMode.{BlockMode}
@@ -10,9 +12,8 @@ use Rattle.des_columns.specs.declared.form.Form.TheVariants.{Mysql, Pkcs7, Unpad
 
 -- a text of `size` bytes can be written: without padding it is whole blocks
 abbrev pub IsTextSize : Form → ℕ → Type 0
-IsTextSize Mysql size = Unit {0}
-IsTextSize Pkcs7 size = Unit {0}
 IsTextSize Unpadded size = size % 8 ≡ 0
+IsTextSize form size = Unit {0}
 
 -- a text and its padding: by PKCS#7 (RFC 5652, section 6.3) n bytes, 1 to 8, each with the value n; MySQL pads no empty text
 abbrev pub padded_by : Form → List ℕ → List ℕ
@@ -25,10 +26,8 @@ padded_by Unpadded text = text
 
 -- what stands before the blocks of a value: in MySQL 128 and the number of the key
 abbrev pub head_of : Form → ℕ → List ℕ → List ℕ
-head_of Mysql number [] = []
 head_of Mysql number (byte ∷ text) = (128 + number) ∷ []
-head_of Pkcs7 number text = []
-head_of Unpadded number text = []
+head_of form number text = []
 
 -- how many bytes the value of a text of `size` bytes has
 abbrev pub value_size : Form → ℕ → ℕ
@@ -51,3 +50,11 @@ pub record IsColumnWritten (size_of : ℕ → ℕ) (Writes : List ℕ → List �
   pub sizes : (k : ℕ) → k < length texts → length (get_or written k []) ≡ size_of (length (get_or texts k []))
   pub writes : (k : ℕ) → k < length texts → Writes (get_or texts k []) (get_or written k [])
   pub places : values ≡ joined written
+
+-- texts, each with its padding, are records of blocks
+pub record AreGathered (form : Form) (lengths : List ℕ) (texts : List (List ℕ)) (sizes : List ℕ) (blocks : List (List ℕ)) : Type 0 where
+  pub lengths_are : lengths ≡ map length texts
+  pub sizes_are : sizes ≡ map (λ size. value_size form size / 8) lengths
+  pub fit : All (IsTextSize form) lengths
+  pub whole : length blocks ≡ sum sizes
+  pub padded : (k : ℕ) → k < length texts → joined (record_of sizes blocks k) ≡ padded_by form (get_or texts k [])

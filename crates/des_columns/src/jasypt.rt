@@ -3,23 +3,25 @@
 //! the salt and a number of iterations, by default 1,000, by one of the algorithms of `pbe`: by
 //! `Md5Des` before version 3 of Jasypt's integration into Spring Boot.
 
-ghost use Rattle.std.specs.Prelude.{◌≡◌, ◌≢◌, ◌≤◌, ◌+◌, ◌↔◌, IsTrue, length, take, drop, sum, IsOk, IfOk, OnOk, OnErr};
-ghost use Rattle.std.specs.List.{All};
+ghost use Rattle.std.specs.Prelude.{◌≡◌, ◌≢◌, ◌≤◌, ◌<◌, ◌+◌, ◌*◌, ◌/◌, ◌^◌, ◌↔◌, ◌++◌, IsTrue, length, take, drop, sum, IsOk, IfOk, OnOk, OnErr};
+ghost use Rattle.std.specs.List.{All, sum_by};
 ghost use Rattle.des_columns.specs.Columns.{pieces};
 ghost use Rattle.des_columns.specs.Forms.{filled_to};
-ghost use Rattle.des_columns.specs.Jasypt.{inside, Reads, ReadsBy};
+ghost use Rattle.des_columns.specs.Jasypt.{inside, IsWritten, Reads, ReadsBy, salted, value_size, WritesBy};
 ghost use Rattle.des_columns.specs.Pbe.{derived_by, key_size};
 ghost use Rattle.des_columns.specs.Readings.{IsColumnRead, IsReading};
+ghost use Rattle.des_columns.specs.Writings.{IsColumnWritten, IsWriting};
 ghost use Rattle.des_passwords.specs.TextLines.{trimmed};
 ghost use Rattle.des_columns.specs.declared.form.BlockMode.TheVariants.{Cbc};
 ghost use Rattle.des_columns.specs.declared.form.Form.TheVariants.{Pkcs7};
 
-use crate::base64_in_place::{decode, write_characters};
-use crate::column::{Reader, are_ok};
+use crate::base64_in_place::{decode, encode, write_characters};
+use crate::column::{Reader, add_up_to, are_ok};
 use crate::form::{BlockMode, Form, Reading, finish};
 use crate::pbe::{Algorithm, PbeError};
 use crate::status::{ERR_BASE64, ERR_SALT_LENGTH, OK};
 use crate::value_keys::OneKey;
+use crate::writing::Writer;
 use des::cipher::are_bytes;
 use des_fast::many::ManyBlocks;
 use des_fast::{Des, TdesEde2, TdesEde3};
@@ -101,6 +103,16 @@ fn decrypt_by(by: Algorithm, both: &[u8], encrypted: &mut [u8], buffer: &mut [[u
     }
 }
 
+// Writes the key of a password and a salt, and the vector behind it.
+fn derive(by: Algorithm, iterations: u32, password: &[u8], salt: &[u8], both: &mut [u8])
+    requires iterations { iterations ≢ 0 }
+    requires salt { length salt.now ≡ 8 }
+    requires both { length both.old ≡ key_size by + 8 }
+    ensures { both.new ≡ derived_by by password.now salt.now iterations }
+{
+    let _ = by.write_key(password, salt, iterations, both);
+}
+
 // Makes of a salt, and what is encrypted behind it, the text at their front.
 fn open(
     by: Algorithm,
@@ -121,7 +133,7 @@ fn open(
     let (encrypted, salt) = bytes.split_at_mut(count);
     let mut both = [0; 32];
     let both = &mut both[..by.key_size() + 8];
-    let _ = by.write_key(password, salt, iterations, both);
+    derive(by, iterations, password, salt, both);
     decrypt_by(by, both, encrypted, buffer)
 }
 
@@ -201,4 +213,155 @@ pub fn decrypt_values(
         start = end;
     }
     Ok(are_ok(statuses))
+}
+
+// Writes what is encrypted of a text under a key, from a vector.
+fn encrypt<C: ManyBlocks + Drop>(
+    key: &C::Key,
+    vector: &[u8; 8],
+    text: &[u8],
+    encrypted: &mut [u8],
+    buffer: &mut [[u8; 8]],
+)
+    requires encrypted { length encrypted.old ≡ (length text.now / 8 + 1) * 8 }
+    requires buffer { 1 ≤ length buffer.old }
+    ensures { IsWriting Pkcs7 0 (Cbc vector.now) (C.relation (C.Key.bytes_of key.now)) text.now
+        encrypted.new }
+{
+    let writer = Writer {
+        cipher: C::new(key),
+        form: Form::Pkcs7,
+        number: 0,
+        mode: BlockMode::Cbc(*vector),
+    };
+    writer.write_value::<u64x2>(text, encrypted, buffer);
+}
+
+// The same under the key of an algorithm, and the vector behind it.
+fn encrypt_by(by: Algorithm, both: &[u8], text: &[u8], encrypted: &mut [u8], buffer: &mut [[u8; 8]])
+    requires both { length both.now ≡ key_size by + 8 }
+    requires encrypted { length encrypted.old ≡ (length text.now / 8 + 1) * 8 }
+    requires buffer { 1 ≤ length buffer.old }
+    ensures { WritesBy by both.now text.now encrypted.new }
+{
+    match by {
+        Algorithm::Md5Des | Algorithm::Sha1Des => {
+            let both = split::<8>(both);
+            encrypt::<Des>(&both.key, &both.vector, text, encrypted, buffer);
+        }
+        Algorithm::Md5TripleDes | Algorithm::Sha1TripleDes => {
+            let both = split::<24>(both);
+            encrypt::<TdesEde3>(&both.key, &both.vector, text, encrypted, buffer);
+        }
+        Algorithm::Sha1TwoKeys => {
+            let both = split::<16>(both);
+            encrypt::<TdesEde2>(&both.key, &both.vector, text, encrypted, buffer);
+        }
+    }
+}
+
+// Writes the value of a text from a salt.
+fn write_value(
+    by: Algorithm,
+    iterations: u32,
+    password: &[u8],
+    salt: &[u8; 8],
+    text: &[u8],
+    value: &mut [u8],
+    buffer: &mut [[u8; 8]],
+)
+    requires iterations { iterations ≢ 0 }
+    requires value { length value.old ≡ value_size (8 + length text.now) }
+    requires buffer { 1 ≤ length buffer.old }
+    ensures { IsWritten by iterations password.now (salt.now ++ text.now) value.new }
+{
+    let mut both = [0; 32];
+    let both = &mut both[..by.key_size() + 8];
+    derive(by, iterations, password, salt, both);
+    let count = (text.len() / 8 + 1) * 8;
+    value[..8].copy_from_slice(salt);
+    encrypt_by(by, both, text, &mut value[8..8 + count], buffer);
+    encode(8 + count, value);
+}
+
+/// How many characters the value of a text of `size` bytes has.
+pub fn value_size(size: usize) -> usize
+    requires { size < 2 ^ 63 }
+    ensures { result ≡ value_size (8 + size) }
+{
+    ((size / 8 + 2) * 8 + 2) / 3 * 4
+}
+
+/// Writes the values of texts under a password, one after another, each from the salt at its place,
+/// which is to be random: without `ENC(` and `)` around, a text of n bytes as the characters of
+/// `value_size(n)`. `Derive` if `iterations` is 0, and then nothing is written. The key of each value
+/// is derived by itself.
+pub fn encrypt_values(
+    by: Algorithm,
+    iterations: u32,
+    password: &[u8],
+    salts: &[[u8; 8]],
+    texts: &[u8],
+    lengths: &[usize],
+    values: &mut [u8],
+) -> Result<(), PbeError>
+    requires whole { sum lengths.now ≡ length texts.now }
+    requires salts { length salts.now ≡ length lengths.now }
+    requires values { length values.old ≡ sum_by (λ size. value_size (8 + size)) lengths.now }
+    ensures accepted { IsOk result ↔ (iterations ≢ 0) }
+    ensures written { OnOk result (IsColumnWritten value_size (IsWritten by iterations password.now)
+        (salted salts.now (pieces lengths.now texts.now)) values.new) }
+    ensures kept { OnErr result (values.new ≡ values.old) }
+{
+    if iterations == 0 {
+        return Err(PbeError::Derive(DeriveError::NoIteration));
+    }
+    let mut buffer = [[0; 8]; BLOCKS];
+    let mut from = 0;
+    let mut start = 0;
+    'texts: for k in 0..lengths.len() {
+        let text = &texts[from..from + lengths[k]];
+        let size = value_size(text.len());
+        let value = &mut values[start..start + size];
+        write_value(
+            by,
+            iterations,
+            password,
+            &salts[k],
+            text,
+            value,
+            &mut buffer,
+        );
+        from += text.len();
+        start += size;
+    }
+    Ok(())
+}
+
+/// Whether the arguments of `encrypt_values` fit: the lengths add up to the bytes of the texts, those of
+/// their values to the length of the buffer, and each text has a salt.
+pub fn fits(salts: &[[u8; 8]], texts: &[u8], lengths: &[usize], values: &[u8]) -> bool
+    ensures { IsTrue result ↔ (sum lengths.now ≡ length texts.now)
+        × (length salts.now ≡ length lengths.now)
+        × (sum_by (λ size. value_size (8 + size)) lengths.now ≡ length values.now) }
+{
+    add_up_to(lengths, texts.len())
+        && salts.len() == lengths.len()
+        && values_add_up_to(lengths, values.len())
+}
+
+// Whether the values of texts of these lengths have `total` characters together.
+fn values_add_up_to(lengths: &[usize], total: usize) -> bool
+    requires { sum lengths.now < 2 ^ 63 }
+    ensures { IsTrue result ↔ (sum_by (λ size. value_size (8 + size)) lengths.now ≡ total) }
+{
+    let mut left = total;
+    'texts: for k in 0..lengths.len() {
+        let size = value_size(lengths[k]);
+        if left < size {
+            return false;
+        }
+        left -= size;
+    }
+    left == 0
 }

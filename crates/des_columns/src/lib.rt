@@ -1,6 +1,7 @@
 //! Values that databases and frameworks encrypted, as they stand in columns and settings: of MySQL
 //! and MariaDB (`mysql`, `key_file`), and of pgcrypto (`pgcrypto`), a column at a time, read (`column`,
-//! `one_key`) and written (`writing`). Strings of Jasypt (`jasypt`), each under a key of its own.
+//! `one_key`) and written (`writing`). Strings of Jasypt (`jasypt`), each under a key of its own, read
+//! and written.
 //! Keys from passwords by the names that frameworks give the rules (`pbe`), of which Java's
 //! `PBEWithMD5AndTripleDES` stands here (`java`).
 //!

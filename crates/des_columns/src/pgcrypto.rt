@@ -5,8 +5,7 @@ ghost use Rattle.std.specs.Prelude.{◌≡◌, ◌≤◌, ◌↔◌, IsTrue, len
 ghost use Rattle.std.specs.List.{All, sum_by};
 ghost use Rattle.std.specs.Str.{str_eq_ignore_ascii_case};
 ghost use Rattle.des_columns.specs.Columns.{pieces};
-ghost use Rattle.des_columns.specs.Pgcrypto.{filled};
-ghost use Rattle.des_columns.specs.PgcryptoColumns.{before_padding, cipher_of, ends_in, form_of, mode_by, Reads, scheme_of, Writes};
+ghost use Rattle.des_columns.specs.PgcryptoColumns.{before_padding, cipher_of, ends_in, form_of, mode_by, Reads, scheme_of, Writes, filled};
 ghost use Rattle.des_columns.specs.Readings.{IsColumnRead};
 ghost use Rattle.des_columns.specs.Writings.{IsColumnWritten, IsTextSize, value_size};
 

@@ -1,6 +1,7 @@
 -- The statuses of the calls over columns.
 use Rattle.std.specs.Prelude.{◌≡◌, ◌≢◌, ◌⊎◌, ◌↔◌, ◌≤◌, ◌+◌, ℕ, ℤ, List, Option, Some, None, length, sum}
 use Rattle.std.specs.List.{All, sum_by}
+use Rattle.des_columns.specs.Jasypt.{value_size as string_size}
 use Rattle.des_columns.specs.Pbe.{IsSaltOf, key_size}
 use Rattle.des_columns.specs.Writings.{IsTextSize, value_size}
 use Rattle.des_columns.specs.declared.form.Form.{Form}
@@ -32,6 +33,12 @@ pub record IsWriteStatus (form : Form) (lengths texts values : List ℕ) (status
   pub counts : (status ≡ ERR_COUNTS) ↔ ¬ (TakesValues form lengths texts values)
   pub cut : (status ≡ ERR_BLOCKS) ↔ (TakesValues form lengths texts values × ¬ (All (IsTextSize form) lengths))
   pub written : (status ≡ OK) ↔ (TakesValues form lengths texts values × All (IsTextSize form) lengths)
+
+-- of strings of Jasypt: each text has a salt too
+abbrev pub TakesStrings : List ℕ → List ℕ → List (List ℕ) → List ℕ → Type 0
+TakesStrings lengths texts salts values =
+    (sum lengths ≡ length texts) × (length salts ≡ length lengths)
+    × (sum_by (λ size. string_size (8 + size)) lengths ≡ length values)
 
 -- the status of a key by an algorithm, by the iterations, and the lengths of the salt, and of key and vector together
 abbrev pub IsPbeStatus : Option Algorithm → ℕ → ℕ → ℕ → ℤ → Type 0

@@ -17,8 +17,7 @@ use Rattle.des_columns.specs.EncryptedBytes.{IsEncrypted, joined}
 use Rattle.des_columns.specs.Columns.{pieces}
 use Rattle.des_columns.specs.Forms.{HasVector, filled_to, part_of, status_of, text_of}
 use Rattle.des_columns.specs.MysqlColumns.{Reads, Writes}
-use Rattle.des_columns.specs.Pgcrypto.{filled}
-use Rattle.des_columns.specs.PgcryptoColumns.{Reads as ReadsPgcrypto, Writes as WritesPgcrypto, mode_by, relation_by}
+use Rattle.des_columns.specs.PgcryptoColumns.{Reads as ReadsPgcrypto, Writes as WritesPgcrypto, mode_by, relation_by, filled}
 use Rattle.des_columns.specs.Readings.{IsColumnRead, IsReading}
 use Rattle.des_columns.specs.Writings.{IsColumnWritten, IsTextSize, value_size}
 use Rattle.des_columns.specs.declared.form.BlockMode.{BlockMode}

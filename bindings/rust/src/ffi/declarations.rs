@@ -1024,6 +1024,21 @@ extern "C" {
         text_lengths: *mut usize,
         statuses: *mut c_int,
     ) -> c_int;
+    pub fn cukvashe_jasypt_encrypt_values(
+        algorithm: *const c_char,
+        algorithm_length: usize,
+        iterations: usize,
+        password: *const u8,
+        password_length: usize,
+        salts: *const u8,
+        salts_length: usize,
+        texts: *const u8,
+        length: usize,
+        lengths: *const usize,
+        texts_count: usize,
+        values: *mut u8,
+        values_length: usize,
+    ) -> c_int;
     pub fn cukvashe_des_size() -> usize;
     pub fn cukvashe_tdes_ede2_size() -> usize;
     pub fn cukvashe_tdes_ede3_size() -> usize;

@@ -88,6 +88,34 @@ fn strings_of_jasypt() {
     assert_eq!(of(Pbe::Md5AndDes, 0), Err(ColumnError::NoIteration));
 }
 
+/// Two strings of one column, by their salts; and texts of some lengths, which are read back.
+#[test]
+fn strings_for_jasypt() {
+    for (algorithm, salt, string) in [
+        (Pbe::Md5AndDes, "5c52371a4387baf6", "XFI3GkOHuvaUreHPZLAFn+zx81+pE+jN"),
+        (Pbe::Md5AndTripleDes, "fb7e11044d3b2ed1", "+34RBE07LtEN82W7f6UWaHttfv/kGSJv"),
+        (Pbe::Sha1AndDesEde, "00ced7c2c3b3c5f9", "AM7XwsOzxflFDMNvCTJm5cjZuLZa/GEf"),
+    ] {
+        let salts = [bytes_of(salt).try_into().unwrap(), *b"saltsalt"];
+        let texts = Column::new(b"jdbc password 1jdbc password 1", &[15, 15]).unwrap();
+        let mut strings = [0x55; 64];
+        jasypt_encrypt(algorithm, 1000, b"secret", &salts, texts, &mut strings).unwrap();
+        assert_eq!(&strings[..32], string.as_bytes());
+        let read = read(&[&strings[..32], &strings[32..]], |values, buffers| {
+            jasypt_decrypt(algorithm, 1000, b"secret", values, buffers)
+        });
+        assert_eq!(read, Ok(vec![Ok(b"jdbc password 1".to_vec()); 2]));
+        assert_ne!(&strings[..32], &strings[32..]);
+    }
+    for length in 0..40 {
+        let (text, mut string) = (vec![0x61; length], vec![0x55; jasypt_length(length)]);
+        let texts = Column::new(&text, std::slice::from_ref(&length)).unwrap();
+        jasypt_encrypt(Pbe::Md5AndDes, 3, b"secret", &[[7; 8]], texts, &mut string).unwrap();
+        let read = read(&[&string], |values, buffers| jasypt_decrypt(Pbe::Md5AndDes, 3, b"secret", values, buffers));
+        assert_eq!(read, Ok(vec![Ok(text)]));
+    }
+}
+
 /// A value of the JDK whose salt has two equal halves.
 #[test]
 fn keys_of_passwords() {
@@ -160,4 +188,17 @@ fn what_is_refused_writes_nothing() {
     let buffers = Buffers { texts: &mut long, lengths: &mut sizes[..1], statuses: &mut statuses[..1] };
     assert_eq!(pgcrypto_decrypt("aes", b"k", b"", column, buffers).err(), Some(ColumnError::Algorithm));
     assert_eq!((texts, sizes, long), ([0x55; 16], [0x55; 2], [0x55; 17]));
+    let mut strings = [0x55; 45];
+    for (algorithm, iterations, salts, capacity, error) in [
+        (Pbe::Sha1AndDes, 1, 1, 44, ColumnError::Algorithm),
+        (Pbe::Md5AndDes, 0, 1, 44, ColumnError::NoIteration),
+        (Pbe::Md5AndDes, 1, 0, 44, ColumnError::CountsDiffer),
+        (Pbe::Md5AndDes, 1, 2, 44, ColumnError::CountsDiffer),
+        (Pbe::Md5AndDes, 1, 1, 43, ColumnError::CountsDiffer),
+        (Pbe::Md5AndDes, 1, 1, 45, ColumnError::CountsDiffer),
+    ] {
+        let (salts, strings) = (&[[7; 8]; 2][..salts], &mut strings[..capacity]);
+        assert_eq!(jasypt_encrypt(algorithm, iterations, b"k", salts, column, strings), Err(error));
+    }
+    assert_eq!(strings, [0x55; 45]);
 }

@@ -1,24 +1,9 @@
-use Rattle.std.proofs.Common.{◌≡◌, ℕ, ℤ, ◌-◌, List, length, take, drop, Result, Ok, Err, ap, sym, ◌∙◌, subst}
-use Rattle.std.specs.Result.{IsOk, OnOk}
+use Rattle.std.proofs.Common.{◌≡◌, ℕ, ℤ, ◌-◌, List, length, take, drop, ap, sym, ◌∙◌, subst}
 use Rattle.std.proofs.lemmas.List.{drop_at, length-drop, length-take-le, take-append-le, take_at}
 use Rattle.des_columns.specs.Jasypt.{ReadsBy}
-use Rattle.des_columns.specs.Pbe.{IsSaltOf, derived_by}
+use Rattle.des_columns.specs.Pbe.{derived_by}
 use Rattle.des_columns.specs.declared.pbe.Algorithm.{Algorithm}
-use Rattle.des_columns.specs.declared.pbe.Algorithm.TheVariants.{Md5Des, Sha1Des, Md5TripleDes, Sha1TripleDes, Sha1TwoKeys}
 use Rattle.des_columns.proofs.jasypt.open.Goals as goal
-
--- what holds of a result that is `Ok`
-on-ok : {T E : Type 0} (result : Result T E) (P : Type 0) → IsOk result → OnOk result P → P
-on-ok (Ok x) P ok on = on
-on-ok (Err e) P ok on = cc ok
-
--- each algorithm takes a salt of eight bytes
-eight-salts : (by : Algorithm) (size : ℕ) → size ≡ 8 → IsSaltOf by size
-eight-salts Md5Des size is = tt
-eight-salts Sha1Des size is = tt
-eight-salts Md5TripleDes size is = is
-eight-salts Sha1TripleDes size is = tt
-eight-salts Sha1TwoKeys size is = tt
 
 -- what is read, said by equal bytes
 read-same : (by : Algorithm) (both derived encrypted behind text front : List ℕ) (status : ℤ) → both ≡ derived
@@ -41,12 +26,15 @@ returns-clause-read c =
     let before : salt ≡ take 8 bytes =
     c.split_at_mut-encrypted.ensures.back ∙ ap (drop count) c.rotate_left.ensures.after
     ∙ drop_at (drop 8 bytes) (take 8 bytes) count long in
-    let eight : length salt ≡ 8 = ap length before ∙ length-take-le 8 bytes c.requires.salt in
-    let derived =
-    on-ok c.write_key.result _ (c.write_key.ensures.accepted.1 (c.requires.iterations, eight-salts c.args.by (length salt) eight))
-    c.write_key.ensures.ok in
-    read-same c.args.by c.write_key.new.bytes (derived_by c.args.by c.args.password.now (take 8 bytes) c.args.iterations)
+    read-same c.args.by c.derive.new.both (derived_by c.args.by c.args.password.now (take 8 bytes) c.args.iterations)
     encrypted (drop 8 bytes) _ _ c.decrypt_by.result.status
-    (derived ∙ ap (λ (l : List ℕ). derived_by c.args.by c.args.password.now l c.args.iterations) before) behind
+    (c.derive.ensures ∙ ap (λ (l : List ℕ). derived_by c.args.by c.args.password.now l c.args.iterations) before) behind
     (sym (take-append-le c.decrypt_by.result.length c.decrypt_by.new.encrypted salt c.decrypt_by.ensures.within))
     c.decrypt_by.ensures.read
+
+pub derive-requires-clause-salt : goal.derive-requires-clause-salt
+derive-requires-clause-salt c =
+    let bytes : List ℕ = c.args.bytes.now in
+    ap length (c.split_at_mut-encrypted.ensures.back ∙ ap (drop (length bytes - 8)) c.rotate_left.ensures.after
+    ∙ drop_at (drop 8 bytes) (take 8 bytes) (length bytes - 8) (length-drop 8 bytes))
+    ∙ length-take-le 8 bytes c.requires.salt

@@ -1,6 +1,4 @@
 use Rattle.std.proofs.Common.{ℕ, List}
-use Rattle.std.specs.Prelude.{◌↔◌}
-use Rattle.des.specs.Blocks.{AnswersEach}
 use Rattle.des_context.specs.CipherTypes.{relation_of}
 use Rattle.des_context.proofs.RelationsByLength.{AnswersEach-same}
 use Rattle.des_context.proofs.block_modes.encrypt_by.Goals as goal

@@ -10,7 +10,7 @@ returns g c = λ key made.
     record {
       blocks = c.encipher.new.bytes;
       value_is =
-          ap (λ l. l ++ c.encipher.new.bytes) (c.fill.ensures.after (λ y is. is)
+          ap (λ l. l ++ c.encipher.new.bytes) (c.write_head.ensures
           ∙ ap (λ n. replicate n first) (c.split_at_mut-head.ensures.front_len ∙ ap (λ n. n % 8) c.requires.value)
           ∙ head-filled c.args.self.now.form c.args.self.now.number c.args.text.now c.requires.size);
       encrypted =
