@@ -9,7 +9,7 @@ use Rattle.des_fast.specs.Records.{record_of}
 use Rattle.des_columns.specs.Columns.{pieces}
 use Rattle.des_columns.specs.EncryptedBytes.{joined}
 use Rattle.des_columns.specs.Writings.{AreGathered, IsTextSize, padded_by, value_size}
-use Rattle.des_columns.specs.declared.form.Form.{Form}
+use Rattle.des_columns.specs.declared.form.ValueForm.{ValueForm}
 use Rattle.des_columns.proofs.Pieces.{drop-pieces, last-of}
 use Rattle.des_columns.proofs.WrittenColumns.{all-left}
 
@@ -36,14 +36,14 @@ record-last sizes size blocks more k here whole long =
 
 -- ---- texts
 
-pub length-sizes : (form : Form) (lengths : List ℕ) (texts : List (List ℕ)) (sizes : List ℕ) (blocks : List (List ℕ))
+pub length-sizes : (form : ValueForm) (lengths : List ℕ) (texts : List (List ℕ)) (sizes : List ℕ) (blocks : List (List ℕ))
     → AreGathered form lengths texts sizes blocks → (length sizes ≡ length lengths) × (length lengths ≡ length texts)
 length-sizes form lengths texts sizes blocks gathered = (
   ap length gathered.sizes_are ∙ length-map lengths (λ size. value_size form size / 8),
   ap length gathered.lengths_are ∙ length-map texts length,
 )
 
-module _ (form : Form) where
+module _ (form : ValueForm) where
   pub gathered-none : AreGathered form [] [] [] []
   gathered-none = record {
     lengths_are = refl;
@@ -80,7 +80,7 @@ module _ (form : Form) where
       }
 
 -- the texts from one on are some of a column
-pub gathered-of : (form : Form) (lengths bytes : List ℕ) (k from count : ℕ) (sizes : List ℕ) (blocks : List (List ℕ))
+pub gathered-of : (form : ValueForm) (lengths bytes : List ℕ) (k from count : ℕ) (sizes : List ℕ) (blocks : List (List ℕ))
     → k ≤ length lengths → from ≡ sum (take k lengths)
     → AreGathered form (take count (take (length lengths - k) (drop k lengths)))
     (take count (pieces (take (length lengths - k) (drop k lengths)) (take (length bytes - from) (drop from bytes)))) sizes blocks

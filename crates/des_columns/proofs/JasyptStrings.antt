@@ -15,7 +15,7 @@ use Rattle.des_columns.specs.Jasypt.{IsWritten, Reads, ReadsBy, WritesBy, charac
 use Rattle.des_columns.specs.Pbe.{derived_by, key_size}
 use Rattle.des_columns.specs.Writings.{value_size}
 use Rattle.des_columns.specs.declared.form.BlockMode.TheVariants.{Cbc}
-use Rattle.des_columns.specs.declared.form.Form.TheVariants.{Pkcs7}
+use Rattle.des_columns.specs.declared.form.ValueForm.TheVariants.{Pkcs7}
 use Rattle.des_columns.specs.declared.pbe.Algorithm.{Algorithm}
 use Rattle.des_columns.specs.declared.status.TheConstants.{OK}
 use Rattle.des_columns.proofs.TextsOfValues.{writing-read}

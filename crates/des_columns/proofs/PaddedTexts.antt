@@ -4,8 +4,8 @@ use Rattle.std.proofs.lemmas.Bool.{ne_eqb}
 use Rattle.std.proofs.lemmas.List.{length-replicate}
 use Rattle.des_columns.specs.Mysql.{padded, tail_after}
 use Rattle.des_columns.specs.Writings.{IsTextSize, head_of, value_size}
-use Rattle.des_columns.specs.declared.form.Form.{Form}
-use Rattle.des_columns.specs.declared.form.Form.TheVariants.{Mysql, Pkcs7, Unpadded}
+use Rattle.des_columns.specs.declared.form.ValueForm.{ValueForm}
+use Rattle.des_columns.specs.declared.form.ValueForm.TheVariants.{Mysql, Pkcs7, Unpadded}
 
 pub length-starred : (text : List ℕ) → length (padded text) ≡ (length text / 8 + 1) * 8
 length-starred text =
@@ -26,7 +26,7 @@ value_size-some byte text =
     ap P (ne_eqb size 0 (λ none. omega (arith, none)))
 
 -- what stands before the blocks of a value is the rest of it
-pub head-filled : (form : Form) (number : ℕ) (text : List ℕ) → IsTextSize form (length text)
+pub head-filled : (form : ValueForm) (number : ℕ) (text : List ℕ) → IsTextSize form (length text)
     → replicate (value_size form (length text) % 8) (128 + number) ≡ head_of form number text
 head-filled Mysql number [] is = refl
 head-filled Mysql number (byte ∷ text) is =

@@ -8,7 +8,7 @@ use Rattle.std.proofs.lemmas.List.Concat.{flat_map-append}
 use Rattle.std.proofs.lemmas.List.Sums.{sum_by-append, sum_by-cons}
 use Rattle.des_columns.specs.Columns.{pieces}
 use Rattle.des_columns.specs.Forms.{blocks_of, part_of}
-use Rattle.des_columns.specs.declared.form.Form.{Form}
+use Rattle.des_columns.specs.declared.form.ValueForm.{ValueForm}
 
 pub last-of : {X : Type 0} (xs : List X) (x d : X) (k : ℕ) → k ≡ length xs → get_or (xs ++ x ∷ []) k d ≡ x
 last-of xs x d k is = ap (λ n. get_or (xs ++ x ∷ []) n d) is ∙ get_or-append_seam xs x [] d
@@ -113,7 +113,7 @@ length-first_chunks n zero xs = refl
 length-first_chunks n (suc k) xs = ap suc (length-first_chunks n k (drop n xs))
 
 -- the blocks of a value are as many as its part has
-pub length-blocks : (form : Form) (value same part : List ℕ) → value ≡ same → part ≡ part_of form value
+pub length-blocks : (form : ValueForm) (value same part : List ℕ) → value ≡ same → part ≡ part_of form value
     → length part / 8 ≡ length (blocks_of form same)
 length-blocks form value same part is of =
     ap (λ (l : List ℕ). length l / 8) (of ∙ ap (part_of form) is) ∙ sym (length-first_chunks 8 _ (part_of form same))

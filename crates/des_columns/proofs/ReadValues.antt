@@ -19,8 +19,8 @@ use Rattle.des_columns.specs.Forms.{HasVector, blocks_of, fault_before, part_aft
 use Rattle.des_columns.specs.Readings.{IsColumnRead, IsReading}
 use Rattle.des_columns.specs.declared.form.BlockMode.{BlockMode}
 use Rattle.des_columns.specs.declared.form.BlockMode.TheVariants.{Ecb, Cbc}
-use Rattle.des_columns.specs.declared.form.Form.{Form}
-use Rattle.des_columns.specs.declared.form.Form.TheVariants.{Mysql, Pkcs7, Unpadded}
+use Rattle.des_columns.specs.declared.form.ValueForm.{ValueForm}
+use Rattle.des_columns.specs.declared.form.ValueForm.TheVariants.{Mysql, Pkcs7, Unpadded}
 use Rattle.des_columns.specs.declared.status.TheConstants.{ERR_NOT_ENCRYPTED, ERR_BLOCKS}
 use Rattle.des_columns.proofs.JoinedBlocks.{joined_chunks}
 use Rattle.des_columns.proofs.Pieces.{length-pieces, pieces-at}
@@ -38,13 +38,13 @@ chunks-are_blocks (suc k) bytes are fits =
     (omega (arith, length-drop 8 bytes, fits)))
 
 -- the encrypted part of a value is whole blocks
-whole-if : (test : Bool) (form : Form) (value : List ℕ) (fault : ℤ)
+whole-if : (test : Bool) (form : ValueForm) (value : List ℕ) (fault : ℤ)
     → (test ≡ true → length (part_after None form value) % 8 ≡ 0)
     → length (part_after (if test then None else Some fault) form value) % 8 ≡ 0
 whole-if true form value fault whole = whole refl
 whole-if false form value fault whole = refl
 
-part-whole : (form : Form) (value : List ℕ) → length (part_of form value) % 8 ≡ 0
+part-whole : (form : ValueForm) (value : List ℕ) → length (part_of form value) % 8 ≡ 0
 part-whole Mysql [] = refl
 part-whole Mysql (byte ∷ value) =
     whole-if (has_form (byte ∷ value)) Mysql (byte ∷ value) ERR_NOT_ENCRYPTED (λ is.
@@ -60,7 +60,7 @@ part-whole Unpadded value =
     whole-if (length value % 8 == 0) Unpadded value ERR_BLOCKS (λ is. grind (arith, nat_tests, is))
 
 -- and bytes
-part-bytes : (fault : Option ℤ) (form : Form) (value : List ℕ) → AreBytes value → AreBytes (part_after fault form value)
+part-bytes : (fault : Option ℤ) (form : ValueForm) (value : List ℕ) → AreBytes value → AreBytes (part_after fault form value)
 part-bytes (Some fault) form value are = All-nil (λ byte. byte < 256)
 part-bytes None Mysql value are = All-drop (λ byte. byte < 256) 1 value are
 part-bytes None Pkcs7 value are = are
@@ -106,7 +106,7 @@ module _ (Relates : List ℕ → List ℕ → Type 0) (encryption decryption : L
       })
 
   -- what a value is decrypted to was encrypted to its part
-  pub plain-encrypted : (form : Form) (mode : BlockMode) (value : List ℕ) → HasVector mode → AreBytes value
+  pub plain-encrypted : (form : ValueForm) (mode : BlockMode) (value : List ℕ) → HasVector mode → AreBytes value
       → IsEncrypted mode Relates (plain_of form mode (λ value. decryption) value) (part_of form value)
   plain-encrypted form mode value vector are = record {
     p_blocks = xored mode (blocks_of form value) (map decryption (blocks_of form value));
@@ -130,7 +130,7 @@ piece-bytes lengths bytes k below are =
     (All-drop (λ byte. byte < 256) (sum (take k lengths)) bytes are))
 
 -- a column is read under one key as what was encrypted to its values
-pub column-decrypted : (form : Form) (mode : BlockMode) (Relates : List ℕ → List ℕ → Type 0)
+pub column-decrypted : (form : ValueForm) (mode : BlockMode) (Relates : List ℕ → List ℕ → Type 0)
     (encryption decryption : List ℕ → List ℕ) (lengths bytes texts text_lengths : List ℕ) (statuses : List ℤ)
     → IsGraphOf encryption Relates → ((block : List ℕ) → IsBlock block → IsBlock (decryption block))
     → ((block : List ℕ) → IsBlock block → encryption (decryption block) ≡ block) → HasVector mode → AreBytes bytes

@@ -15,8 +15,8 @@ use Rattle.des_columns.specs.Readings.{IsReading}
 use Rattle.des_columns.specs.Writings.{IsTextSize, IsWriting, value_size}
 use Rattle.des_columns.specs.declared.form.BlockMode.{BlockMode}
 use Rattle.des_columns.specs.declared.form.BlockMode.TheVariants.{Cbc}
-use Rattle.des_columns.specs.declared.form.Form.{Form}
-use Rattle.des_columns.specs.declared.form.Form.TheVariants.{Mysql, Pkcs7, Unpadded}
+use Rattle.des_columns.specs.declared.form.ValueForm.{ValueForm}
+use Rattle.des_columns.specs.declared.form.ValueForm.TheVariants.{Mysql, Pkcs7, Unpadded}
 use Rattle.des_columns.specs.declared.pgcrypto.Cipher.{Cipher}
 use Rattle.des_columns.specs.declared.pgcrypto.Scheme.{Scheme}
 use Rattle.des_columns.specs.declared.status.TheConstants.{OK, ERR_BLOCKS, ERR_NOT_ENCRYPTED}
@@ -95,7 +95,7 @@ no_fault-pkcs7 (byte ∷ value) some whole = no_fault-whole (byte ∷ value) who
 -- ---- the law
 
 module _ (mode : BlockMode) (Relates : List ℕ → List ℕ → Type 0) where
-  reading : (form : Form) (value blocks plain text : List ℕ) → fault_before form value ≡ None
+  reading : (form : ValueForm) (value blocks plain text : List ℕ) → fault_before form value ≡ None
       → part_after None form value ≡ blocks → size_in form plain ≡ Some (length text) → take (length text) plain ≡ text
       → IsEncrypted mode Relates plain blocks → IsReading form mode Relates value OK text
   reading form value blocks plain text none part size front encrypted = record {
@@ -109,7 +109,7 @@ module _ (mode : BlockMode) (Relates : List ℕ → List ℕ → Type 0) where
   }
 
   -- what is written of a text is read as it
-  pub writing-read : (form : Form) (number : ℕ) (text value : List ℕ) → IsTextSize form (length text)
+  pub writing-read : (form : ValueForm) (number : ℕ) (text value : List ℕ) → IsTextSize form (length text)
       → length value ≡ value_size form (length text) → IsWriting form number mode Relates text value
       → IsReading form mode Relates value OK text
   writing-read Mysql number [] value is size writes =
@@ -145,7 +145,7 @@ mysql-read key number text value = writing-read (Cbc (replicate 8 0)) (Enciphers
 -- ---- of pgcrypto
 
 -- a scheme that has a name has the form of its name
-form-found : (form : Form) (found : Option Cipher) (by : Scheme)
+form-found : (form : ValueForm) (found : Option Cipher) (by : Scheme)
     → option_map (λ (cipher : Cipher). record { cipher = cipher; form = form }) found ≡ Some by → by.form ≡ form
 form-found form None by named = absurd (none-some by named)
 form-found form (Some cipher) by named =

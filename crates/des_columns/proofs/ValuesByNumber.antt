@@ -17,7 +17,7 @@ use Rattle.des_columns.specs.MysqlColumns.{ReadsByNumber, ReadsUnder}
 use Rattle.des_columns.specs.Readings.{IsColumnRead}
 use Rattle.des_columns.specs.declared.form.BlockMode.{BlockMode}
 use Rattle.des_columns.specs.declared.form.BlockMode.TheVariants.{Cbc}
-use Rattle.des_columns.specs.declared.form.Form.TheVariants.{Mysql}
+use Rattle.des_columns.specs.declared.form.ValueForm.TheVariants.{Mysql}
 use Rattle.des_columns.specs.declared.status.TheConstants.{ERR_KEY_NUMBER, ERR_NOT_ENCRYPTED}
 use Rattle.des_columns.proofs.Pieces.{length-pieces}
 use Rattle.des_columns.proofs.ReadColumns.{IsColumnRead-weaker}

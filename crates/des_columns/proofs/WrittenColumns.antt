@@ -8,7 +8,7 @@ use Rattle.std.proofs.lemmas.List.Sums.{sum_by-append, sum_by-take-le, sum_by_mo
 use Rattle.std.proofs.lemmas.Slice.{take-put_mid, take-put_mid_below}
 use Rattle.des_columns.specs.Columns.{pieces}
 use Rattle.des_columns.specs.Writings.{IsColumnWritten, IsTextSize}
-use Rattle.des_columns.specs.declared.form.Form.{Form}
+use Rattle.des_columns.specs.declared.form.ValueForm.{ValueForm}
 use Rattle.des_columns.proofs.Pieces.{length-pieces, pieces-at}
 use borrow.Rule.Slice.PartMut.{put_mid}
 
@@ -188,7 +188,7 @@ length-piece lengths bytes k below whole =
     ∙ length-take-le (get_or lengths k 0) (drop start bytes)
     (omega (arith, length-drop start bytes, sum_by_more_le (λ n. n) lengths k 0 below, whole))
 
-pub texts-sized : (form : Form) (lengths bytes : List ℕ) → sum lengths ≡ length bytes → All (IsTextSize form) lengths
+pub texts-sized : (form : ValueForm) (lengths bytes : List ℕ) → sum lengths ≡ length bytes → All (IsTextSize form) lengths
     → (k : ℕ) → k < length (pieces lengths bytes) → IsTextSize form (length (get_or (pieces lengths bytes) k []))
 texts-sized form lengths bytes whole sized k below =
     let inside : k < length lengths = omega (arith, below, length-pieces lengths bytes) in

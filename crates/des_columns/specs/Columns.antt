@@ -5,7 +5,7 @@ use Rattle.std.specs.Simd.{first_chunks}
 use Rattle.des_columns.specs.EncryptedBytes.{joined}
 use Rattle.des_columns.specs.Forms.{blocks_of, fault_before, size_in, status_after, text_after, xored}
 use Rattle.des_columns.specs.declared.form.BlockMode.{BlockMode}
-use Rattle.des_columns.specs.declared.form.Form.{Form}
+use Rattle.des_columns.specs.declared.form.ValueForm.{ValueForm}
 use Rattle.des_columns.specs.declared.status.TheConstants.{ERR_KEY_NUMBER}
 
 -- the values of a column, by their lengths
@@ -14,7 +14,7 @@ pieces [] bytes = []
 pieces (size ∷ lengths) bytes = take size bytes ∷ pieces lengths (drop size bytes)
 
 -- the blocks of a value, each decrypted by what its key is
-abbrev pub decrypted : Form → (List ℕ → List ℕ → List ℕ) → List ℕ → List (List ℕ)
+abbrev pub decrypted : ValueForm → (List ℕ → List ℕ → List ℕ) → List ℕ → List (List ℕ)
 decrypted form decryption value = map (decryption value) (blocks_of form value)
 
 -- whole blocks, decrypted
@@ -24,25 +24,25 @@ deciphered mode decryption bytes =
     joined (xored mode blocks (map decryption blocks))
 
 -- what a value is, decrypted
-abbrev pub plain_of : Form → BlockMode → (List ℕ → List ℕ → List ℕ) → List ℕ → List ℕ
+abbrev pub plain_of : ValueForm → BlockMode → (List ℕ → List ℕ → List ℕ) → List ℕ → List ℕ
 plain_of form mode decryption value =
     joined (xored mode (blocks_of form value) (decrypted form decryption value))
 
 -- why a value has no text, by whether there is a key for it
-abbrev pub fault_under : Bool → Form → List ℕ → Option ℤ
+abbrev pub fault_under : Bool → ValueForm → List ℕ → Option ℤ
 fault_under true form value = fault_before form value
 fault_under false form value = option_or (fault_before form value) (Some ERR_KEY_NUMBER)
 
 -- status and text of a value, by whether there is a key for it, and what this decrypts each block to
-abbrev pub status_as : Form → BlockMode → (List ℕ → Bool) → (List ℕ → List ℕ → List ℕ) → List ℕ → ℤ
+abbrev pub status_as : ValueForm → BlockMode → (List ℕ → Bool) → (List ℕ → List ℕ → List ℕ) → List ℕ → ℤ
 status_as form mode has_key decryption value =
     status_after (fault_under (has_key value) form value) (size_in form (plain_of form mode decryption value))
 
-abbrev pub text_as : Form → BlockMode → (List ℕ → Bool) → (List ℕ → List ℕ → List ℕ) → List ℕ → List ℕ
+abbrev pub text_as : ValueForm → BlockMode → (List ℕ → Bool) → (List ℕ → List ℕ → List ℕ) → List ℕ → List ℕ
 text_as form mode has_key decryption value =
     let plain = plain_of form mode decryption value in
     text_after (fault_under (has_key value) form value) (size_in form plain) plain
 
-abbrev pub ReadsAs : Form → BlockMode → (List ℕ → Bool) → (List ℕ → List ℕ → List ℕ) → List ℕ → ℤ → List ℕ → Type 0
+abbrev pub ReadsAs : ValueForm → BlockMode → (List ℕ → Bool) → (List ℕ → List ℕ → List ℕ) → List ℕ → ℤ → List ℕ → Type 0
 ReadsAs form mode has_key decryption value status text =
     (status ≡ status_as form mode has_key decryption value) × (text ≡ text_as form mode has_key decryption value)

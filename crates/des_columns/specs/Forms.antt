@@ -8,29 +8,29 @@ use Rattle.des.specs.Cbc.{xor_blocks, next_vector}
 use Rattle.des_columns.specs.Mysql.{has_form, last_of}
 use Rattle.des_columns.specs.declared.form.BlockMode.{BlockMode}
 use Rattle.des_columns.specs.declared.form.BlockMode.TheVariants.{Ecb, Cbc}
-use Rattle.des_columns.specs.declared.form.Form.{Form}
-use Rattle.des_columns.specs.declared.form.Form.TheVariants.{Mysql, Pkcs7, Unpadded}
+use Rattle.des_columns.specs.declared.form.ValueForm.{ValueForm}
+use Rattle.des_columns.specs.declared.form.ValueForm.TheVariants.{Mysql, Pkcs7, Unpadded}
 use Rattle.des_columns.specs.declared.status.TheConstants.{OK, ERR_BLOCKS, ERR_NOT_ENCRYPTED, ERR_PADDING}
 
 -- ---- around the blocks
 
 -- why a value can't be decrypted
-abbrev pub fault_before : Form → List ℕ → Option ℤ
+abbrev pub fault_before : ValueForm → List ℕ → Option ℤ
 fault_before Mysql [] = None
 fault_before Mysql (byte ∷ value) = if has_form (byte ∷ value) then None else Some ERR_NOT_ENCRYPTED
 fault_before Pkcs7 [] = Some ERR_BLOCKS
 fault_before form value = if length value % 8 == 0 then None else Some ERR_BLOCKS
 
 -- the bytes that were encrypted: a value of MySQL has one before them
-abbrev pub part_after : Option ℤ → Form → List ℕ → List ℕ
+abbrev pub part_after : Option ℤ → ValueForm → List ℕ → List ℕ
 part_after (Some fault) form value = []
 part_after None Mysql value = drop 1 value
 part_after None form value = value
 
-abbrev pub part_of : Form → List ℕ → List ℕ
+abbrev pub part_of : ValueForm → List ℕ → List ℕ
 part_of form value = part_after (fault_before form value) form value
 
-abbrev pub blocks_of : Form → List ℕ → List (List ℕ)
+abbrev pub blocks_of : ValueForm → List ℕ → List (List ℕ)
 blocks_of form value = first_chunks 8 (length (part_of form value) / 8) (part_of form value)
 
 -- ---- around the text
@@ -42,7 +42,7 @@ pkcs7_size n plain =
     then Some (length plain - n) else None
 
 -- how many bytes of text what was decrypted has, if it ends with the padding: the last byte of MySQL's is the number of its bytes
-abbrev pub size_in : Form → List ℕ → Option ℕ
+abbrev pub size_in : ValueForm → List ℕ → Option ℕ
 size_in Mysql plain = if nat_le (last_of plain) 8 then Some (length plain - last_of plain) else None
 size_in Pkcs7 plain = pkcs7_size (last_of plain) plain
 size_in Unpadded plain = Some (length plain)
@@ -75,10 +75,10 @@ text_after None (Some n) plain = take n plain
 text_after None None plain = []
 
 -- status and text of a value of which this was decrypted
-abbrev pub status_of : Form → List ℕ → List ℕ → ℤ
+abbrev pub status_of : ValueForm → List ℕ → List ℕ → ℤ
 status_of form value plain = status_after (fault_before form value) (size_in form plain)
 
-abbrev pub text_of : Form → List ℕ → List ℕ → List ℕ
+abbrev pub text_of : ValueForm → List ℕ → List ℕ → List ℕ
 text_of form value plain = text_after (fault_before form value) (size_in form plain) plain
 
 -- a text in the place of its value, before zeros

@@ -14,7 +14,7 @@ use Rattle.des_columns.specs.Pbe.{derived_by, key_size}
 use Rattle.des_columns.specs.Readings.{IsReading}
 use Rattle.des_columns.specs.Writings.{IsWriting}
 use Rattle.des_columns.specs.declared.form.BlockMode.TheVariants.{Cbc}
-use Rattle.des_columns.specs.declared.form.Form.TheVariants.{Pkcs7}
+use Rattle.des_columns.specs.declared.form.ValueForm.TheVariants.{Pkcs7}
 use Rattle.des_columns.specs.declared.pbe.Algorithm.{Algorithm}
 use Rattle.des_columns.specs.declared.pbe.Algorithm.TheVariants.{Md5Des, Sha1Des, Sha1TwoKeys}
 use Rattle.des_columns.specs.declared.status.TheConstants.{ERR_BASE64, ERR_SALT_LENGTH}

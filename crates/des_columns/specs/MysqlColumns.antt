@@ -5,7 +5,7 @@ use Rattle.des_columns.specs.Mysql.{has_form, number_of}
 use Rattle.des_columns.specs.Readings.{IsReading}
 use Rattle.des_columns.specs.Writings.{IsWriting}
 use Rattle.des_columns.specs.declared.form.BlockMode.TheVariants.{Cbc}
-use Rattle.des_columns.specs.declared.form.Form.TheVariants.{Mysql}
+use Rattle.des_columns.specs.declared.form.ValueForm.TheVariants.{Mysql}
 use Rattle.des_columns.specs.declared.status.TheConstants.{OK, ERR_KEY_NUMBER, ERR_NOT_ENCRYPTED}
 
 -- a value under a key, by triple DES chained from zeros

@@ -9,8 +9,8 @@ use Rattle.des_columns.specs.Readings.{IsReading}
 use Rattle.des_columns.specs.Writings.{IsWriting}
 use Rattle.des_columns.specs.declared.form.BlockMode.{BlockMode}
 use Rattle.des_columns.specs.declared.form.BlockMode.TheVariants.{Ecb, Cbc}
-use Rattle.des_columns.specs.declared.form.Form.{Form}
-use Rattle.des_columns.specs.declared.form.Form.TheVariants.{Pkcs7, Unpadded}
+use Rattle.des_columns.specs.declared.form.ValueForm.{ValueForm}
+use Rattle.des_columns.specs.declared.form.ValueForm.TheVariants.{Pkcs7, Unpadded}
 use Rattle.des_columns.specs.declared.pgcrypto.Cipher.{Cipher}
 use Rattle.des_columns.specs.declared.pgcrypto.Cipher.TheVariants.{Des, DesEcb, TripleDes, TripleDesEcb}
 use Rattle.des_columns.specs.declared.pgcrypto.Scheme.{Scheme}
@@ -20,7 +20,7 @@ use Rattle.des_columns.specs.declared.pgcrypto.Scheme.{Scheme}
 abbrev pub ends_in : List ℕ → List ℕ → Bool
 ends_in name end = str_eq_ignore_ascii_case (drop (length name - length end) name) end
 
-abbrev pub form_of : List ℕ → Form
+abbrev pub form_of : List ℕ → ValueForm
 form_of name = if ends_in name (codes "/pad:none") then Unpadded else Pkcs7
 
 abbrev pub before_padding : List ℕ → List ℕ

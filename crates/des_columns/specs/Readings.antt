@@ -4,11 +4,11 @@ use Rattle.std.specs.Simd.Lanes.{zip2}
 use Rattle.des_columns.specs.EncryptedBytes.{joined, IsEncrypted}
 use Rattle.des_columns.specs.Forms.{part_of, status_of, text_of, filled_to}
 use Rattle.des_columns.specs.declared.form.BlockMode.{BlockMode}
-use Rattle.des_columns.specs.declared.form.Form.{Form}
+use Rattle.des_columns.specs.declared.form.ValueForm.{ValueForm}
 use Rattle.des_columns.specs.declared.status.TheConstants.{OK}
 
 -- status and text of a value: those of the bytes that were encrypted to its blocks
-pub record IsReading (form : Form) (mode : BlockMode) (Relates : List ℕ → List ℕ → Type 0) (value : List ℕ)
+pub record IsReading (form : ValueForm) (mode : BlockMode) (Relates : List ℕ → List ℕ → Type 0) (value : List ℕ)
     (status : ℤ) (text : List ℕ) : Type 0 where
   pub plain : List ℕ
   pub encrypted : IsEncrypted mode Relates plain (part_of form value)

@@ -5,18 +5,18 @@ use Rattle.des_fast.specs.Records.{record_of}
 use Rattle.des_columns.specs.EncryptedBytes.{joined, IsEncrypted}
 use Rattle.des_columns.specs.Mysql.{padded}
 use Rattle.des_columns.specs.declared.form.BlockMode.{BlockMode}
-use Rattle.des_columns.specs.declared.form.Form.{Form}
-use Rattle.des_columns.specs.declared.form.Form.TheVariants.{Mysql, Pkcs7, Unpadded}
+use Rattle.des_columns.specs.declared.form.ValueForm.{ValueForm}
+use Rattle.des_columns.specs.declared.form.ValueForm.TheVariants.{Mysql, Pkcs7, Unpadded}
 
 -- ---- around the text
 
 -- a text of `size` bytes can be written: without padding it is whole blocks
-abbrev pub IsTextSize : Form → ℕ → Type 0
+abbrev pub IsTextSize : ValueForm → ℕ → Type 0
 IsTextSize Unpadded size = size % 8 ≡ 0
 IsTextSize form size = Unit {0}
 
 -- a text and its padding: by PKCS#7 (RFC 5652, section 6.3) n bytes, 1 to 8, each with the value n; MySQL pads no empty text
-abbrev pub padded_by : Form → List ℕ → List ℕ
+abbrev pub padded_by : ValueForm → List ℕ → List ℕ
 padded_by Mysql [] = []
 padded_by Mysql (byte ∷ text) = padded (byte ∷ text)
 padded_by Pkcs7 text = text ++ replicate (8 - length text % 8) (8 - length text % 8)
@@ -25,18 +25,18 @@ padded_by Unpadded text = text
 -- ---- around the blocks
 
 -- what stands before the blocks of a value: in MySQL 128 and the number of the key
-abbrev pub head_of : Form → ℕ → List ℕ → List ℕ
+abbrev pub head_of : ValueForm → ℕ → List ℕ → List ℕ
 head_of Mysql number (byte ∷ text) = (128 + number) ∷ []
 head_of form number text = []
 
 -- how many bytes the value of a text of `size` bytes has
-abbrev pub value_size : Form → ℕ → ℕ
+abbrev pub value_size : ValueForm → ℕ → ℕ
 value_size Mysql size = if size == 0 then 0 else (size / 8 + 1) * 8 + 1
 value_size Pkcs7 size = (size / 8 + 1) * 8
 value_size Unpadded size = size
 
 -- the value of a text, if a relation takes a block to its encryption
-pub record IsWriting (form : Form) (number : ℕ) (mode : BlockMode) (Relates : List ℕ → List ℕ → Type 0)
+pub record IsWriting (form : ValueForm) (number : ℕ) (mode : BlockMode) (Relates : List ℕ → List ℕ → Type 0)
     (text value : List ℕ) : Type 0 where
   pub blocks : List ℕ
   pub value_is : value ≡ head_of form number text ++ blocks
@@ -52,7 +52,7 @@ pub record IsColumnWritten (size_of : ℕ → ℕ) (Writes : List ℕ → List �
   pub places : values ≡ joined written
 
 -- texts, each with its padding, are records of blocks
-pub record AreGathered (form : Form) (lengths : List ℕ) (texts : List (List ℕ)) (sizes : List ℕ) (blocks : List (List ℕ)) : Type 0 where
+pub record AreGathered (form : ValueForm) (lengths : List ℕ) (texts : List (List ℕ)) (sizes : List ℕ) (blocks : List (List ℕ)) : Type 0 where
   pub lengths_are : lengths ≡ map length texts
   pub sizes_are : sizes ≡ map (λ size. value_size form size / 8) lengths
   pub fit : All (IsTextSize form) lengths

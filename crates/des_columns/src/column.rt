@@ -7,7 +7,7 @@ ghost use Rattle.des_columns.specs.Forms.{blocks_of, filled_to};
 ghost use Rattle.des_columns.specs.Columns.{ReadsAs, deciphered, decrypted, fault_under, pieces, status_as, text_as};
 ghost use Rattle.des_columns.specs.Readings.{IsColumnRead};
 
-use crate::form::{BlockMode, Form, Reading, finish, write_text};
+use crate::form::{BlockMode, Reading, ValueForm, finish, write_text};
 use crate::status::{ERR_KEY_NUMBER, OK};
 use crate::value_keys::ValueKeys;
 use des_fast::many::Slice;
@@ -27,7 +27,7 @@ struct Taken {
 // Copies the blocks of values into the buffer, from value `from` on, which begins at byte `start`, as
 // long as they fit.
 fn gather(
-    form: Form,
+    form: ValueForm,
     values: &[u8],
     lengths: &[usize],
     from: usize,
@@ -66,7 +66,7 @@ fn gather(
 #[derive(Drop)]
 pub(crate) struct Reader<K> {
     pub keys: K,
-    pub form: Form,
+    pub form: ValueForm,
     pub mode: BlockMode,
 }
 

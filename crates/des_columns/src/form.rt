@@ -23,7 +23,7 @@ pub enum BlockMode {
 
 /// What stands in a value around its blocks, and in these around the text.
 #[derive(Clone, Copy, Debug, PartialEq, Eq)]
-pub enum Form {
+pub enum ValueForm {
     /// A byte that names the key before the blocks, and MySQL's padding in them.
     Mysql,
     /// The padding of PKCS#7 (RFC 5652, section 6.3).
@@ -74,17 +74,17 @@ impl BlockMode {
     }
 }
 
-impl Form {
+impl ValueForm {
     /// Why a value can't be decrypted.
     pub(crate) fn fault_before(self, value: &[u8]) -> Option<i32>
         ensures { result ≡ fault_before self value.now }
     {
         let whole = value.len() % 8 == 0;
         match self {
-            Form::Mysql if value.is_empty() || is_encrypted(value) => None,
-            Form::Mysql => Some(ERR_NOT_ENCRYPTED),
-            Form::Pkcs7 if whole && !value.is_empty() => None,
-            Form::Unpadded if whole => None,
+            ValueForm::Mysql if value.is_empty() || is_encrypted(value) => None,
+            ValueForm::Mysql => Some(ERR_NOT_ENCRYPTED),
+            ValueForm::Pkcs7 if whole && !value.is_empty() => None,
+            ValueForm::Unpadded if whole => None,
             _ => Some(ERR_BLOCKS),
         }
     }
@@ -97,7 +97,7 @@ impl Form {
     {
         match (self.fault_before(value), self) {
             (Some(_), _) => &value[..0],
-            (None, Form::Mysql) => &value[value.len().min(1)..],
+            (None, ValueForm::Mysql) => &value[value.len().min(1)..],
             (None, _) => value,
         }
     }
@@ -112,10 +112,10 @@ impl Form {
             None => 0,
         };
         match self {
-            Form::Mysql if last <= 8 => Some(plain.len() - last),
-            Form::Mysql => None,
-            Form::Pkcs7 => pkcs7_size(last, plain),
-            Form::Unpadded => Some(plain.len()),
+            ValueForm::Mysql if last <= 8 => Some(plain.len() - last),
+            ValueForm::Mysql => None,
+            ValueForm::Pkcs7 => pkcs7_size(last, plain),
+            ValueForm::Unpadded => Some(plain.len()),
         }
     }
 }
@@ -156,7 +156,7 @@ fn xor_previous(iv: &[u8; 8], blocks: &[[u8; 8]], answers: &mut [[u8; 8]])
 
 /// Makes of what was decrypted of a value, at the front of its place, the text and zeros; or zeros
 /// alone, if the value could not be decrypted.
-pub(crate) fn finish(form: Form, fault: Option<i32>, count: usize, place: &mut [u8]) -> Reading
+pub(crate) fn finish(form: ValueForm, fault: Option<i32>, count: usize, place: &mut [u8]) -> Reading
     requires whole { count % 8 ≡ 0 }
     requires count { count ≤ length place.old }
     ensures status { result.status ≡ status_after fault (size_in form (take count place.old)) }
@@ -182,7 +182,7 @@ pub(crate) fn finish(form: Form, fault: Option<i32>, count: usize, place: &mut [
 /// Writes the text of a value into its place, before zeros, where the answers are its blocks, each
 /// decrypted; or zeros alone, if there is a fault.
 pub(crate) fn write_text(
-    form: Form,
+    form: ValueForm,
     mode: BlockMode,
     fault: Option<i32>,
     value: &[u8],

@@ -13,11 +13,11 @@ ghost use Rattle.des_columns.specs.Readings.{IsColumnRead, IsReading};
 ghost use Rattle.des_columns.specs.Writings.{IsColumnWritten, IsWriting};
 ghost use Rattle.des_passwords.specs.TextLines.{trimmed};
 ghost use Rattle.des_columns.specs.declared.form.BlockMode.TheVariants.{Cbc};
-ghost use Rattle.des_columns.specs.declared.form.Form.TheVariants.{Pkcs7};
+ghost use Rattle.des_columns.specs.declared.form.ValueForm.TheVariants.{Pkcs7};
 
 use crate::base64_in_place::{decode, encode, write_characters};
 use crate::column::{Reader, add_up_to, are_ok};
-use crate::form::{BlockMode, Form, Reading, finish};
+use crate::form::{BlockMode, Reading, ValueForm, finish};
 use crate::pbe::{Algorithm, PbeError};
 use crate::status::{ERR_BASE64, ERR_SALT_LENGTH, OK};
 use crate::value_keys::OneKey;
@@ -71,13 +71,13 @@ fn decrypt<C: ManyBlocks + Drop>(
         keys: OneKey {
             cipher: C::new(key),
         },
-        form: Form::Pkcs7,
+        form: ValueForm::Pkcs7,
         mode,
     };
-    let fault = Form::Pkcs7.fault_before(encrypted);
-    let count = Form::Pkcs7.part_of(encrypted).len();
+    let fault = ValueForm::Pkcs7.fault_before(encrypted);
+    let count = ValueForm::Pkcs7.part_of(encrypted).len();
     reader.decipher::<u64x2>(&[], &mut encrypted[..count], buffer);
-    finish(Form::Pkcs7, fault, count, encrypted)
+    finish(ValueForm::Pkcs7, fault, count, encrypted)
 }
 
 // The same under the key of an algorithm, and the vector behind it.
@@ -230,7 +230,7 @@ fn encrypt<C: ManyBlocks + Drop>(
 {
     let writer = Writer {
         cipher: C::new(key),
-        form: Form::Pkcs7,
+        form: ValueForm::Pkcs7,
         number: 0,
         mode: BlockMode::Cbc(*vector),
     };

@@ -10,7 +10,7 @@ ghost use Rattle.des.specs.TripleCiphers.{ede3_decryption};
 ghost use Rattle.des_columns.specs.KeyFile.{has_key, is_line, is_shown, is_space, keys_in, string_at, string_of, until_shown};
 ghost use Rattle.des_columns.specs.Mysql.{key_of, number_of};
 
-use crate::form::Form;
+use crate::form::ValueForm;
 use crate::value_keys::ValueKeys;
 use des::cipher::{KeyBytes, KeyInit};
 use des_fast::TdesEde3;
@@ -199,7 +199,7 @@ impl ValueKeys for KeyFile {
 
     fn decrypt_values<S: Slice>(
         &self,
-        form: Form,
+        form: ValueForm,
         values: &[u8],
         lengths: &[usize],
         blocks: &mut [[u8; 8]],

@@ -9,7 +9,7 @@ ghost use Rattle.des_columns.specs.Readings.{IsColumnRead};
 ghost use Rattle.des_columns.specs.Writings.{IsColumnWritten, value_size};
 
 use crate::column::Reader;
-use crate::form::{BlockMode, Form};
+use crate::form::{BlockMode, ValueForm};
 use crate::key_file::KeyFile;
 pub use crate::key_file::key_of;
 use crate::one_key::read_values;
@@ -31,12 +31,12 @@ pub fn encrypt_values<S: Slice>(
 )
     requires number { number < 128 }
     requires whole { sum lengths.now ≡ length texts.now }
-    requires values { length values.old ≡ sum_by (value_size Form.Mysql) lengths.now }
-    ensures { IsColumnWritten (value_size Form.Mysql) (Writes key.now number)
+    requires values { length values.old ≡ sum_by (value_size ValueForm.Mysql) lengths.now }
+    ensures { IsColumnWritten (value_size ValueForm.Mysql) (Writes key.now number)
         (pieces lengths.now texts.now) values.new }
 {
     let mode = BlockMode::Cbc([0; 8]);
-    write_values::<TdesEde3, S>(key, Form::Mysql, number, mode, texts, lengths, values);
+    write_values::<TdesEde3, S>(key, ValueForm::Mysql, number, mode, texts, lengths, values);
 }
 
 /// Reads values of a column under the key of a key string, or of one number in the server's file:
@@ -64,7 +64,7 @@ pub fn decrypt_values<S: Slice>(
     let mode = BlockMode::Cbc([0; 8]);
     read_values::<TdesEde3, S>(
         key,
-        Form::Mysql,
+        ValueForm::Mysql,
         mode,
         values,
         lengths,
@@ -97,7 +97,7 @@ pub fn decrypt_values_by_file<S: Slice>(
     are_bytes(values);
     let reader = Reader {
         keys: KeyFile { keys: file.keys },
-        form: Form::Mysql,
+        form: ValueForm::Mysql,
         mode: BlockMode::Cbc([0; 8]),
     };
     reader.read::<S>(values, lengths, texts, text_lengths, statuses)

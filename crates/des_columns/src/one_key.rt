@@ -6,7 +6,7 @@ ghost use Rattle.des_columns.specs.Columns.{pieces};
 ghost use Rattle.des_columns.specs.Readings.{IsColumnRead, IsReading};
 
 use crate::column::Reader;
-use crate::form::{BlockMode, Form};
+use crate::form::{BlockMode, ValueForm};
 use crate::status::OK;
 use crate::value_keys::OneKey;
 use des::cipher::are_bytes;
@@ -17,7 +17,7 @@ use des_fast::many::{ManyBlocks, Slice};
 /// value k has no text. Returns whether all are `OK`.
 pub fn read_values<C: ManyBlocks + Drop, S: Slice>(
     key: &C::Key,
-    form: Form,
+    form: ValueForm,
     mode: BlockMode,
     values: &[u8],
     lengths: &[usize],

@@ -9,7 +9,7 @@ ghost use Rattle.des_columns.specs.PgcryptoColumns.{before_padding, cipher_of, e
 ghost use Rattle.des_columns.specs.Readings.{IsColumnRead};
 ghost use Rattle.des_columns.specs.Writings.{IsColumnWritten, IsTextSize, value_size};
 
-use crate::form::{BlockMode, Form};
+use crate::form::{BlockMode, ValueForm};
 use crate::one_key::read_values;
 use crate::status::OK;
 use crate::writing::write_values;
@@ -34,7 +34,7 @@ pub enum Cipher {
 pub struct Scheme {
     pub cipher: Cipher,
     /// `Pkcs7`, or `Unpadded` if the name ends in `/pad:none`.
-    pub form: Form,
+    pub form: ValueForm,
 }
 
 impl Scheme {
@@ -43,9 +43,9 @@ impl Scheme {
         ensures { result ≡ scheme_of name.now }
     {
         let form = if ends_in(name, b"/pad:none") {
-            Form::Unpadded
+            ValueForm::Unpadded
         } else {
-            Form::Pkcs7
+            ValueForm::Pkcs7
         };
         match cipher_of(before_padding(name)) {
             Some(cipher) => Some(Scheme { cipher, form }),

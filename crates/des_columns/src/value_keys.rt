@@ -5,7 +5,7 @@ ghost use Rattle.std.specs.List.{flat_map};
 ghost use Rattle.des_columns.specs.Forms.{blocks_of};
 ghost use Rattle.des_columns.specs.Columns.{decrypted, pieces};
 
-use crate::form::Form;
+use crate::form::ValueForm;
 use des_fast::many::{ManyBlocks, Slice};
 
 /// What decrypts the blocks of values. No call reads a table at an index that depends on a key or
@@ -32,7 +32,7 @@ pub(crate) trait ValueKeys {
     /// Decrypts the blocks of values in place, one value after another.
     fn decrypt_values<S: Slice>(
         &self,
-        form: Form,
+        form: ValueForm,
         values: &[u8],
         lengths: &[usize],
         blocks: &mut [[u8; 8]],
@@ -72,7 +72,7 @@ impl<C: ManyBlocks + Drop> ValueKeys for OneKey<C> {
 
     fn decrypt_values<S: Slice>(
         &self,
-        form: Form,
+        form: ValueForm,
         values: &[u8],
         lengths: &[usize],
         blocks: &mut [[u8; 8]],

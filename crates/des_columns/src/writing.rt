@@ -11,7 +11,7 @@ ghost use Rattle.des_columns.specs.Forms.{mode_after};
 ghost use Rattle.des_columns.specs.Writings.{AreGathered, IsColumnWritten, IsTextSize, IsWriting, padded_by, value_size};
 
 use crate::column::add_up_to;
-use crate::form::{BlockMode, Form};
+use crate::form::{BlockMode, ValueForm};
 use des::cbc::next_vector;
 use des_fast::many::{ManyBlocks, Slice, SpreadKeys, SpreadOnce};
 
@@ -26,17 +26,17 @@ const FEW: usize = 4;
 // The most blocks of a text that goes with others: of longer ones too few fit.
 const LONGEST: usize = 128;
 
-impl Form {
+impl ValueForm {
     // How many bytes the value of a text of `size` bytes has.
     fn value_size(self, size: usize) -> usize
         requires { size < 2 ^ 63 }
         ensures { result ≡ value_size self size }
     {
         match self {
-            Form::Mysql if size == 0 => 0,
-            Form::Mysql => (size / 8 + 1) * 8 + 1,
-            Form::Pkcs7 => (size / 8 + 1) * 8,
-            Form::Unpadded => size,
+            ValueForm::Mysql if size == 0 => 0,
+            ValueForm::Mysql => (size / 8 + 1) * 8 + 1,
+            ValueForm::Pkcs7 => (size / 8 + 1) * 8,
+            ValueForm::Unpadded => size,
         }
     }
 
@@ -48,7 +48,7 @@ impl Form {
     {
         let count = 8 - (text.len() % 8) as u8;
         let filler = match self {
-            Form::Mysql => b'*',
+            ValueForm::Mysql => b'*',
             _ => count,
         };
         let (front, padding) = bytes.split_at_mut(text.len());
@@ -60,7 +60,7 @@ impl Form {
 }
 
 // Writes a text and its padding as blocks, over a place of as many bytes.
-fn write_blocks(form: Form, text: &[u8], place: &mut [u8], blocks: &mut [[u8; 8]])
+fn write_blocks(form: ValueForm, text: &[u8], place: &mut [u8], blocks: &mut [[u8; 8]])
     requires size { IsTextSize form (length text.now) }
     requires place { length place.old ≡ value_size form (length text.now) / 8 * 8 }
     requires blocks { length blocks.old ≡ value_size form (length text.now) / 8 }
@@ -85,7 +85,7 @@ struct Gathered {
 // Writes the first texts with their padding into the buffer, as long as they fit, and how many blocks
 // each has into `sizes`. What was in the places of their values is written over.
 fn gather(
-    form: Form,
+    form: ValueForm,
     texts: &[u8],
     lengths: &[usize],
     values: &mut [u8],
@@ -140,7 +140,7 @@ fn gather(
 #[derive(Drop)]
 pub(crate) struct Writer<C> {
     pub cipher: C,
-    pub form: Form,
+    pub form: ValueForm,
     pub number: u8,
     pub mode: BlockMode,
 }
@@ -293,7 +293,7 @@ impl<C: SpreadOnce + Drop> Writer<C> {
 #[inline(never)]
 pub fn write_values<C: SpreadOnce + Drop, S: Slice>(
     key: &C::Key,
-    form: Form,
+    form: ValueForm,
     number: u8,
     mode: BlockMode,
     texts: &[u8],
@@ -352,7 +352,7 @@ pub fn write_values<C: SpreadOnce + Drop, S: Slice>(
 
 /// Whether the arguments of a call that writes a column fit: the lengths add up to the bytes of the
 /// texts, and those of their values to the length of the buffer.
-pub fn fits(form: Form, texts: &[u8], lengths: &[usize], values: &[u8]) -> bool
+pub fn fits(form: ValueForm, texts: &[u8], lengths: &[usize], values: &[u8]) -> bool
     ensures { IsTrue result ↔ (sum lengths.now ≡ length texts.now)
         × (sum_by (value_size form) lengths.now ≡ length values.now) }
 {
@@ -360,7 +360,7 @@ pub fn fits(form: Form, texts: &[u8], lengths: &[usize], values: &[u8]) -> bool
 }
 
 // Whether the values of texts of these lengths have `total` bytes together.
-fn sizes_add_up_to(form: Form, lengths: &[usize], total: usize) -> bool
+fn sizes_add_up_to(form: ValueForm, lengths: &[usize], total: usize) -> bool
     requires { sum lengths.now < 2 ^ 63 }
     ensures { IsTrue result ↔ (sum_by (value_size form) lengths.now ≡ total) }
 {
@@ -376,11 +376,11 @@ fn sizes_add_up_to(form: Form, lengths: &[usize], total: usize) -> bool
 }
 
 /// Whether texts of these lengths can be written: those without padding are whole blocks.
-pub fn are_whole(form: Form, lengths: &[usize]) -> bool
+pub fn are_whole(form: ValueForm, lengths: &[usize]) -> bool
     ensures { IsTrue result ↔ All (IsTextSize form) lengths.now }
 {
     match form {
-        Form::Unpadded => lengths.iter().all(|length| *length % 8 == 0),
+        ValueForm::Unpadded => lengths.iter().all(|length| *length % 8 == 0),
         _ => true,
     }
 }

@@ -4,7 +4,7 @@ use Rattle.std.specs.List.{All, sum_by}
 use Rattle.des_columns.specs.Jasypt.{value_size as string_size}
 use Rattle.des_columns.specs.Pbe.{IsSaltOf, key_size}
 use Rattle.des_columns.specs.Writings.{IsTextSize, value_size}
-use Rattle.des_columns.specs.declared.form.Form.{Form}
+use Rattle.des_columns.specs.declared.form.ValueForm.{ValueForm}
 use Rattle.des_columns.specs.declared.pbe.Algorithm.{Algorithm}
 use Rattle.des_context.specs.declared.status.TheConstants.{OK, ERR_ALGORITHM, ERR_BLOCKS, ERR_COUNTS, ERR_ITERATIONS, ERR_KEY_LENGTH, ERR_SALT_LENGTH, ERR_VALUES}
 
@@ -25,11 +25,11 @@ abbrev pub IsKeyNumber : ℕ → Type 0
 IsKeyNumber number = (number ≤ 9) ⊎ (number ≡ 127)
 
 -- the lengths add up to those of the texts, and the buffer is as long as their values
-abbrev pub TakesValues : Form → List ℕ → List ℕ → List ℕ → Type 0
+abbrev pub TakesValues : ValueForm → List ℕ → List ℕ → List ℕ → Type 0
 TakesValues form lengths texts values = (sum lengths ≡ length texts) × (sum_by (value_size form) lengths ≡ length values)
 
 -- the status of a call that writes values, by what is given
-pub record IsWriteStatus (form : Form) (lengths texts values : List ℕ) (status : ℤ) : Type 0 where
+pub record IsWriteStatus (form : ValueForm) (lengths texts values : List ℕ) (status : ℤ) : Type 0 where
   pub counts : (status ≡ ERR_COUNTS) ↔ ¬ (TakesValues form lengths texts values)
   pub cut : (status ≡ ERR_BLOCKS) ↔ (TakesValues form lengths texts values × ¬ (All (IsTextSize form) lengths))
   pub written : (status ≡ OK) ↔ (TakesValues form lengths texts values × All (IsTextSize form) lengths)

@@ -19,7 +19,7 @@ use crate::status::{
     ERR_NOT_ENCRYPTED, ERR_PADDING, ERR_SALT_LENGTH, ERR_VALUES, OK,
 };
 use des_columns::column::fits;
-use des_columns::form::Form;
+use des_columns::form::ValueForm;
 use des_columns::key_file::KeyFile;
 use des_columns::pbe::{Algorithm, PbeError};
 use des_columns::pgcrypto::Scheme;
@@ -137,7 +137,7 @@ pub fn pgcrypto_decrypt_values<S: Slice>(
 }
 
 // The status of a call that writes values of a form, by what it is given.
-fn write_status(form: Form, texts: &[u8], lengths: &[usize], values: &[u8]) -> i32
+fn write_status(form: ValueForm, texts: &[u8], lengths: &[usize], values: &[u8]) -> i32
     ensures status { IsWriteStatus form lengths.now texts.now values.now result }
     ensures one { (result ≡ OK) ⊎ (result ≡ ERR_COUNTS) ⊎ (result ≡ ERR_BLOCKS) }
 {
@@ -163,15 +163,15 @@ pub fn mysql_encrypt_values<S: Slice>(
 ) -> i32
     ensures number { (result ≡ ERR_KEY_NUMBER) ↔ ¬ (IsKeyNumber number) }
     ensures status { result ≢ ERR_KEY_NUMBER
-        → IsWriteStatus Form.Mysql lengths.now texts.now values.old result }
-    ensures written { result ≡ OK → IsColumnWritten (value_size Form.Mysql)
+        → IsWriteStatus ValueForm.Mysql lengths.now texts.now values.old result }
+    ensures written { result ≡ OK → IsColumnWritten (value_size ValueForm.Mysql)
         (WritesMysql (key_of password.now) number) (pieces lengths.now texts.now) values.new }
     ensures kept { result ≢ OK → values.new ≡ values.old }
 {
     if number > 9 && number != 127 {
         return ERR_KEY_NUMBER;
     }
-    let status = write_status(Form::Mysql, texts, lengths, values);
+    let status = write_status(ValueForm::Mysql, texts, lengths, values);
     if status == OK {
         let key = mysql::key_of(password);
         mysql::encrypt_values::<S>(&key, number as u8, texts, lengths, values);

@@ -22,8 +22,8 @@ use Rattle.des_columns.specs.Readings.{IsColumnRead, IsReading}
 use Rattle.des_columns.specs.Writings.{IsColumnWritten, IsTextSize, value_size}
 use Rattle.des_columns.specs.declared.form.BlockMode.{BlockMode}
 use Rattle.des_columns.specs.declared.form.BlockMode.TheVariants.{Ecb, Cbc}
-use Rattle.des_columns.specs.declared.form.Form.{Form}
-use Rattle.des_columns.specs.declared.form.Form.TheVariants.{Mysql}
+use Rattle.des_columns.specs.declared.form.ValueForm.{ValueForm}
+use Rattle.des_columns.specs.declared.form.ValueForm.TheVariants.{Mysql}
 use Rattle.des_columns.specs.declared.pgcrypto.Cipher.{Cipher}
 use Rattle.des_columns.specs.declared.pgcrypto.Cipher.TheVariants.{Des, DesEcb, TripleDes, TripleDesEcb}
 use Rattle.des_columns.specs.declared.pgcrypto.Scheme.{Scheme}
@@ -120,7 +120,7 @@ module _ (Relates : List ℕ → List ℕ → Type 0) (back : List ℕ → List 
       (ciphertext-decrypted iv two.p_blocks two.q_blocks vector two.encrypted))
       ∙ two.of_p
 
-  pub reading-same : (form : Form) (mode : BlockMode) (value text other : List ℕ) (status its : ℤ) → HasVector mode
+  pub reading-same : (form : ValueForm) (mode : BlockMode) (value text other : List ℕ) (status its : ℤ) → HasVector mode
       → IsReading form mode Relates value status text → IsReading form mode Relates value its other
       → (status ≡ its) × (text ≡ other)
   reading-same form mode value text other status its vector one two =
@@ -131,7 +131,7 @@ module _ (Relates : List ℕ → List ℕ → Type 0) (back : List ℕ → List 
       )
 
   -- the texts of a column are those that its values are read as
-  pub read-same : (form : Form) (mode : BlockMode) (values texts : List (List ℕ)) (again lengths : List ℕ)
+  pub read-same : (form : ValueForm) (mode : BlockMode) (values texts : List (List ℕ)) (again lengths : List ℕ)
       (statuses : List ℤ) → HasVector mode → length texts ≡ length values
       → ((k : ℕ) → k < length values → IsReading form mode Relates (get_or values k []) OK (get_or texts k []))
       → (column : IsColumnRead (IsReading form mode Relates) values again lengths statuses)
@@ -195,7 +195,7 @@ pub record ComeAgain (lengths bytes sizes again again_lengths : List ℕ) (statu
   pub texts_are : again ≡ joined (zip2 (λ size text. filled_to size text) sizes (pieces lengths bytes))
 
 -- they come again, if each value that is written of a text can be read as it
-texts-again : (form : Form) (mode : BlockMode) (Relates : List ℕ → List ℕ → Type 0) (inverse : List ℕ → List ℕ)
+texts-again : (form : ValueForm) (mode : BlockMode) (Relates : List ℕ → List ℕ → Type 0) (inverse : List ℕ → List ℕ)
     (Writes : List ℕ → List ℕ → Type 0) (lengths bytes sizes values again again_lengths : List ℕ) (statuses : List ℤ)
     → IsGraphOf inverse (λ y x. Relates x y) → HasVector mode
     → ((text value : List ℕ) → IsTextSize form (length text) → length value ≡ value_size form (length text)

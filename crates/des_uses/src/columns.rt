@@ -8,7 +8,7 @@ ghost use Rattle.des_columns.specs.Columns.{pieces};
 ghost use Rattle.des_columns.specs.Forms.{filled_to};
 ghost use Rattle.des_columns.specs.PgcryptoColumns.{form_of, scheme_of};
 ghost use Rattle.des_columns.specs.Writings.{IsTextSize, value_size};
-ghost use Rattle.des_columns.specs.declared.form.Form.TheVariants.{Mysql};
+ghost use Rattle.des_columns.specs.declared.form.ValueForm.TheVariants.{Mysql};
 
 use des::cipher::are_bytes;
 use des_columns::pgcrypto::Scheme;

@@ -6,7 +6,7 @@ use Rattle.des_columns.specs.EncryptedBytes.{IsEncrypted}
 use Rattle.des_columns.specs.Readings.{IsReading}
 use Rattle.des_columns.specs.declared.form.BlockMode.{BlockMode}
 use Rattle.des_columns.specs.declared.form.BlockMode.TheVariants.{Cbc}
-use Rattle.des_columns.specs.declared.form.Form.TheVariants.{Pkcs7}
+use Rattle.des_columns.specs.declared.form.ValueForm.TheVariants.{Pkcs7}
 use Rattle.des_columns.proofs.ReadValues.{plain-encrypted}
 use Rattle.des_columns.proofs.jasypt.decrypt.Goals as goal
 

@@ -1,7 +1,7 @@
 use Rattle.std.proofs.Common.{ℕ, List, arith}
 use Rattle.des_columns.specs.Writings.{IsWriting}
 use Rattle.des_columns.specs.declared.form.BlockMode.{BlockMode}
-use Rattle.des_columns.specs.declared.form.Form.TheVariants.{Pkcs7}
+use Rattle.des_columns.specs.declared.form.ValueForm.TheVariants.{Pkcs7}
 use Rattle.des_columns.proofs.AlgorithmKeys.{by-des, by-three_keys, by-two_keys}
 use Rattle.des_columns.proofs.jasypt.encrypt_by.Goals as goal
 

@@ -5,7 +5,7 @@ use Rattle.std.proofs.lemmas.List.Sums.{sum_by_more}
 use Rattle.std.proofs.lemmas.Slice.{take-put_mid}
 use Rattle.des_columns.specs.Columns.{pieces}
 use Rattle.des_columns.specs.Writings.{value_size}
-use Rattle.des_columns.specs.declared.form.Form.{Form}
+use Rattle.des_columns.specs.declared.form.ValueForm.{ValueForm}
 use Rattle.des_columns.proofs.GatheredTexts.{gathered-more}
 use Rattle.des_columns.proofs.Pieces.{length-pieces, value-at}
 use Rattle.des_columns.proofs.WrittenColumns.{text-next}
@@ -13,7 +13,7 @@ use Rattle.des_columns.proofs.writing.gather.Goals as goal
 
 pub texts-preserved : goal.texts-preserved
 texts-preserved c =
-    let form : Form = c.args.form in
+    let form : ValueForm = c.args.form in
     let k : ℕ = c.texts.count in
     let from : ℕ = c.texts.bytes in
     let lengths : List ℕ = c.args.lengths.now in

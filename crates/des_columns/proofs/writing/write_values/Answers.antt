@@ -5,7 +5,7 @@ use Rattle.std.proofs.lemmas.List.{length-drop, length-take, length-take-le}
 use Rattle.std.proofs.lemmas.List.Sums.{sum_by_more_le}
 use Rattle.des_columns.specs.Columns.{pieces}
 use Rattle.des_columns.specs.Writings.{IsWriting, value_size}
-use Rattle.des_columns.specs.declared.form.Form.{Form}
+use Rattle.des_columns.specs.declared.form.ValueForm.{ValueForm}
 use Rattle.des_columns.proofs.GatheredTexts.{gathered-of}
 use Rattle.des_columns.proofs.Pieces.{length-pieces, value-at}
 use Rattle.des_columns.proofs.SpreadKeySizes.{spread_keys-le}
@@ -69,7 +69,7 @@ slice_bounds-text-end g c =
 
 pub slice_bounds-write_value-end : goal.slice_bounds-write_value-end
 slice_bounds-write_value-end g c =
-    let form : Form = c.args.form in
+    let form : ValueForm = c.args.form in
     let lengths : List ℕ = c.args.lengths.now in
     let at =
     text-next lengths c.args.texts.now c.groups.k c.groups.from (c.groups.from + get_or lengths c.groups.k 0 - c.groups.from)
@@ -87,7 +87,7 @@ slice_bounds-write_value-end g c =
 
 pub write_group-requires : goal.write_group-requires
 write_group-requires g c =
-    let form : Form = c.args.form in
+    let form : ValueForm = c.args.form in
     let lengths : List ℕ = c.args.lengths.now in
     let texts : List ℕ = c.args.texts.now in
     let k : ℕ = c.groups.k in
@@ -146,7 +146,7 @@ groups-smaller-then-taken g c =
 
 pub groups-preserved-then-taken : goal.groups-preserved-then-taken
 groups-preserved-then-taken g c =
-    let form : Form = c.args.form in
+    let form : ValueForm = c.args.form in
     let key : List ℕ = g.C.Key.KeyBytes.bytes_of c.args.key.now in
     let W : List ℕ → List ℕ → Type 0 = IsWriting form c.args.number c.args.mode (g.C.Relating.relation key) in
     let k : ℕ = c.groups.k in
@@ -186,7 +186,7 @@ groups-preserved-then-taken g c =
 
 pub groups-preserved : goal.groups-preserved
 groups-preserved g c =
-    let form : Form = c.args.form in
+    let form : ValueForm = c.args.form in
     let key : List ℕ = g.C.Key.KeyBytes.bytes_of c.args.key.now in
     let W : List ℕ → List ℕ → Type 0 = IsWriting form c.args.number c.args.mode (g.C.Relating.relation key) in
     let k : ℕ = c.groups.k in
@@ -220,7 +220,7 @@ pub returns : goal.returns
 returns g c =
     let lengths : List ℕ = c.args.lengths.now in
     let bytes : List ℕ = c.args.texts.now in
-    let form : Form = c.args.form in
+    let form : ValueForm = c.args.form in
     written-end (value_size form) (value_size form)
     (IsWriting form c.args.number c.args.mode (g.C.Relating.relation (g.C.Key.KeyBytes.bytes_of c.args.key.now)))
     (pieces lengths bytes) lengths c.groups.values c.groups.k c.groups.start (c.groups.auto.values ∙ c.requires.values)

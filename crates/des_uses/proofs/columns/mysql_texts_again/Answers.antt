@@ -4,7 +4,7 @@ use Rattle.std.proofs.lemmas.List.Elements.{All-from_get_or}
 use Rattle.std.proofs.lemmas.List.Sums.{sum-map}
 use Rattle.des.specs.Blocks.{IsKey}
 use Rattle.des_columns.specs.Writings.{value_size}
-use Rattle.des_columns.specs.declared.form.Form.TheVariants.{Mysql}
+use Rattle.des_columns.specs.declared.form.ValueForm.TheVariants.{Mysql}
 use Rattle.des_uses.proofs.ColumnsAgain.{mysql-again}
 use Rattle.des_uses.proofs.columns.mysql_texts_again.Goals as goal
 

@@ -4,7 +4,7 @@ use Rattle.std.specs.List.{flat_map}
 use Rattle.std.proofs.lemmas.Int.{to_z-of_z}
 use Rattle.des_columns.specs.Forms.{blocks_of}
 use Rattle.des_columns.specs.Columns.{ReadsAs, decrypted, text_as}
-use Rattle.des_columns.specs.declared.form.Form.{Form}
+use Rattle.des_columns.specs.declared.form.ValueForm.{ValueForm}
 use Rattle.des_columns.proofs.Pieces.{pieces-between}
 use Rattle.des_columns.proofs.ReadColumns.{column-end, column-next, column-none}
 use Rattle.des_columns.proofs.column.Reader.read.Goals as goal
@@ -19,7 +19,7 @@ groups-init g c = record {
 
 pub groups-preserved-then-taken-from : goal.groups-preserved-then-taken-from
 groups-preserved-then-taken-from g c =
-    let form : Form = c.args.self.now.form in
+    let form : ValueForm = c.args.self.now.form in
     let f : List ℕ → List ℕ → List ℕ = g.K.ValueKeys.decryption c.args.self.now.keys in
     let has : List ℕ → Bool = g.K.ValueKeys.has_key c.args.self.now.keys in
     let start : ℕ = c.groups.start in

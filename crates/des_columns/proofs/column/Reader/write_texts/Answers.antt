@@ -10,12 +10,12 @@ use Rattle.des_columns.specs.Forms.{blocks_of, filled_to, part_of, size_in, stat
 use Rattle.des_columns.specs.Columns.{ReadsAs, decrypted, pieces, plain_of, text_as}
 use Rattle.des_columns.specs.Readings.{IsColumnRead}
 use Rattle.des_columns.specs.declared.form.BlockMode.{BlockMode}
-use Rattle.des_columns.specs.declared.form.Form.{Form}
+use Rattle.des_columns.specs.declared.form.ValueForm.{ValueForm}
 use Rattle.des_columns.proofs.Pieces.{value-at, length-blocks, length-pieces, flat_map-at, flat_map-more, none-between}
 use Rattle.des_columns.proofs.ReadColumns.{column-next}
 use Rattle.des_columns.proofs.column.Reader.write_texts.Goals as goal
 
-module _ (form : Form) (f : List ℕ → List ℕ → List ℕ) (lengths bytes part : List ℕ) (k start size : ℕ) (below : k < length lengths)
+module _ (form : ValueForm) (f : List ℕ → List ℕ → List ℕ) (lengths bytes part : List ℕ) (k start size : ℕ) (below : k < length lengths)
     (at : start ≡ sum (take k lengths)) (is : size ≡ get_or lengths k 0) (of : part ≡ part_of form (take size (drop start bytes))) where
   -- the blocks of a value, by its place
   blocks-at : length part / 8 ≡ length (decrypted form f (get_or (pieces lengths bytes) k []))
@@ -88,7 +88,7 @@ values-init g c = record {
 
 pub values-preserved : goal.values-preserved
 values-preserved g c =
-    let form : Form = c.args.self.now.form in
+    let form : ValueForm = c.args.self.now.form in
     let f : List ℕ → List ℕ → List ℕ = g.K.ValueKeys.decryption c.args.self.now.keys in
     let has = g.K.ValueKeys.has_key c.args.self.now.keys in
     let k : ℕ = c.values.k in

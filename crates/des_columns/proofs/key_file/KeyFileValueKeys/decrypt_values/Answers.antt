@@ -9,14 +9,14 @@ use Rattle.std.specs.Simd.Lanes.{zip2}
 use Rattle.des.specs.TripleCiphers.{ede3_decryption}
 use Rattle.des_columns.specs.Forms.{blocks_of, part_of}
 use Rattle.des_columns.specs.Columns.{pieces}
-use Rattle.des_columns.specs.declared.form.Form.{Form}
+use Rattle.des_columns.specs.declared.form.ValueForm.{ValueForm}
 use Rattle.des_columns.proofs.KeysOfBlocks.{keys_of, zip2-keys}
 use Rattle.des_columns.proofs.Pieces.{flat_map-more, length-blocks, length-pieces, pieces-next}
 use Rattle.des_columns.proofs.ValuesByNumber.{key_for}
 use Rattle.des_columns.proofs.key_file.KeyFileValueKeys.decrypt_values.Goals as goal
 
 -- the next value, its blocks, and that their keys fit
-next : (form : Form) (lengths bytes rest value part : List ℕ) (k mid filled : ℕ) → k < length lengths
+next : (form : ValueForm) (lengths bytes rest value part : List ℕ) (k mid filled : ℕ) → k < length lengths
     → mid ≡ min (get_or lengths k 0) (length rest) → pieces (drop k lengths) rest ≡ drop k (pieces lengths bytes)
     → value ≡ take mid rest → part ≡ part_of form value
     → filled ≡ length (flat_map (blocks_of form) (take k (pieces lengths bytes)))
@@ -60,7 +60,7 @@ slice_bounds-keys-end g c =
 
 pub values-preserved : goal.values-preserved
 values-preserved g c =
-    let form : Form = c.args.form in
+    let form : ValueForm = c.args.form in
     let keys = c.args.self.now.keys in
     let k : ℕ = c.values.k in
     let filled : ℕ = c.values.filled in
@@ -95,7 +95,7 @@ values-preserved g c =
           ∙ sym (flat_map-more (λ value. replicate (length (blocks_of form value)) (key_for keys value)) vs 0 k (omega arith) inside);
     }
 
-module _ (form : Form) (lengths bytes : List ℕ) (blocks : List (List ℕ)) (k filled : ℕ) (all : length lengths ≤ k)
+module _ (form : ValueForm) (lengths bytes : List ℕ) (blocks : List (List ℕ)) (k filled : ℕ) (all : length lengths ≤ k)
     (are : blocks ≡ flat_map (blocks_of form) (pieces lengths bytes))
     (at : filled ≡ length (flat_map (blocks_of form) (take k (pieces lengths bytes)))) where
   whole : take k (pieces lengths bytes) ≡ pieces lengths bytes
@@ -113,7 +113,7 @@ decrypt_each-requires g c =
 
 pub returns : goal.returns
 returns g c =
-    let form : Form = c.args.form in
+    let form : ValueForm = c.args.form in
     let key : List ℕ → List ℕ = key_for c.args.self.now.keys in
     let vs : List (List ℕ) = pieces c.args.lengths.now c.args.values.now in
     let all =

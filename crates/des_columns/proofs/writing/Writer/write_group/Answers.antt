@@ -7,7 +7,7 @@ use Rattle.des_fast.specs.Records.{record_of}
 use Rattle.des_columns.specs.EncryptedBytes.{joined}
 use Rattle.des_columns.specs.Writings.{IsTextSize, IsWriting, value_size}
 use Rattle.des_columns.specs.declared.form.BlockMode.{BlockMode}
-use Rattle.des_columns.specs.declared.form.Form.{Form}
+use Rattle.des_columns.specs.declared.form.ValueForm.{ValueForm}
 use Rattle.des_columns.proofs.GatheredTexts.{length-sizes}
 use Rattle.des_columns.proofs.PaddedTexts.{head-filled}
 use Rattle.des_columns.proofs.WrittenColumns.{written-end, written-next, written-none}
@@ -51,7 +51,7 @@ slice_bounds-join_value-end g c =
 
 pub values-preserved : goal.values-preserved
 values-preserved g c =
-    let form : Form = c.args.self.now.form in
+    let form : ValueForm = c.args.self.now.form in
     let number : ℕ = c.args.self.now.number in
     let mode : BlockMode = c.args.self.now.mode in
     let k : ℕ = c.values.k in
@@ -112,7 +112,7 @@ values-preserved g c =
 
 pub returns : goal.returns
 returns g c = λ key texts made gathered.
-    let form : Form = c.args.self.now.form in
+    let form : ValueForm = c.args.self.now.form in
     let of = length-sizes form c.args.lengths.now texts c.args.sizes.now c.args.blocks.now gathered in
     written-end (value_size form) (value_size form)
     (IsWriting form c.args.self.now.number c.args.self.now.mode (g.C.Relating.relation key)) texts c.args.lengths.now
