@@ -2070,11 +2070,16 @@ function randomBytes(size) {
 
 /** The strings of texts, each from its salt. `lay` gives what the call takes before these. */
 function stringsOf(lay, salts, texts) {
+  const needed = BLOCK_SIZE * texts.length;
+  const grains = salts === undefined ? randomBytes(needed) : bytesOf(salts, "salts");
+  if (grains.length !== needed) {
+    throw new SaltLength(`salts of Jasypt have ${BLOCK_SIZE} bytes for each text, ${needed} together, not ${grains.length}`);
+  }
   const sizes = texts.map(({ length }) => Math.ceil((Math.floor(length / 8 + 2) * 8) / 3) * 4);
   const total = sizes.reduce((sum, size) => sum + size, 0);
   return inside((memory) => {
     const [at, length, lengths, count] = columnAt(memory, texts);
-    const laid = [...lay(memory), ...memory.list(salts, BLOCK_SIZE), at, length, lengths, count];
+    const laid = [...lay(memory), ...memory.list(grains, BLOCK_SIZE), at, length, lengths, count];
     const values = memory.allocate(total);
     memory.call("internal_jasypt_encrypt_values", ...laid, values, BigInt(total));
     return cut(memory, values, startsOf(sizes), sizes).map(charactersOf);
@@ -2083,19 +2088,18 @@ function stringsOf(lay, salts, texts) {
 
 export function jasyptEncryptValues(password, texts, options = {}, ...more) {
   refuseMore(more);
-  const { algorithm = JASYPT_ALGORITHM, iterations = JASYPT_ITERATIONS } = optionsOf(options, "algorithm", "iterations");
+  const named = optionsOf(options, "algorithm", "iterations", "salts");
+  const { algorithm = JASYPT_ALGORITHM, iterations = JASYPT_ITERATIONS, salts } = named;
   const lay = jasyptOf(algorithm, iterations, password);
   const column = columnOf(texts, (text) => bytesOf(text, "a text"));
-  return spread(column, stringsOf(lay, randomBytes(BLOCK_SIZE * column.values.length), column.values));
+  return spread(column, stringsOf(lay, salts, column.values));
 }
 
 export function jasyptEncrypt(password, text, options = {}, ...more) {
   refuseMore(more);
   const named = optionsOf(options, "algorithm", "iterations", "salt");
   const { algorithm = JASYPT_ALGORITHM, iterations = JASYPT_ITERATIONS, salt } = named;
-  const grains = salt === undefined ? randomBytes(BLOCK_SIZE) : bytesOf(salt, "a salt");
-  if (grains.length !== BLOCK_SIZE) throw new SaltLength(`the salt of Jasypt has ${BLOCK_SIZE} bytes, not ${grains.length}`);
-  return stringsOf(jasyptOf(algorithm, iterations, password), grains, [bytesOf(text, "a text")])[0];
+  return stringsOf(jasyptOf(algorithm, iterations, password), salt, [bytesOf(text, "a text")])[0];
 }
 
 // The lengths of key and vector together.
