@@ -2035,14 +2035,17 @@ const JASYPT = ["PBEWithMD5AndDES", "PBEWithMD5AndTripleDES", "PBEWithSHA1AndDES
 const [JASYPT_ALGORITHM] = JASYPT;
 const JASYPT_ITERATIONS = 1000;
 
-/** What calls of Jasypt take first. */
-function jasyptOf(algorithm, iterations, password) {
+/** What calls of Jasypt take first, of a password that is read when the column is. */
+function jasyptOf(algorithm, iterations) {
   if (typeof algorithm !== "string") throw new TypeError("an algorithm: a string is needed");
   if (!JASYPT.includes(algorithm)) throw faultOf(ALGORITHM);
   const count = iterationsOf(iterations);
   if (count >= TOO_MANY_ITERATIONS) throw faultOf(ITERATIONS);
-  const [name, secret] = [nameOf(algorithm, "an algorithm"), bytesOf(password, "a password")];
-  return (memory) => [...memory.list(name), count, ...memory.list(secret)];
+  const name = nameOf(algorithm, "an algorithm");
+  return (password) => {
+    const secret = bytesOf(password, "a password");
+    return (memory) => [...memory.list(name), count, ...memory.list(secret)];
+  };
 }
 
 // The sentences of strings, where those of the statuses are of other bytes too.
@@ -2055,10 +2058,10 @@ export function jasyptDecryptValues(password, values, options = {}, ...more) {
   refuseMore(more);
   const named = optionsOf(options, "algorithm", "iterations", "errors");
   const { algorithm = JASYPT_ALGORITHM, iterations = JASYPT_ITERATIONS, errors = "throw" } = named;
-  const lay = jasyptOf(algorithm, iterations, password);
+  const layBy = jasyptOf(algorithm, iterations);
   const wanted = errorsOf(errors);
   const column = columnOf(values, (value) => textOf(value, "a string of Jasypt"));
-  return readColumn("internal_jasypt_decrypt_values", lay, column, wanted, OF_A_STRING);
+  return readColumn("internal_jasypt_decrypt_values", layBy(password), column, wanted, OF_A_STRING);
 }
 
 /** Random bytes, of which the source gives at most 65,536 at a time. */
@@ -2090,16 +2093,16 @@ export function jasyptEncryptValues(password, texts, options = {}, ...more) {
   refuseMore(more);
   const named = optionsOf(options, "algorithm", "iterations", "salts");
   const { algorithm = JASYPT_ALGORITHM, iterations = JASYPT_ITERATIONS, salts } = named;
-  const lay = jasyptOf(algorithm, iterations, password);
+  const layBy = jasyptOf(algorithm, iterations);
   const column = columnOf(texts, (text) => bytesOf(text, "a text"));
-  return spread(column, stringsOf(lay, salts, column.values));
+  return spread(column, stringsOf(layBy(password), salts, column.values));
 }
 
 export function jasyptEncrypt(password, text, options = {}, ...more) {
   refuseMore(more);
   const named = optionsOf(options, "algorithm", "iterations", "salt");
   const { algorithm = JASYPT_ALGORITHM, iterations = JASYPT_ITERATIONS, salt } = named;
-  return stringsOf(jasyptOf(algorithm, iterations, password), salt, [bytesOf(text, "a text")])[0];
+  return stringsOf(jasyptOf(algorithm, iterations)(password), salt, [bytesOf(text, "a text")])[0];
 }
 
 // The lengths of key and vector together.
