@@ -2035,14 +2035,17 @@ const JASYPT = ["PBEWithMD5AndDES", "PBEWithMD5AndTripleDES", "PBEWithSHA1AndDES
 const [JASYPT_ALGORITHM] = JASYPT;
 const JASYPT_ITERATIONS = 1000;
 
-/** What calls of Jasypt take first. */
-function jasyptOf(algorithm, iterations, password) {
+/** What calls of Jasypt take first, of a password that is read when the column is. */
+function jasyptOf(algorithm, iterations) {
   if (typeof algorithm !== "string") throw new TypeError("an algorithm: a string is needed");
   if (!JASYPT.includes(algorithm)) throw faultOf(ALGORITHM);
   const count = iterationsOf(iterations);
   if (count >= TOO_MANY_ITERATIONS) throw faultOf(ITERATIONS);
-  const [name, secret] = [nameOf(algorithm, "an algorithm"), bytesOf(password, "a password")];
-  return (memory) => [...memory.list(name), count, ...memory.list(secret)];
+  const name = nameOf(algorithm, "an algorithm");
+  return (password) => {
+    const secret = bytesOf(password, "a password");
+    return (memory) => [...memory.list(name), count, ...memory.list(secret)];
+  };
 }
 
 // The sentences of strings, where those of the statuses are of other bytes too.
@@ -2055,10 +2058,10 @@ export function jasyptDecryptValues(password, values, options = {}, ...more) {
   refuseMore(more);
   const named = optionsOf(options, "algorithm", "iterations", "errors");
   const { algorithm = JASYPT_ALGORITHM, iterations = JASYPT_ITERATIONS, errors = "throw" } = named;
-  const lay = jasyptOf(algorithm, iterations, password);
+  const layBy = jasyptOf(algorithm, iterations);
   const wanted = errorsOf(errors);
   const column = columnOf(values, (value) => textOf(value, "a string of Jasypt"));
-  return readColumn("internal_jasypt_decrypt_values", lay, column, wanted, OF_A_STRING);
+  return readColumn("internal_jasypt_decrypt_values", layBy(password), column, wanted, OF_A_STRING);
 }
 
 /** Random bytes, of which the source gives at most 65,536 at a time. */
@@ -2070,11 +2073,16 @@ function randomBytes(size) {
 
 /** The strings of texts, each from its salt. `lay` gives what the call takes before these. */
 function stringsOf(lay, salts, texts) {
+  const needed = BLOCK_SIZE * texts.length;
+  const grains = salts === undefined ? randomBytes(needed) : bytesOf(salts, "salts");
+  if (grains.length !== needed) {
+    throw new SaltLength(`salts of Jasypt have ${BLOCK_SIZE} bytes for each text, ${needed} together, not ${grains.length}`);
+  }
   const sizes = texts.map(({ length }) => Math.ceil((Math.floor(length / 8 + 2) * 8) / 3) * 4);
   const total = sizes.reduce((sum, size) => sum + size, 0);
   return inside((memory) => {
     const [at, length, lengths, count] = columnAt(memory, texts);
-    const laid = [...lay(memory), ...memory.list(salts, BLOCK_SIZE), at, length, lengths, count];
+    const laid = [...lay(memory), ...memory.list(grains, BLOCK_SIZE), at, length, lengths, count];
     const values = memory.allocate(total);
     memory.call("internal_jasypt_encrypt_values", ...laid, values, BigInt(total));
     return cut(memory, values, startsOf(sizes), sizes).map(charactersOf);
@@ -2083,19 +2091,18 @@ function stringsOf(lay, salts, texts) {
 
 export function jasyptEncryptValues(password, texts, options = {}, ...more) {
   refuseMore(more);
-  const { algorithm = JASYPT_ALGORITHM, iterations = JASYPT_ITERATIONS } = optionsOf(options, "algorithm", "iterations");
-  const lay = jasyptOf(algorithm, iterations, password);
+  const named = optionsOf(options, "algorithm", "iterations", "salts");
+  const { algorithm = JASYPT_ALGORITHM, iterations = JASYPT_ITERATIONS, salts } = named;
+  const layBy = jasyptOf(algorithm, iterations);
   const column = columnOf(texts, (text) => bytesOf(text, "a text"));
-  return spread(column, stringsOf(lay, randomBytes(BLOCK_SIZE * column.values.length), column.values));
+  return spread(column, stringsOf(layBy(password), salts, column.values));
 }
 
 export function jasyptEncrypt(password, text, options = {}, ...more) {
   refuseMore(more);
   const named = optionsOf(options, "algorithm", "iterations", "salt");
   const { algorithm = JASYPT_ALGORITHM, iterations = JASYPT_ITERATIONS, salt } = named;
-  const grains = salt === undefined ? randomBytes(BLOCK_SIZE) : bytesOf(salt, "a salt");
-  if (grains.length !== BLOCK_SIZE) throw new SaltLength(`the salt of Jasypt has ${BLOCK_SIZE} bytes, not ${grains.length}`);
-  return stringsOf(jasyptOf(algorithm, iterations, password), grains, [bytesOf(text, "a text")])[0];
+  return stringsOf(jasyptOf(algorithm, iterations)(password), salt, [bytesOf(text, "a text")])[0];
 }
 
 // The lengths of key and vector together.

@@ -4,7 +4,8 @@
  * goes by tables, and `rest`, a list whose rest does, `cbc` and `message`, of contexts with tables, which all read them so; `pin`, which
  * branches on whether all characters of a PIN are digits; `translation`, on whether a PIN block is right; `block`, on whether a MAC is;
  * `key`, where it is right, on the length of the key too; `unwrapped`, on whether a key was wrapped; `file`, on the padding of what is
- * opened under a password; `verification`, on whether a PIN is right; and `planted`, a lookup here.
+ * opened under a password; `strings`, where each character of an encrypted string is looked up; `verification`, on whether a PIN is
+ * right; and `planted`, a lookup here.
  */
 #include "mac_calls.h"
 #include <valgrind/memcheck.h>
@@ -328,6 +329,24 @@ static void padded_columns(void) {
   CHECK(cukvashe_mysql_encrypt_values(key, sizeof key, 9, texts, length, lengths, TEXTS, values, mysql) == CUKVASHE_OK);
   CHECK(cukvashe_pgcrypto_encrypt_values("3des", 4, key, sizeof key, iv, sizeof iv, texts, length, lengths, TEXTS, values, pgcrypto) ==
         CUKVASHE_OK);
+}
+
+/* Strings of Jasypt of hidden texts under a hidden password: reported is where a character is looked up by what is encrypted, as 67 of these
+   are, and nothing else. The salt is no secret. */
+static void written_strings(void) {
+  static const char *const algorithms[] = {"PBEWithMD5AndDES", "PBEWithMD5AndTripleDES"};
+  static const size_t lengths[] = {13, 0, 17};
+  static const uint8_t salts[3 * 8] = {1, 2, 3, 4, 5, 6, 7, 8, 9};
+  uint8_t values[32 + 24 + 44];
+  for (size_t i = 0; i < sizeof algorithms / sizeof *algorithms; i++) {
+    hide(key, sizeof key);
+    hide(data, 13 + 17);
+    const unsigned before = VALGRIND_COUNT_ERRORS;
+    CHECK(cukvashe_jasypt_encrypt_values(algorithms[i], strlen(algorithms[i]), 2, key, sizeof key, salts, sizeof salts, data, 13 + 17, lengths,
+                                         3, values, sizeof values) == CUKVASHE_OK);
+    CHECK(VALGRIND_COUNT_ERRORS == before + 67);
+  }
+  printf("one report of each character\n");
 }
 
 /* A key in a key block, under a hidden protection key. The block is no secret. */
@@ -697,6 +716,8 @@ int main(int count, char **words) {
     unwrapped_keys();
   } else if (strcmp(words[1], "file") == 0) {
     opened_file();
+  } else if (strcmp(words[1], "strings") == 0) {
+    written_strings();
   } else if (strcmp(words[1], "verification") == 0) {
     verifications();
   } else {

@@ -276,25 +276,34 @@ def jasypt_decrypt_values(
         return taken.told(*_read(_jasypt_decrypt_values, (*name, count, *secret), taken.values, _OF_A_STRING), wanted)
 
 
-def _strings(password: ReadableBuffer, texts: List[bytes], salts: bytes, algorithm: str, iterations: int) -> List[str]:
+def _strings(password: ReadableBuffer, texts: List[bytes], salts: Optional[ReadableBuffer], algorithm: str, iterations: int) -> List[str]:
     """The strings of texts, each from its salt."""
     name, count, joined, lengths = _of_jasypt(algorithm), iterations_of(iterations), b"".join(texts), array("Q", map(len, texts))
+    total = BLOCK_SIZE * len(texts)
+    grains = secrets.token_bytes(total) if salts is None else bytes_of(salts)
+    if len(grains) != total:
+        raise SaltLengthError(f"salts of Jasypt have {BLOCK_SIZE} bytes for each text, {total} together, not {len(grains)}")
     sizes = [((length // BLOCK_SIZE + 2) * BLOCK_SIZE + 2) // 3 * 4 for length in lengths]
     values = buffer_of(sum(sizes))
     with secret_of(password) as secret:
-        laid = (salts, len(salts), joined, len(joined), _pointer(lengths), len(texts))
+        laid = (grains, len(grains), joined, len(joined), _pointer(lengths), len(texts))
         check(_jasypt_encrypt_values(*name, count, *secret, *laid, values, len(values)))
     made, ends = str(bytes(values), "ascii"), accumulate(sizes)
     return [made[end - size : end] for end, size in zip(ends, sizes)]
 
 
 def jasypt_encrypt_values(
-    password: ReadableBuffer, texts: Column, *, algorithm: str = "PBEWithMD5AndDES", iterations: int = 1000
+    password: ReadableBuffer,
+    texts: Column,
+    *,
+    algorithm: str = "PBEWithMD5AndDES",
+    iterations: int = 1000,
+    salts: Optional[ReadableBuffer] = None,
 ) -> List[Optional[str]]:
-    """The strings that Jasypt makes of a column of texts, without ENC(..) around, each from a random salt. Nothing authenticates them.
-    Algorithms and errors as of `jasypt_decrypt_values`."""
+    """The strings that Jasypt makes of a column of texts, without ENC(..) around. The salts, 8 bytes for each text and none for None, are
+    random, or the ones that are given. Nothing authenticates the texts. Algorithms and errors as of `jasypt_decrypt_values`;
+    SaltLengthError."""
     taken = _taken(texts)
-    salts = secrets.token_bytes(BLOCK_SIZE * len(taken.values))
     return taken.spread([*_strings(password, taken.values, salts, algorithm, iterations)])
 
 
@@ -308,10 +317,7 @@ def jasypt_encrypt(
 ) -> str:
     """The string that Jasypt makes of a text, without ENC(..) around. The salt, of 8 bytes, is random, or the one that is given.
     Algorithms and errors as of `jasypt_decrypt_values`; SaltLengthError."""
-    grains = secrets.token_bytes(BLOCK_SIZE) if salt is None else bytes_of(salt)
-    if len(grains) != BLOCK_SIZE:
-        raise SaltLengthError(f"the salt of Jasypt has {BLOCK_SIZE} bytes, not {len(grains)}")
-    return _strings(password, [bytes_of(text)], grains, algorithm, iterations)[0]
+    return _strings(password, [bytes_of(text)], salt, algorithm, iterations)[0]
 
 
 def pbe_key(algorithm: str, password: ReadableBuffer, salt: ReadableBuffer, iterations: int, length: int) -> bytes:

@@ -121,6 +121,8 @@ class Known(unittest.TestCase):
             for length in range(40):
                 made = jasypt_encrypt(b"secret", bytes(length), algorithm=algorithm, iterations=3)
                 self.assertEqual(jasypt_decrypt_values(b"secret", [made], algorithm=algorithm, iterations=3), [bytes(length)])
+            made = jasypt_encrypt_values(b"secret", [SETTING, None, SETTING], algorithm=algorithm, salts=2 * salt_of(string))
+            self.assertEqual(made, [string, None, string])
             texts = [SETTING, None, b"", *map(bytes, range(40)), SETTING]
             strings = jasypt_encrypt_values(b"secret", texts, algorithm=algorithm, iterations=3)
             self.assertEqual(jasypt_decrypt_values(b"secret", strings, algorithm=algorithm, iterations=3), texts)
@@ -207,6 +209,7 @@ class Faults(unittest.TestCase):
             (lambda: jasypt_encrypt(b"k", b"", iterations=2**32), IterationCountError),
             (lambda: jasypt_encrypt_values(b"k", [], algorithm="PBEWithSHA1AndDES"), AlgorithmNameError),
             (lambda: jasypt_encrypt_values(b"k", [], iterations=0), IterationCountError),
+            (lambda: jasypt_encrypt_values(b"k", [b"", None], salts=bytes(16)), SaltLengthError),
             (lambda: jasypt_encrypt(b"k", b"", salt=b"1234567"), SaltLengthError),
             (lambda: jasypt_decrypt_values(b"k", [], algorithm="PBEWithSHA1AndDES"), AlgorithmNameError),
             (lambda: pbe_key("PBEWithMD5AndTripleDES", b"k", b"123456789", 1, 32), SaltLengthError),

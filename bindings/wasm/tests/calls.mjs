@@ -37,7 +37,7 @@ const others = () => [
   ["mysqlDecryptValues", [SECRET, [MESSAGE, null], { errors: "null" }]],
   ["pgcryptoDecryptValues", ["3des", KEY, [MESSAGE], { iv: IV, errors: "null" }]],
   ["jasyptDecryptValues", [SECRET, ["XFI3GkOHuvaUreHPZLAFn+zx81+pE+jN"], { errors: "null" }]],
-  ["jasyptEncryptValues", [SECRET, [MESSAGE, null], { iterations: 2 }]],
+  ["jasyptEncryptValues", [SECRET, [MESSAGE, null], { iterations: 2, salts: IV }]],
   ["jasyptEncrypt", [SECRET, MESSAGE, { salt: IV }]],
   ["pbeKey", ["PBEWithMD5AndDES", SECRET, IV, 2, 16]],
 ];

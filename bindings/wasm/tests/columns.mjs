@@ -66,6 +66,8 @@ for (const [algorithm, made] of [
     assert.notEqual(one, library.jasyptEncrypt(password, bytes(text), { algorithm, iterations: 3 }));
     reads(library.jasyptDecryptValues(password, [one], { algorithm, iterations: 3 }), [text]);
   }
+  const both = library.jasyptEncryptValues(password, [bytes(setting), null, bytes(setting)], { algorithm, salts: Buffer.concat([salt, salt]) });
+  assert.deepEqual(both, [made, null, made]);
   // More salts than the source of random bytes gives at a time.
   const lines = Array.from({ length: 9000 }, (_, length) => "a".repeat(length % 40));
   const written = library.jasyptEncryptValues(password, [null, ...lines.map(bytes)], { algorithm, iterations: 1 });
@@ -125,6 +127,7 @@ for (const [run, name] of [
   [() => library.jasyptDecryptValues(password, [], { iterations: 2 ** 32 }), "IterationCount"],
   [() => library.jasyptEncryptValues(password, [], { algorithm: "PBEWithSHA1AndDES" }), "AlgorithmName"],
   [() => library.jasyptEncryptValues(password, [], { iterations: 0 }), "IterationCount"],
+  [() => library.jasyptEncryptValues(password, [bytes(""), null], { salts: new Uint8Array(16) }), "SaltLength"],
   [() => library.jasyptEncrypt(password, bytes(""), { salt: unhex("00") }), "SaltLength"],
   [() => library.pbeKey("PBEWithMD5AndTripleDES", password, unhex("00"), 1, 32), "SaltLength"],
   [() => library.pbeKey("PBEWithMD5AndDES", password, unhex("0102030405060708"), 1, 24), "KeyLength"],

@@ -348,7 +348,7 @@ for (const [call, right, ...names] of [
   [(options) => library.pgcryptoDecryptValues("3des", KEY, VALUES, options), { iv: IV, errors: "null" }, "iv", "errors"],
   [(options) => library.jasyptDecryptValues(SECRET, VALUES, options), { iterations: 2, errors: "null" },
     "algorithm", "iterations", "errors"],
-  [(options) => library.jasyptEncryptValues(SECRET, VALUES, options), { iterations: 2 }, "algorithm", "iterations"],
+  [(options) => library.jasyptEncryptValues(SECRET, VALUES, options), { iterations: 2, salts: IV }, "algorithm", "iterations", "salts"],
   [(options) => library.jasyptEncrypt(SECRET, MESSAGE, options), { iterations: 2, salt: IV }, "algorithm", "iterations", "salt"],
 ]) {
   const listed = names.map((name) => `"${name}"`).join(", ").replace(/, ([^,]*)$/, " and $1");

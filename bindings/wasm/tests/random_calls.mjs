@@ -338,6 +338,13 @@ function jasyptColumn() {
   return ["jasyptDecryptValues", Uint8Array.from(by), times(random(6), () => one([string(), string(), string(), null])), options];
 }
 
+function jasyptTexts() {
+  const [texts, by] = [column(() => bytes(random(30))), Uint8Array.from(Buffer.from(digits(0, 12)))];
+  const size = 8 * texts.filter((text) => text !== null).length;
+  const [[algorithm], salts] = [entry(ALGORITHMS), bytes(often(() => size, () => random(40)))];
+  return ["jasyptEncryptValues", by, texts, { algorithm, iterations: iterations(), salts }];
+}
+
 function pbeKey() {
   const [algorithm, size] = entry({ ...ALGORITHMS, PBEWithSHA1AndDES: 16, "pbeWithSHAAnd2-KeyTripleDES-CBC": 24 });
   const by = Uint8Array.from(Buffer.from(digits(0, 20)));
@@ -350,7 +357,7 @@ const OF_A_KEY = Object.keys(library).filter((name) => /^function \w+\(key, \.\.
 
 const KINDS = [
   ...[keyBlock, wrapKeyBlock, openSalted],
-  ...[mysqlColumn, pgcryptoColumn, jasyptColumn, pbeKey],
+  ...[mysqlColumn, pgcryptoColumn, jasyptColumn, jasyptTexts, pbeKey],
   () => ["pbkdf2", hashName(), bytes(random(70)), bytes(random(40)), iterations(), often(() => 1 + random(70), () => 0)],
   () => ["bytesToKey", often(() => one(["md5", "sha1", "sha256"]), () => "md4"), bytes(random(70)), salt(), 1 + random(70)],
   ...[translate, pvvVerify, offsetVerify],
