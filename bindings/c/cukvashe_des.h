@@ -366,7 +366,7 @@ CUKVASHE_CHECK int cukvashe_tdes_ede3_decrypt_cbc_to(const cukvashe_tdes_ede3 *c
  *
  * Never use a vector or a counter block twice under a key: two texts then reveal their xor. In CTR begin the next text
  * after the last counter block of this one. These modes authenticate nothing: an attacker who knows a text can change
- * the ciphertext so that it decrypts to any other.
+ * the ciphertext so that it decrypts to any other; in CFB, so that a segment of it does.
  *
  * int cukvashe_NAME_encrypt_mode(const cukvashe_NAME *context, int mode, const uint8_t iv[8], uint8_t *data,
  *                                size_t length)

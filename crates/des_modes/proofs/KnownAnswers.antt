@@ -18,7 +18,12 @@ use Rattle.des_modes.specs.Ctr.{counter_block}
 use Rattle.des_modes.specs.Ofb.{Ofb, output_block}
 use Rattle.des_modes.specs.Streams.{Xors}
 use Rattle.des_modes.specs.Tkw.{tkw}
+use Rattle.des_modes.specs.declared.modes.TheConstants.{CTR, OFB, CFB1}
 use Rattle.des_modes.proofs.Pieces.{Xors-none, Xors-single, Xors-other, Xors-append}
+
+-- the numbers of the modes, which callers in other languages have as literals
+numbers : (CTR ≡ 31) × (OFB ≡ 32) × (CFB1 ≡ 40)
+numbers = (refl, refl, refl)
 
 -- elements under the xor with a key stream from element n on
 abbrev xored : {A : Type 0} → (A → A → A) → (ℕ → A) → ℕ → List A → List A

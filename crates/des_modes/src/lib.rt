@@ -2,8 +2,9 @@
 //! 81; NIST SP 800-38A), and the key wraps of triple DES (RFC 3217; NIST SP 800-38F, 7).
 //!
 //! CFB, OFB and CTR hide a text only if no initialization vector or counter block is used twice under a
-//! key. They authenticate nothing: whoever knows a text can change its ciphertext into that of any
-//! other text of the same length.
+//! key. They authenticate nothing: in CTR and OFB, whoever knows a text can change its ciphertext
+//! into that of any other of its length; in CFB, any bits of a segment, and what follows within eight
+//! bytes becomes garbage.
 #![tactic(auto)]
 
 pub mod by_key;

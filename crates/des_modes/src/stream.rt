@@ -20,7 +20,7 @@ use crate::ofb::Feedback;
 use crate::parts::apply_parts;
 use des::cipher::{BlockCipherEncrypt, are_bytes};
 
-/// What a stream that has begun ends with.
+/// The last word of a stream that has begun.
 pub const MARK: u32 = 0x57e4a317;
 
 /// Where a stream goes on: the counter block, the last output block or the shift register; the output
@@ -114,8 +114,8 @@ impl Place {
     }
 }
 
-/// A stream as plain words: its place, the number of its mode, and a mark. Words that no call of this
-/// type made are refused, if they have no mark or can't be those of a stream.
+/// A stream as plain words: its place, the number of its mode, and a mark. `mode` gives `None` for
+/// words that have no mark or can't be those of a stream.
 #[repr(C)]
 #[derive(Clone, Copy)]
 pub struct Stream {
@@ -141,8 +141,8 @@ impl Stream {
         })
     }
 
-    /// The place in the stream of the counter mode whose first counter block is `block` that has
-    /// `blocks` blocks behind it: to decrypt a part, no other bytes are needed.
+    /// The place `blocks` blocks after the beginning of the counter mode's stream whose first counter
+    /// block is `block`. To decrypt a part, no other bytes are needed.
     pub fn ctr_at(block: &[u8; 8], blocks: u64) -> Stream
         ensures begun { HasBegun result }
         ensures place { (encryption : List ℕ → List ℕ) (p c : List ℕ) → length p ≡ 8 * blocks
@@ -158,8 +158,8 @@ impl Stream {
         }
     }
 
-    /// The place in a stream of cipher feedback before a segment of `segment` bytes: `before` is the eight
-    /// bytes of ciphertext before it, or at the beginning the initialization vector. To decrypt a part, no
+    /// The place in a stream of cipher feedback before a segment of `segment` bytes: `before` is the
+    /// last eight bytes of the initialization vector and the ciphertext before it. To decrypt a part, no
     /// others are needed.
     pub fn cfb_at(before: &[u8; 8], segment: usize) -> Stream
         requires some { 1 ≤ segment }
@@ -201,24 +201,24 @@ impl Stream {
         self.mode
     }
 
-    /// The feedback register: the counter block, the last output block, or the last eight bytes of the
-    /// initialization vector and the ciphertext.
+    /// The feedback register: the counter block, the last output block, or the last 64 bits of the
+    /// initialization vector and the ciphertext. In OFB it holds key stream, which is a secret.
     pub fn register(&self) -> [u8; 8]
         ensures { result ≡ self.now.place.register }
     {
         self.place.register
     }
 
-    /// How many bytes of the output block that goes next are used.
+    /// How many bytes of the current output block are used; 0 if the next byte takes a new one.
     pub fn used(&self) -> usize
         ensures { result ≡ self.now.place.used }
     {
         self.place.used
     }
 
-    /// Encrypts or decrypts the bytes that come next in place, in the mode of the stream: any number of
-    /// them. In pieces, wherever they are cut, they become what they become as one. A ciphertext has one
-    /// plaintext, so that decryption undoes encryption.
+    /// Encrypts or decrypts the bytes that come next in place, in the mode of the stream, which
+    /// `mode` gave: any number of them. Pieces become what the whole becomes, wherever it is cut. A
+    /// ciphertext has one plaintext, so that decryption undoes encryption.
     pub fn apply<C: BlockCipherEncrypt>(
         &mut self,
         direction: Direction,
@@ -249,8 +249,8 @@ impl Stream {
         are_bytes(bytes);
     }
 
-    /// Encrypts or decrypts the first `bits` bits in place, which come next in a stream of CFB1: any
-    /// number of them. The others stay.
+    /// Encrypts or decrypts the first `bits` bits in place, which come next in a stream of CFB1. The
+    /// others stay.
     pub fn apply_bits<C: BlockCipherEncrypt>(
         &mut self,
         direction: Direction,

@@ -8,7 +8,7 @@ ghost use Rattle.des_columns.specs.MysqlColumns.{Reads as ReadsMysql, ReadsByNum
 ghost use Rattle.des_columns.specs.PgcryptoColumns.{Reads as ReadsPgcrypto, scheme_of, Writes as WritesPgcrypto};
 ghost use Rattle.des_columns.specs.Readings.{IsColumnRead};
 ghost use Rattle.des_columns.specs.Writings.{IsColumnWritten, value_size};
-ghost use Rattle.des_columns.specs.declared.form.Form.TheVariants.{Mysql};
+ghost use Rattle.des_columns.specs.declared.form.ValueForm.TheVariants.{Mysql};
 ghost use Rattle.des_columns.specs.declared.pgcrypto.Scheme.{Scheme};
 ghost use Rattle.des_context.specs.ColumnStatuses.{IsKeyNumber, IsReadStatus, IsWriteStatus};
 
