@@ -71,7 +71,7 @@
  *     27,000   _ecb, _ecb_to, _cbc, _cbc_to, _each, _check_values, _open_salted, key_block_
  *     32,000   _mode, _stream, _stream_bits
  *     45,000   _macs, _macs_each, _values, _values_by_file, dukpt_transaction_keys_from_base
- *     66,000   _cbc_records
+ *     66,000   _cbc_records, mysql_encrypt_values, pgcrypto_encrypt_values
  *
  * WHAT IS PROVED
  *
@@ -366,7 +366,7 @@ CUKVASHE_CHECK int cukvashe_tdes_ede3_decrypt_cbc_to(const cukvashe_tdes_ede3 *c
  *
  * Never use a vector or a counter block twice under a key: two texts then reveal their xor. In CTR begin the next text
  * after the last counter block of this one. These modes authenticate nothing: an attacker who knows a text can change
- * the ciphertext so that it decrypts to any other.
+ * the ciphertext so that it decrypts to any other; in CFB, so that a segment of it does.
  *
  * int cukvashe_NAME_encrypt_mode(const cukvashe_NAME *context, int mode, const uint8_t iv[8], uint8_t *data,
  *                                size_t length)
@@ -1296,6 +1296,19 @@ CUKVASHE_CHECK int cukvashe_jasypt_decrypt_values(const char *algorithm, size_t 
                                                   const uint8_t *values, size_t length, const size_t *lengths,
                                                   size_t values_count, uint8_t *texts, size_t *text_lengths,
                                                   int *statuses);
+
+/*
+ * Writes strings of Jasypt, without ENC( and ) around, by an algorithm, iterations and a password as of
+ * jasypt_decrypt_values: text k from the k-th of `salts`, of 8 bytes each, which are to be random. A text of n bytes has a
+ * value of ((n / 8 + 2) * 8 + 2) / 3 * 4. Errors: CUKVASHE_ERR_COUNTS if `salts_length` is not that of `texts_count` salts;
+ * then _ALGORITHM, _ITERATIONS; _COUNTS if the sum of the lengths is not `length`, or that of the values' lengths not
+ * `values_length`.
+ */
+CUKVASHE_CHECK int cukvashe_jasypt_encrypt_values(const char *algorithm, size_t algorithm_length, size_t iterations,
+                                                  const uint8_t *password, size_t password_length,
+                                                  const uint8_t *salts, size_t salts_length, const uint8_t *texts,
+                                                  size_t length, const size_t *lengths, size_t texts_count,
+                                                  uint8_t *values, size_t values_length);
 
 /*
  * NUMBERS WITHOUT A C COMPILER

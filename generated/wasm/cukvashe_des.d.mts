@@ -671,6 +671,14 @@ export function jasyptDecryptValues(
   password: Uint8Array, values: Iterable<Row<string | Uint8Array>>,
   options?: { algorithm?: JasyptAlgorithm; iterations?: number; errors?: Errors },
 ): (Uint8Array | null)[];
+/**
+ * The strings of texts, without ENC(..) around. The salts, 8 bytes for each text and none for null, are random, or the ones
+ * that are given. SaltLength; AlgorithmName, IterationCount.
+ */
+export function jasyptEncryptValues(
+  password: Uint8Array, texts: Iterable<Row>,
+  options?: { algorithm?: JasyptAlgorithm; iterations?: number; salts?: Uint8Array },
+): (string | null)[];
 /** The string of a text, without ENC(..) around, from a random salt, or one of 8 bytes. SaltLength; as jasyptDecryptValues. */
 export function jasyptEncrypt(
   password: Uint8Array, text: Uint8Array,

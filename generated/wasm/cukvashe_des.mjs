@@ -21,8 +21,8 @@ export const BLOCK_SIZE = 8;
 export const TAG_SIZE = 8;
 
 // The SHA-256 of the modules that this file was built with: the one of a 64-bit memory, and the same of a 32-bit memory.
-const MODULE_SUM = "11d19470f62a9b0b583b9024fcf7edb9afbe03e245393ad1586e436ee0c40e89";
-const NARROW_SUM = "8743d0e87066974526e37e64ecd1238b69613382fa7d6de01a8af24087e71a5a";
+const MODULE_SUM = "a68433480130cd64866f3c0411d4b878f230dac60210c0e615b05503ad0f8a66";
+const NARROW_SUM = "6a1af9beb241b37608ec44b01e0bfedb9b8697d4e453cf07c75a81f848eba07a";
 
 // The bytes of the module's stack, which lies at its address 0. `build` links it so.
 const STACK_SIZE = 131072;
@@ -2030,30 +2030,22 @@ export function pgcryptoDecryptValues(cipher, key, values, options = {}, ...more
   return readColumn("internal_pgcrypto_decrypt_values", pgcryptoOf(cipher, key, iv), column, wanted);
 }
 
-// The algorithms of Jasypt, the first of which it takes if it is told nothing, before version 3, each with the class of its cipher.
-const JASYPT = new Map([["PBEWithMD5AndDES", Des], ["PBEWithMD5AndTripleDES", TdesEde3], ["PBEWithSHA1AndDESede", TdesEde3]]);
-const [[JASYPT_ALGORITHM]] = JASYPT;
+// The algorithms of Jasypt, the first of which it takes if it is told nothing, before version 3.
+const JASYPT = ["PBEWithMD5AndDES", "PBEWithMD5AndTripleDES", "PBEWithSHA1AndDESede"];
+const [JASYPT_ALGORITHM] = JASYPT;
 const JASYPT_ITERATIONS = 1000;
 
-/** The class of the cipher of an algorithm of Jasypt. */
-function jasyptOf(algorithm) {
+/** What calls of Jasypt take first, of a password that is read when the column is. */
+function jasyptOf(algorithm, iterations) {
   if (typeof algorithm !== "string") throw new TypeError("an algorithm: a string is needed");
-  if (!JASYPT.has(algorithm)) throw faultOf(ALGORITHM);
-  return JASYPT.get(algorithm);
-}
-
-/** What a function makes by the cipher of an algorithm under a password, and the vector, which are wiped after it. */
-function byPassword(algorithm, password, salt, iterations, use) {
-  const Class = jasyptOf(algorithm);
-  const { keySize } = kinds.get(Class);
-  const made = pbeKey(algorithm, password, salt, iterations, keySize + BLOCK_SIZE);
-  const cipher = new Class(made.subarray(0, keySize));
-  try {
-    return use(cipher, { iv: made.subarray(keySize) });
-  } finally {
-    cipher.close();
-    made.fill(0);
-  }
+  if (!JASYPT.includes(algorithm)) throw faultOf(ALGORITHM);
+  const count = iterationsOf(iterations);
+  if (count >= TOO_MANY_ITERATIONS) throw faultOf(ITERATIONS);
+  const name = nameOf(algorithm, "an algorithm");
+  return (password) => {
+    const secret = bytesOf(password, "a password");
+    return (memory) => [...memory.list(name), count, ...memory.list(secret)];
+  };
 }
 
 // The sentences of strings, where those of the statuses are of other bytes too.
@@ -2066,25 +2058,51 @@ export function jasyptDecryptValues(password, values, options = {}, ...more) {
   refuseMore(more);
   const named = optionsOf(options, "algorithm", "iterations", "errors");
   const { algorithm = JASYPT_ALGORITHM, iterations = JASYPT_ITERATIONS, errors = "throw" } = named;
-  jasyptOf(algorithm);
-  const count = iterationsOf(iterations);
-  if (count >= TOO_MANY_ITERATIONS) throw faultOf(ITERATIONS);
+  const layBy = jasyptOf(algorithm, iterations);
   const wanted = errorsOf(errors);
   const column = columnOf(values, (value) => textOf(value, "a string of Jasypt"));
-  const secret = bytesOf(password, "a password");
-  const lay = (memory) => [...memory.list(nameOf(algorithm, "an algorithm")), count, ...memory.list(secret)];
-  return readColumn("internal_jasypt_decrypt_values", lay, column, wanted, OF_A_STRING);
+  return readColumn("internal_jasypt_decrypt_values", layBy(password), column, wanted, OF_A_STRING);
+}
+
+/** Random bytes, of which the source gives at most 65,536 at a time. */
+function randomBytes(size) {
+  const bytes = new Uint8Array(size);
+  for (let at = 0; at < size; at += 65536) crypto.getRandomValues(bytes.subarray(at, at + 65536));
+  return bytes;
+}
+
+/** The strings of texts, each from its salt. `lay` gives what the call takes before these. */
+function stringsOf(lay, salts, texts) {
+  const needed = BLOCK_SIZE * texts.length;
+  const grains = salts === undefined ? randomBytes(needed) : bytesOf(salts, "salts");
+  if (grains.length !== needed) {
+    throw new SaltLength(`salts of Jasypt have ${BLOCK_SIZE} bytes for each text, ${needed} together, not ${grains.length}`);
+  }
+  const sizes = texts.map(({ length }) => Math.ceil((Math.floor(length / 8 + 2) * 8) / 3) * 4);
+  const total = sizes.reduce((sum, size) => sum + size, 0);
+  return inside((memory) => {
+    const [at, length, lengths, count] = columnAt(memory, texts);
+    const laid = [...lay(memory), ...memory.list(grains, BLOCK_SIZE), at, length, lengths, count];
+    const values = memory.allocate(total);
+    memory.call("internal_jasypt_encrypt_values", ...laid, values, BigInt(total));
+    return cut(memory, values, startsOf(sizes), sizes).map(charactersOf);
+  });
+}
+
+export function jasyptEncryptValues(password, texts, options = {}, ...more) {
+  refuseMore(more);
+  const named = optionsOf(options, "algorithm", "iterations", "salts");
+  const { algorithm = JASYPT_ALGORITHM, iterations = JASYPT_ITERATIONS, salts } = named;
+  const layBy = jasyptOf(algorithm, iterations);
+  const column = columnOf(texts, (text) => bytesOf(text, "a text"));
+  return spread(column, stringsOf(layBy(password), salts, column.values));
 }
 
 export function jasyptEncrypt(password, text, options = {}, ...more) {
   refuseMore(more);
   const named = optionsOf(options, "algorithm", "iterations", "salt");
   const { algorithm = JASYPT_ALGORITHM, iterations = JASYPT_ITERATIONS, salt } = named;
-  const grains = salt === undefined ? crypto.getRandomValues(new Uint8Array(BLOCK_SIZE)) : bytesOf(salt, "a salt");
-  if (grains.length !== BLOCK_SIZE) throw new SaltLength(`the salt of Jasypt has ${BLOCK_SIZE} bytes, not ${grains.length}`);
-  const data = pad(text, "pkcs7");
-  const made = byPassword(algorithm, password, grains, iterations, (cipher, vector) => cipher.encryptCbc(data, vector));
-  return btoa(charactersOf(grains) + charactersOf(made));
+  return stringsOf(jasyptOf(algorithm, iterations)(password), salt, [bytesOf(text, "a text")])[0];
 }
 
 // The lengths of key and vector together.
