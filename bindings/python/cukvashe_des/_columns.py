@@ -279,6 +279,8 @@ def jasypt_decrypt_values(
 def _strings(password: ReadableBuffer, texts: List[bytes], salts: Optional[ReadableBuffer], algorithm: str, iterations: int) -> List[str]:
     """The strings of texts, each from its salt."""
     name, count, joined, lengths = _of_jasypt(algorithm), iterations_of(iterations), b"".join(texts), array("Q", map(len, texts))
+    if count == TOO_MANY:
+        raise fault_of(ITERATIONS)
     total = BLOCK_SIZE * len(texts)
     grains = secrets.token_bytes(total) if salts is None else bytes_of(salts)
     if len(grains) != total:
