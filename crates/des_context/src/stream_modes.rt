@@ -210,14 +210,9 @@ pub fn apply_mode<S: Slice>(
         (plaintext direction bytes.old bytes.new) (ciphertext direction bytes.old bytes.new) }
     ensures kept { result ≢ OK → bytes.new ≡ bytes.old }
 {
-    if opened(NO_MAC, context).is_none() {
-        return ERR_CONTEXT;
-    }
     match Stream::new(mode, iv) {
-        Some(mut stream) => {
-            apply_stream::<S>(direction, context, &mut stream, bytes);
-            OK
-        }
+        Some(mut stream) => apply_stream::<S>(direction, context, &mut stream, bytes),
+        None if opened(NO_MAC, context).is_none() => ERR_CONTEXT,
         None => ERR_MODE,
     }
 }

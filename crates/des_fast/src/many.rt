@@ -97,6 +97,10 @@ pub trait ManyBlocks: Relating {
         ensures processed { (key : List ℕ) → Self.is_made_from self.now key
             → IsTheOne (λ answers. AnswersEach (Self.relation key) answers blocks.old) blocks.new };
 
+    /// Encrypts one block of 8 bytes in place, as `encrypt_block` does.
+    fn encrypt_one(&self, no_tables: bool, block: &mut [u8; 8])
+        ensures { block.new ≡ Self.encrypted self.now block.old };
+
     /// Encrypts in place a list of blocks of 8 bytes by CBC (FIPS 81, cipher block chaining mode),
     /// chained from the initialization vector, as `des::cbc::encrypt` does, block after block:
     /// plaintext goes in, and the ciphertext comes out, as many blocks. Padding and authentication

@@ -93,6 +93,16 @@ fn shift(register: &mut [u8; 8], bytes: &[u8])
     requires { length bytes.now ≤ 8 }
     ensures { register.new ≡ drop (length bytes.now) (register.old ++ bytes.now) }
 {
+    // The two lengths that most streams have take no loop.
+    if let Some(block) = bytes.as_array::<8>() {
+        *register = *block;
+        return;
+    }
+    if let [byte] = bytes {
+        let [_, b, c, d, e, f, g, h] = *register;
+        *register = [b, c, d, e, f, g, h, *byte];
+        return;
+    }
     let count = bytes.len();
     register.copy_within(count.., 0);
     register[8 - count..].copy_from_slice(bytes);
@@ -235,7 +245,9 @@ impl<C: BlockCipherEncrypt> TakesParts<C> for Register {
 
     fn apply_part(&mut self, direction: Direction, cipher: &C, bytes: &mut [u8]) {
         match direction {
-            Direction::Decrypt if self.used == 0 => self.decrypt_segments(cipher, bytes),
+            Direction::Decrypt if self.used == 0 && bytes.len() > self.segment => {
+                self.decrypt_segments(cipher, bytes);
+            }
             _ => self.apply_in_segment(direction, cipher, bytes),
         }
     }

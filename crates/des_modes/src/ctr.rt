@@ -8,7 +8,7 @@ ghost use Rattle.des_modes.specs.States.{IsAtCounter};
 
 use crate::direction::Direction;
 use crate::parts::TakesParts;
-use crate::xored::xor_blocks_from;
+use crate::xored::{xor_blocks_from, xor_from};
 use des::cipher::BlockCipherEncrypt;
 
 // The blocks that are encrypted together: a cipher may treat some of them side by side.
@@ -35,6 +35,18 @@ fn write_outputs<C: BlockCipherEncrypt>(cipher: &C, blocks: &mut [[u8; 8]], coun
     cipher.encrypt_blocks(blocks);
 }
 
+// Encrypts or decrypts bytes of one block by the output block of its counter, from its byte `used` on.
+fn apply_output<C: BlockCipherEncrypt>(cipher: &C, counter: u64, used: usize, bytes: &mut [u8])
+    requires { used + length bytes.old ≤ 8 }
+    ensures { (i : ℕ) → i < length bytes.old → slice_index bytes.new i
+        ≡ bit_xor (slice_index bytes.old i)
+        (slice_index (C.encrypted cipher.now (to_be_bytes w64 counter)) (used + i)) }
+{
+    let mut output = counter.to_be_bytes();
+    cipher.encrypt_block(&mut output);
+    xor_from(bytes, &output, used);
+}
+
 // Encrypts or decrypts bytes by the output blocks of a counter and of those that follow it, from byte
 // `used` of the first on.
 fn apply_outputs<C: BlockCipherEncrypt>(cipher: &C, counter: u64, used: usize, bytes: &mut [u8])
@@ -44,6 +56,9 @@ fn apply_outputs<C: BlockCipherEncrypt>(cipher: &C, counter: u64, used: usize, b
         (slice_index (C.encrypted cipher.now (to_be_bytes w64 ((counter + (used + i) / 8) % 2 ^ 64)))
         ((used + i) % 8)) }
 {
+    if used + bytes.len() <= 8 {
+        return apply_output(cipher, counter, used, bytes);
+    }
     let mut blocks = [[0; 8]; TOGETHER];
     let part = &mut blocks[..(used + bytes.len()).div_ceil(8)];
     write_outputs(cipher, part, counter);

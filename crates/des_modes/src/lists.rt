@@ -39,10 +39,7 @@ impl<'a, C: ManyBlocks, S: Slice> BlockCipherEncrypt for ByLists<'a, C, S> {
     ghost encrypted = { λ by. C.encrypted by.cipher.now };
 
     fn encrypt_block(&self, block: &mut [u8; 8]) {
-        let mut blocks = [*block];
-        self.cipher
-            .encrypt_list_by::<S>(self.no_tables, &mut blocks);
-        *block = blocks[0];
+        self.cipher.encrypt_one(self.no_tables, block);
     }
 
     fn encrypt_blocks(&self, blocks: &mut [[u8; 8]]) {
