@@ -1,4 +1,4 @@
--- Blocks as rows, and the bits of transposed rows.
+-- Blocks as rows.
 use Rattle.std.proofs.Common.{◌≡◌, ℕ, zero, suc, ◌+◌, ◌*◌, ◌/◌, ◌%◌, ◌<◌, ◌≤◌, ◌≢◌, Bool, false, List, [], ◌∷◌, length, map, get_or, w64, refl, ap, ap₂, sym, subst, ◌∙◌, arith, zero-add, inl, inr}
 use Rattle.std.specs.Int.{to_le_bytes}
 use Rattle.std.proofs.Math.ListN.{set}
@@ -10,7 +10,7 @@ use Rattle.std.proofs.lemmas.List.FromFn.{fill_by_all, length-map-range_with_len
 use Rattle.des.specs.Bits.{bits_of_bytes}
 use Rattle.des.specs.Blocks.{block_of_bits}
 use Rattle.des_fast.specs.Slices.{place_of_block}
-use Rattle.des_fast.specs.Transposition.{bits_of_lane, bits_of_row, AreRowsOf, AreBlocksOfRows, AreTransposed, AreSlicesOf, AreBlocksOf}
+use Rattle.des_fast.specs.Transposition.{bits_of_lane, bits_of_row}
 
 -- two functions that agree below n give the same lists
 pub map-same : (f g : ℕ → Bool) (n : ℕ) → ((m : ℕ) → m < n → f m ≡ g m)
@@ -39,46 +39,32 @@ each_of_four P x y z w p q r s (suc (suc (suc (suc lane)))) below = absurd (omeg
 abbrev pub HasBlock : List (List ℕ) → ℕ → ℕ → ℕ → ℕ → Type 0
 HasBlock blocks n m lane word = to_le_bytes w64 word ≡ get_or blocks (n * m + lane) []
 
--- the bits of a word of row m
-abbrev pub row_lane : {A : Type 0} → (ℕ → A → Bool) → List A → ℕ → ℕ → List Bool
-row_lane bit rows m lane = map (λ p. get_or (map (bit (64 * lane + p)) rows) m false) (range_with_len 0 64)
-
--- what holds of the words of the rows below i holds below i + 1 of those with row i written
-pub row_written_below : {A : Type 0} (bit : ℕ → A → Bool) (P : ℕ → List Bool → Type 0) (rows : List A) (i lane : ℕ)
-    (row : A) → i < length rows
-    → ((m : ℕ) → m < i → P m (row_lane bit rows m lane)) → P i (bits_of_lane bit row lane)
-    → (m : ℕ) → m < i + 1 → P m (row_lane bit (set rows i row) m lane)
-row_written_below bit P rows i lane row inside each here m below =
-    let read : ℕ → Bool = λ p. get_or (map (bit (64 * lane + p)) (set rows i row)) m false in
-    let written : (p : ℕ) → map (bit (64 * lane + p)) (set rows i row)
-    ≡ set (map (bit (64 * lane + p)) rows) i (bit (64 * lane + p) row) =
-    λ p. map-set (bit (64 * lane + p)) rows i row in
-    elim (cases_eq m i) [
-      | inl same ↦
-          let whole : row_lane bit (set rows i row) m lane ≡ bits_of_lane bit row lane =
-          map-same read (λ p. bit (64 * lane + p) row) 64
-          (λ p under.
-          let in_bits : i < length (map (bit (64 * lane + p)) rows) =
-          rw (length-map rows (bit (64 * lane + p))) inside in
-          ap₂ (λ (bits : List Bool) (k : ℕ). get_or bits k false) (written p) same
-          ∙ get_or-set_same (map (bit (64 * lane + p)) rows) i (bit (64 * lane + p) row) false in_bits) in
-          subst (P m) (sym whole) (subst (λ (k : ℕ). P k (bits_of_lane bit row lane)) (sym same) here)
-      | inr other ↦
-          let whole : row_lane bit (set rows i row) m lane ≡ row_lane bit rows m lane =
-          map-same read (λ p. get_or (map (bit (64 * lane + p)) rows) m false) 64
-          (λ p under.
-          ap (λ (bits : List Bool). get_or bits m false) (written p)
-          ∙ get_or-set_other (map (bit (64 * lane + p)) rows) i m (bit (64 * lane + p) row) false other) in
-          let low : m < i = omega arith in
-          subst (P m) (sym whole) (each m low)
-    ]
-
 -- the bits of a word of a row
 pub bits_of_lane-row : {A : Type 0} (bit : ℕ → A → Bool) (rows : List A) (m lane : ℕ) (d : A) → m < length rows
-    → bits_of_lane bit (get_or rows m d) lane ≡ row_lane bit rows m lane
+    → bits_of_lane bit (get_or rows m d) lane ≡ bits_of_row bit rows m lane
 bits_of_lane-row bit rows m lane d inside =
     map-same (λ p. bit (64 * lane + p) (get_or rows m d)) (λ p. get_or (map (bit (64 * lane + p)) rows) m false) 64
     (λ p below. sym (get_or-map (bit (64 * lane + p)) rows m d false inside))
+
+-- eight rows, each with a word whose bits are known if the row is the one that is asked for
+pub bits_of_row-listed : {A : Type 0} (bit : ℕ → A → Bool) (lane : ℕ) (bits : List Bool) (Is : ℕ → Type 0)
+    (r0 r1 r2 r3 r4 r5 r6 r7 : A) → (Is 0 → bits_of_lane bit r0 lane ≡ bits) → (Is 1 → bits_of_lane bit r1 lane ≡ bits)
+    → (Is 2 → bits_of_lane bit r2 lane ≡ bits) → (Is 3 → bits_of_lane bit r3 lane ≡ bits)
+    → (Is 4 → bits_of_lane bit r4 lane ≡ bits) → (Is 5 → bits_of_lane bit r5 lane ≡ bits)
+    → (Is 6 → bits_of_lane bit r6 lane ≡ bits) → (Is 7 → bits_of_lane bit r7 lane ≡ bits)
+    → (m : ℕ) → m < 8 → Is m → bits_of_row bit (r0 ∷ r1 ∷ r2 ∷ r3 ∷ r4 ∷ r5 ∷ r6 ∷ r7 ∷ []) m lane ≡ bits
+bits_of_row-listed bit lane bits Is r0 r1 r2 r3 r4 r5 r6 r7 is0 is1 is2 is3 is4 is5 is6 is7 m below =
+    elim m as (λ k. k < 8 → Is k → bits_of_row bit (r0 ∷ r1 ∷ r2 ∷ r3 ∷ r4 ∷ r5 ∷ r6 ∷ r7 ∷ []) k lane ≡ bits) [
+      | zero ↦ λ under. is0
+      | suc zero ↦ λ under. is1
+      | suc (suc zero) ↦ λ under. is2
+      | suc (suc (suc zero)) ↦ λ under. is3
+      | suc (suc (suc (suc zero))) ↦ λ under. is4
+      | suc (suc (suc (suc (suc zero)))) ↦ λ under. is5
+      | suc (suc (suc (suc (suc (suc zero))))) ↦ λ under. is6
+      | suc (suc (suc (suc (suc (suc (suc zero)))))) ↦ λ under. is7
+      | suc (suc (suc (suc (suc (suc (suc (suc n))))))) ↦ λ under. absurd (omega arith)
+    ] below
 
 -- the blocks of the first words of a row are written, n side by side after m such rows, and no other block is
 abbrev pub AreWordsWritten : {A : Type 0} → (ℕ → A → Bool) → ℕ → A → ℕ → List (List ℕ) → List (List ℕ) → ℕ → Type 0
@@ -125,63 +111,12 @@ AreWordsWritten-more bit n row m old new count i block word at_row at_lane insid
       ),
     )
 
--- the place of a block in slices of n words
+-- a block's row of 64 and its word of n
 pub record IsPlaced (n k : ℕ) : Type 0 where
   pub row : k / n < 64
-  pub inside : place_of_block n k < 64 * n
-  pub at_lane : place_of_block n k / 64 ≡ k % n
-  pub at_row : place_of_block n k % 64 ≡ k / n
+  pub lane : k % n < n
 
--- of any numbers u and v of a word and a row
-placed-parts : (n u v : ℕ) → u < n → v < 64 → ((64 * u + v < 64 * n) × ((64 * u + v) / 64 ≡ u)) × ((64 * u + v) % 64 ≡ v)
-placed-parts n u v in_words in_rows = ((omega arith, omega arith), omega arith)
-
-pub IsPlaced-block : (n k : ℕ) → 1 ≤ n → k < 64 * n → IsPlaced n k
-IsPlaced-block n k some within =
-    let below : k / n < 64 = (div-lt_iff_lt-mul some).1 within in
-    let parts = placed-parts n (k % n) (k / n) (mod-lt k some) below in
-    record { row = below; inside = parts.0.0; at_lane = parts.0.1; at_row = parts.1 }
-
--- the bits of block k of slices are those at its place
-map-placed : {A : Type 0} (f g : A → Bool) (xs : List A) → ((x : A) → f x ≡ g x) → map f xs ≡ map g xs
-map-placed f g [] same = refl
-map-placed f g (x ∷ xs) same = ap₂ ◌∷◌ (same x) (map-placed f g xs same)
-
--- the slices of blocks, from their rows
-pub AreSlicesOf-rows : {A : Type 0} (n : ℕ) (bit place_bit : ℕ → A → Bool) (blocks : List (List ℕ))
-    (rows slices : List A) → 1 ≤ n → ((b : ℕ) → (slice : A) → bit b slice ≡ place_bit (place_of_block n b) slice)
-    → length slices ≡ 64
-    → AreRowsOf (64 * n) n place_bit blocks rows → AreTransposed (64 * n) place_bit rows slices
-    → AreSlicesOf (64 * n) bit blocks slices
-AreSlicesOf-rows n bit place_bit blocks rows slices some placed size are transposed k within =
-    let place : ℕ = place_of_block n k in
-    let at = IsPlaced-block n k some within in
-    fill_by_all (λ (m : ℕ). get_or (map (place_bit (64 * (k % n) + m)) rows) (k / n) false) (map (bit k) slices) 64 false
-    (length-map slices (bit k) ∙ size)
-    (λ m below.
-    ap (λ (bits : List Bool). get_or bits m false) (map-placed (bit k) (place_bit place) slices (placed k))
-    ∙ transposed m below place at.inside
-    ∙ ap₂ (λ (u v : ℕ). get_or (map (place_bit (64 * u + m)) rows) v false) at.at_lane at.at_row)
-    ∙ are k within
-
--- the blocks of slices, from the rows
-pub AreBlocksOf-rows : {A : Type 0} (n : ℕ) (bit place_bit : ℕ → A → Bool) (slices rows : List A)
-    (blocks : List (List ℕ)) → 1 ≤ n → ((b : ℕ) → (slice : A) → bit b slice ≡ place_bit (place_of_block n b) slice)
-    → length slices ≡ 64
-    → AreTransposed (64 * n) place_bit slices rows → AreBlocksOfRows (64 * n) n place_bit rows blocks
-    → AreBlocksOf (64 * n) bit slices blocks
-AreBlocksOf-rows n bit place_bit slices rows blocks some placed size transposed are k within =
-    let at = IsPlaced-block n k some within in
-    let u : ℕ = k % n in
-    let here : bits_of_row n place_bit rows k ≡ map (bit k) slices =
-    map-same (λ p. get_or (map (place_bit (64 * u + p)) rows) (k / n) false)
-    (λ p. get_or (map (bit k) slices) p false) 64
-    (λ p below.
-    let parts = placed-parts n u p (mod-lt k some) below in
-    transposed (k / n) at.row (64 * u + p) parts.0.0
-    ∙ ap₂ (λ (v l : ℕ). get_or (map (place_bit (64 * l + k / n)) slices) v false) parts.1 parts.0.1
-    ∙ ap (λ (bits : List Bool). get_or bits p false)
-    (sym (map-placed (bit k) (place_bit (place_of_block n k)) slices (placed k))))
-    ∙ sym (fill_by_all (λ (p : ℕ). get_or (map (bit k) slices) p false) (map (bit k) slices) 64 false
-    (length-map slices (bit k) ∙ size) (λ p below. refl)) in
-    are k within ∙ ap block_of_bits here
+pub IsPlaced-block : (batch n k : ℕ) → 1 ≤ batch → batch ≡ 64 * n → k < batch → IsPlaced n k
+IsPlaced-block batch n k some whole within =
+    let words : 1 ≤ n = omega arith in
+    record { row = (div-lt_iff_lt-mul words).1 (omega arith); lane = mod-lt k words }

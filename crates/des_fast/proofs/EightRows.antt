@@ -2,7 +2,7 @@
 use Rattle.std.proofs.Common.{◌≡◌, ℕ, zero, suc, ◌+◌, ◌*◌, ◌/◌, ◌%◌, ◌<◌, ◌≢◌, Bool, false, List, [], ◌∷◌, length, map, get_or, ap, sym, ◌∙◌, arith, inl, inr}
 use Rattle.std.proofs.Math.ListN.{set}
 use Rattle.std.proofs.lemmas.Bool.{cases_eq}
-use Rattle.std.proofs.lemmas.List.{get_or-map, get_or-set_same, get_or-set_other, length-map, map-set}
+use Rattle.std.proofs.lemmas.List.{get_or-map, get_or-set_same, get_or-set_other}
 use Rattle.des_fast.specs.Transposition.{ArePairwise}
 
 -- the bit of one of a pair of rows is that of the row of all
@@ -70,54 +70,57 @@ ArePairwise-pairs batch bit step rows p q r s a0 a1 a2 a3 a4 a5 a6 a7 e0 e1 e2 e
       | suc (suc (suc (suc (suc (suc (suc (suc n))))))) ↦ λ under. absurd (omega arith)
     ] below
 
-module _ {A : Type 0} (read : A → Bool) (rows : List A) (place : ℕ → ℕ) (first : ℕ) (d0 d1 d2 d3 d4 d5 d6 d7 : A)
-    (same : first ≡ place 0) (inside : (j : ℕ) → j < 8 → place j < length rows) where
-  picked : (n : ℕ) (d : A) → n < 8 → read (get_or rows (place n) d) ≡ get_or (map read rows) (place n) false
-  picked n d below = sym (get_or-map read rows (place n) d false (inside n below))
+-- eight rows, each known by its bit
+pub bits-listed : {A : Type 0} (read : A → Bool) (value : ℕ → Bool) (r0 r1 r2 r3 r4 r5 r6 r7 : A)
+    → read r0 ≡ value 0 → read r1 ≡ value 1 → read r2 ≡ value 2 → read r3 ≡ value 3 → read r4 ≡ value 4
+    → read r5 ≡ value 5 → read r6 ≡ value 6 → read r7 ≡ value 7 → (j : ℕ) → j < 8
+    → get_or (map read (r0 ∷ r1 ∷ r2 ∷ r3 ∷ r4 ∷ r5 ∷ r6 ∷ r7 ∷ [])) j false ≡ value j
+bits-listed read value r0 r1 r2 r3 r4 r5 r6 r7 is0 is1 is2 is3 is4 is5 is6 is7 j below =
+    elim j as (λ k. k < 8 → get_or (map read (r0 ∷ r1 ∷ r2 ∷ r3 ∷ r4 ∷ r5 ∷ r6 ∷ r7 ∷ [])) k false ≡ value k) [
+      | zero ↦ λ under. is0
+      | suc zero ↦ λ under. is1
+      | suc (suc zero) ↦ λ under. is2
+      | suc (suc (suc zero)) ↦ λ under. is3
+      | suc (suc (suc (suc zero))) ↦ λ under. is4
+      | suc (suc (suc (suc (suc zero)))) ↦ λ under. is5
+      | suc (suc (suc (suc (suc (suc zero))))) ↦ λ under. is6
+      | suc (suc (suc (suc (suc (suc (suc zero)))))) ↦ λ under. is7
+      | suc (suc (suc (suc (suc (suc (suc (suc n))))))) ↦ λ under. absurd (omega arith)
+    ] below
 
-  -- eight rows, each from its place
-  pub bits-picked : (j : ℕ) → j < 8
-      → get_or (map read (get_or rows first d0 ∷ get_or rows (place 1) d1 ∷ get_or rows (place 2) d2
-      ∷ get_or rows (place 3) d3 ∷ get_or rows (place 4) d4 ∷ get_or rows (place 5) d5 ∷ get_or rows (place 6) d6
-      ∷ get_or rows (place 7) d7 ∷ [])) j false
-      ≡ get_or (map read rows) (place j) false
-  bits-picked zero below = ap (λ (k : ℕ). read (get_or rows k d0)) same ∙ picked 0 d0 below
-  bits-picked (suc zero) below = picked 1 d1 below
-  bits-picked (suc (suc zero)) below = picked 2 d2 below
-  bits-picked (suc (suc (suc zero))) below = picked 3 d3 below
-  bits-picked (suc (suc (suc (suc zero)))) below = picked 4 d4 below
-  bits-picked (suc (suc (suc (suc (suc zero))))) below = picked 5 d5 below
-  bits-picked (suc (suc (suc (suc (suc (suc zero)))))) below = picked 6 d6 below
-  bits-picked (suc (suc (suc (suc (suc (suc (suc zero))))))) below = picked 7 d7 below
-  bits-picked (suc (suc (suc (suc (suc (suc (suc (suc j)))))))) below = absurd (omega arith)
+-- the places of eight rows: every eighth, from row i on, and those side by side, from row 8 * i on
+abbrev pub apart_place : ℕ → ℕ → ℕ
+apart_place i j = 8 * j + i
 
--- the first of eight rows are written at their places, and no other place is
-abbrev pub AreWrittenAt : {A : Type 0} → (A → Bool) → (ℕ → ℕ) → List A → List A → List A → ℕ → Type 0
-AreWrittenAt read place eight old new count =
-    ((j : ℕ) → j < count → get_or (map read new) (place j) false ≡ get_or (map read eight) j false)
-    × ((m : ℕ) → ((j : ℕ) → j < 8 → m ≢ place j) → get_or (map read new) m false ≡ get_or (map read old) m false)
+abbrev pub beside_place : ℕ → ℕ → ℕ
+beside_place i j = 8 * i + j
+
+-- the bits of the first of eight rows are written at their places, and no other place is
+abbrev pub AreWrittenAt : (ℕ → ℕ) → List Bool → List Bool → List Bool → ℕ → Type 0
+AreWrittenAt place eight old new count =
+    ((j : ℕ) → j < count → get_or new (place j) false ≡ get_or eight j false)
+    × ((m : ℕ) → ((j : ℕ) → j < 8 → m ≢ place j) → get_or new m false ≡ get_or old m false)
 
 -- one more
-pub AreWrittenAt-more : {A : Type 0} (read : A → Bool) (place : ℕ → ℕ) (eight old new : List A) (j : ℕ) (row : A)
-    → j < 8 → place j < length new → ((k : ℕ) → k < j → place k ≢ place j) → read row ≡ get_or (map read eight) j false
-    → AreWrittenAt read place eight old new j → AreWrittenAt read place eight old (set new (place j) row) (j + 1)
-AreWrittenAt-more read place eight old new j row below inside apart is are =
-    let bits : List Bool = map read new in
-    let written : map read (set new (place j) row) ≡ set bits (place j) (read row) = map-set read new (place j) row in
-    let in_bits : place j < length bits = rw (length-map new read) inside in (
-      λ k low. ap (λ (xs : List Bool). get_or xs (place k) false) written
-          ∙ elim (cases_eq k j) [
-            | inl same ↦
-                ap (λ (i : ℕ). get_or (set bits (place j) (read row)) (place i) false) same
-                ∙ get_or-set_same bits (place j) (read row) false in_bits
-                ∙ is
-                ∙ ap (λ (i : ℕ). get_or (map read eight) i false) (sym same)
-            | inr other ↦
-                let lower : k < j = omega arith in
-                get_or-set_other bits (place j) (place k) (read row) false (apart k lower) ∙ are.0 k lower
-          ],
-      λ m elsewhere.
-          ap (λ (xs : List Bool). get_or xs m false) written
-          ∙ get_or-set_other bits (place j) m (read row) false (elsewhere j below)
-          ∙ are.1 m elsewhere,
-    )
+pub AreWrittenAt-more : (place : ℕ → ℕ) (eight old new next : List Bool) (j : ℕ) (value : Bool)
+    → j < 8 → place j < length new → ((k : ℕ) → k < j → place k ≢ place j) → value ≡ get_or eight j false
+    → next ≡ set new (place j) value
+    → AreWrittenAt place eight old new j → AreWrittenAt place eight old next (j + 1)
+AreWrittenAt-more place eight old new next j value below inside apart is written are = (
+  λ k low.
+      ap (λ (bits : List Bool). get_or bits (place k) false) written
+      ∙ elim (cases_eq k j) [
+        | inl same ↦
+            ap (λ (i : ℕ). get_or (set new (place j) value) (place i) false) same
+            ∙ get_or-set_same new (place j) value false inside
+            ∙ is
+            ∙ ap (λ (i : ℕ). get_or eight i false) (sym same)
+        | inr other ↦
+            let lower : k < j = omega arith in
+            get_or-set_other new (place j) (place k) value false (apart k lower) ∙ are.0 k lower
+      ],
+  λ m elsewhere.
+      ap (λ (bits : List Bool). get_or bits m false) written
+      ∙ get_or-set_other new (place j) m value false (elsewhere j below)
+      ∙ are.1 m elsewhere,
+)

@@ -9,9 +9,9 @@ pub mod ExchangedRows
 pub mod EightRows
 pub mod RowSteps
 pub mod PlacedBytes
-pub mod PermutedHalves
-pub mod Stages
+pub mod RowPlaces
 pub mod BlockRows
+pub mod TransposedRows
 pub mod PassesOnSlices
 pub mod SliceSizes
 pub mod KeySlices
@@ -38,7 +38,6 @@ pub mod RoundKeyPositions
 pub mod KeyRows
 pub mod ScheduledHalves
 pub mod ChosenKeys
-pub mod LanesOfSlices
 pub mod ZippedParts
 pub mod SpreadParts
 pub mod PassesByKeys

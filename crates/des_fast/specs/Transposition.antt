@@ -1,8 +1,9 @@
 -- The transposition of 64 rows of bits in each word of slices. `bit b slice` is the bit at place b of a
 -- slice, from 0: place b % 64 of its word b / 64.
-use Rattle.std.specs.Prelude.{◌≡◌, ℕ, ◌+◌, ◌-◌, ◌*◌, ◌/◌, ◌%◌, ◌<◌, ◌==◌, ◌&&◌, if◌then◌else◌, not, Bool, false, List, [], ◌∷◌, map, nat_lt, slice_index_or}
+use Rattle.std.specs.Prelude.{◌≡◌, ℕ, ◌+◌, ◌-◌, ◌*◌, ◌/◌, ◌%◌, ◌<◌, ◌==◌, ◌&&◌, if◌then◌else◌, not, Bool, false, List, [], ◌∷◌, ◌++◌, map, nat_lt, slice_index_or}
 use Rattle.std.specs.List.{range_with_len, list_all}
-use Rattle.des.specs.Bits.{bits_of_word, bits_of_bytes}
+use Rattle.des.specs.Bits.{bits_of_word, bits_of_bytes, select}
+use Rattle.des.specs.Tables.{final_permutation}
 use Rattle.des.specs.Blocks.{block_of_bits}
 use Rattle.des_fast.specs.Slices.{InEachBlock, number_in_word}
 
@@ -77,11 +78,13 @@ abbrev pub AreBitsExchanged : {A : Type 0} → ℕ → (ℕ → A → Bool) → 
 AreBitsExchanged batch bit rows answer =
     (m : ℕ) → m < 8 → InEachBlock batch (λ b. IsFrom bit rows answer m b (bits_from m b))
 
--- 64 rows transposed in each word: bit b of row m comes from bit m of row b
-abbrev pub AreTransposed : {A : Type 0} → ℕ → (ℕ → A → Bool) → List A → List A → Type 0
-AreTransposed batch bit rows answer =
+-- the bits of each byte transposed across the eight rows of its number, of bits that are known by their
+-- place: bit t of row m comes from bit m of row t
+abbrev pub AreBitsTransposed : ℕ → (ℕ → List Bool) → (ℕ → List Bool) → Type 0
+AreBitsTransposed batch rows answer =
     (m : ℕ) → m < 64
-    → InEachBlock batch (λ b. IsFrom bit rows answer m b (b % 64, 64 * (b / 64) + m))
+    → InEachBlock batch (λ b. slice_index_or (answer b) m false
+    ≡ slice_index_or (rows (8 * (b / 8) + m % 8)) (8 * (m / 8) + b % 8) false)
 
 -- ---- steps of eight rows, computed
 
@@ -116,28 +119,24 @@ block_at blocks k = slice_index_or blocks k []
 abbrev pub bits_of_lane : {A : Type 0} → (ℕ → A → Bool) → A → ℕ → List Bool
 bits_of_lane bit slice lane = map (λ p. bit (64 * lane + p) slice) (range_with_len 0 64)
 
--- the bits of the word of block k, which is word k % n of row k / n in vectors of n words
-abbrev pub bits_of_row : {A : Type 0} → ℕ → (ℕ → A → Bool) → List A → ℕ → List Bool
-bits_of_row n bit rows k =
-    map (λ p. slice_index_or (map (bit (64 * (k % n) + p)) rows) (k / n) false)
-    (range_with_len 0 64)
+-- the bits of a word of row m
+abbrev pub bits_of_row : {A : Type 0} → (ℕ → A → Bool) → List A → ℕ → ℕ → List Bool
+bits_of_row bit rows m lane =
+    map (λ p. slice_index_or (map (bit (64 * lane + p)) rows) m false) (range_with_len 0 64)
 
--- the words of the rows have the bits of the blocks
-abbrev pub AreRowsOf : {A : Type 0} → ℕ → ℕ → (ℕ → A → Bool) → List (List ℕ) → List A → Type 0
-AreRowsOf batch n bit blocks rows =
-    InEachBlock batch (λ k. bits_of_row n bit rows k ≡ bits_of_bytes (block_at blocks k))
+-- ---- blocks as halves
 
--- the blocks are those of the words of the rows
-abbrev pub AreBlocksOfRows : {A : Type 0} → ℕ → ℕ → (ℕ → A → Bool) → List A → List (List ℕ) → Type 0
-AreBlocksOfRows batch n bit rows blocks =
-    InEachBlock batch (λ k. block_at blocks k ≡ block_of_bits (bits_of_row n bit rows k))
+-- the bits that two halves make under the final permutation: those of a block whose halves, after the
+-- initial permutation, are these
+abbrev pub bits_of_halves : {A : Type 0} → (A → Bool) → List A → List A → List Bool
+bits_of_halves read left right = select final_permutation (map read left ++ map read right)
 
--- the slices have the bits of the blocks
-abbrev pub AreSlicesOf : {A : Type 0} → ℕ → (ℕ → A → Bool) → List (List ℕ) → List A → Type 0
-AreSlicesOf batch bit blocks slices =
-    InEachBlock batch (λ k. map (bit k) slices ≡ bits_of_bytes (block_at blocks k))
+-- the slices of the halves have the bits of the blocks
+abbrev pub AreSlicesOf : {A : Type 0} → ℕ → (ℕ → A → Bool) → List (List ℕ) → List A → List A → Type 0
+AreSlicesOf batch bit blocks left right =
+    InEachBlock batch (λ k. bits_of_halves (bit k) left right ≡ bits_of_bytes (block_at blocks k))
 
--- the blocks are those of the bits of the slices
-abbrev pub AreBlocksOf : {A : Type 0} → ℕ → (ℕ → A → Bool) → List A → List (List ℕ) → Type 0
-AreBlocksOf batch bit slices blocks =
-    InEachBlock batch (λ k. block_at blocks k ≡ block_of_bits (map (bit k) slices))
+-- the blocks are those of the bits of the halves
+abbrev pub AreBlocksOf : {A : Type 0} → ℕ → (ℕ → A → Bool) → List A → List A → List (List ℕ) → Type 0
+AreBlocksOf batch bit left right blocks =
+    InEachBlock batch (λ k. block_at blocks k ≡ block_of_bits (bits_of_halves (bit k) left right))

@@ -21,8 +21,8 @@ mod transposition;
 mod vectors;
 
 pub(crate) use keys::{PassKeys, PassSlices};
-pub(crate) use passes::slices_through_passes;
-pub(crate) use rows::{read_blocks, write_blocks};
+pub(crate) use passes::halves_through_passes;
+pub(crate) use rows::read_blocks;
 
 /// The number of blocks in the largest batch.
 pub(crate) const LARGEST_BATCH: usize = 256;

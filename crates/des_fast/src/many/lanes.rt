@@ -12,9 +12,7 @@ ghost use Rattle.des_fast.specs.RoundKeySlices.{round_keys_in};
 ghost use Rattle.des_fast.specs.SpreadKeys.{used};
 ghost use Rattle.des_fast.specs.EachKey.{round_keys_under, round_keys_of_parts, AreSpreadBelow, lane_output};
 
-use crate::slices::{
-    LARGEST_BATCH, PassSlices, Slice, read_blocks, slices_through_passes, write_blocks,
-};
+use crate::slices::{LARGEST_BATCH, PassSlices, Slice, halves_through_passes, read_blocks};
 use des::cipher::KeyBytes;
 use des::tdes::key_part;
 
@@ -165,10 +163,10 @@ pub(super) fn process_lanes<S: Slice>(blocks: &mut [[u8; 8]], passes: &[PassSlic
     ensures lanes { InEachBlock S.BATCH (λ b. block_at blocks.new b
         ≡ lane_output (S.bit b) passes.now (block_at blocks.old b)) }
 {
-    let mut slices = [S::same(false); 64];
-    read_blocks(&mut slices, blocks);
-    slices_through_passes(&mut slices, passes);
-    write_blocks(blocks, &mut slices);
+    let mut left = [S::same(false); 32];
+    let mut right = [S::same(false); 32];
+    read_blocks(&mut left, &mut right, blocks);
+    halves_through_passes(blocks, &mut left, &mut right, passes);
 }
 
 /// A function for the proof alone: takes the first lanes, a batch, through passes. Of an array that is

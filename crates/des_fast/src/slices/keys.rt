@@ -6,12 +6,12 @@
 ghost use Rattle.std.specs.Prelude.{◌≡◌, ◌≤◌, ◌<◌, ◌+◌, ◌*◌, ℕ, List, length, map};
 ghost use Rattle.des.specs.Bits.{bit, bits_of_bytes};
 ghost use Rattle.des_fast.specs.Slices.{InEachBlock, bits_of_slice};
-ghost use Rattle.des_fast.specs.Transposition.{block_at};
+ghost use Rattle.des_fast.specs.Transposition.{bits_of_halves, block_at};
 ghost use Rattle.des_fast.specs.RoundKeySlices.{halves_in, StandTwiceBelow, round_keys_of_pass, round_keys_in};
 ghost use Rattle.des_fast.specs.EachKey.{round_keys_under};
 
 use super::selection::write_selection;
-use super::transposition::Rows;
+use super::transposition::Half;
 use super::{Slice, read_blocks};
 use crate::halves::RoundKey;
 
@@ -49,25 +49,26 @@ const HALVES: [usize; 56] = [
     125, 117, 84, 96, 24, 88, 94,
 ];
 
-// Permuted choice 1, in the rows of the standard's table: C, C again, and D, twice.
+// Where permuted choice 1 finds the bits of a key after the initial permutation, whose rows of eight have
+// those of its own table: C, C again, and D, twice.
 #[rattlefmt::skip]
 const CHOSEN: [usize; 112] = [
-    57, 49, 41, 33, 25, 17, 9,
-    1, 58, 50, 42, 34, 26, 18,
-    10, 2, 59, 51, 43, 35, 27,
-    19, 11, 3, 60, 52, 44, 36,
-    57, 49, 41, 33, 25, 17, 9,
-    1, 58, 50, 42, 34, 26, 18,
-    10, 2, 59, 51, 43, 35, 27,
-    19, 11, 3, 60, 52, 44, 36,
-    63, 55, 47, 39, 31, 23, 15,
-    7, 62, 54, 46, 38, 30, 22,
-    14, 6, 61, 53, 45, 37, 29,
-    21, 13, 5, 28, 20, 12, 4,
-    63, 55, 47, 39, 31, 23, 15,
-    7, 62, 54, 46, 38, 30, 22,
-    14, 6, 61, 53, 45, 37, 29,
-    21, 13, 5, 28, 20, 12, 4,
+    33, 34, 35, 36, 37, 38, 39,
+    40, 1, 2, 3, 4, 5, 6,
+    7, 8, 41, 42, 43, 44, 45,
+    46, 47, 48, 9, 10, 11, 12,
+    33, 34, 35, 36, 37, 38, 39,
+    40, 1, 2, 3, 4, 5, 6,
+    7, 8, 41, 42, 43, 44, 45,
+    46, 47, 48, 9, 10, 11, 12,
+    57, 58, 59, 60, 61, 62, 63,
+    64, 17, 18, 19, 20, 21, 22,
+    23, 24, 49, 50, 51, 52, 53,
+    54, 55, 56, 13, 14, 15, 16,
+    57, 58, 59, 60, 61, 62, 63,
+    64, 17, 18, 19, 20, 21, 22,
+    23, 24, 49, 50, 51, 52, 53,
+    54, 55, 56, 13, 14, 15, 16,
 ];
 
 // The slice of the bit at a position of two words, the same for all blocks.
@@ -132,27 +133,28 @@ impl<S: Slice> PassSlices<S> {
         self.deciphers = pass.deciphers;
     }
 
-    // Makes the slices those of a pass under the keys whose bits these slices have.
+    // Makes the slices those of a pass under the keys whose bits these halves have.
     #[inline(always)]
-    fn choose(&mut self, slices: &Rows<S>, deciphers: bool)
+    fn choose(&mut self, left: &Half<S>, right: &Half<S>, deciphers: bool)
         ensures { InEachBlock S.BATCH (λ b. (key : List ℕ)
-            → map (S.bit b) slices.now ≡ bits_of_bytes key
+            → bits_of_halves (S.bit b) left.now right.now ≡ bits_of_bytes key
             → round_keys_in (S.bit b) self.new ≡ round_keys_under deciphers key) }
     {
-        write_selection(&mut self.halves, slices, &CHOSEN);
+        write_selection(&mut self.halves, left, right, &CHOSEN);
         self.deciphers = deciphers;
     }
 
     /// Makes the slices those of a pass in which each block of a batch has a key of its own. A
-    /// batch of keys is transposed as blocks are, and the bits of C and D are slices of it.
+    /// batch of keys is read as blocks are, and the bits of C and D are slices of it.
     #[inline(always)]
     pub(crate) fn spread_each(&mut self, keys: &[[u8; 8]], deciphers: bool)
         requires { length keys.now ≡ S.BATCH }
         ensures { InEachBlock S.BATCH (λ b. round_keys_in (S.bit b) self.new
             ≡ round_keys_under deciphers (block_at keys.now b)) }
     {
-        let mut rows = [S::same(false); 64];
-        read_blocks(&mut rows, keys);
-        self.choose(&rows, deciphers);
+        let mut left = [S::same(false); 32];
+        let mut right = [S::same(false); 32];
+        read_blocks(&mut left, &mut right, keys);
+        self.choose(&left, &right, deciphers);
     }
 }

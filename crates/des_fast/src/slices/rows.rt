@@ -1,14 +1,16 @@
-//! Blocks as rows of bits: the first row has the first blocks of a batch, one in each word, the
-//! next row the next ones.
+//! Blocks as rows of bits, and as slices: the first row has the first blocks of a batch, one in each
+//! word, the next row the next ones.
 
-ghost use Rattle.std.specs.Prelude.{◌≡◌, length};
+ghost use Rattle.std.specs.Prelude.{◌≡◌, ◌<◌, ◌≢◌, ◌/◌, ◌%◌, ℕ, length};
 ghost use Rattle.std.specs.Int.{to_le_bytes, w64};
 ghost use Rattle.des.specs.Bits.{bits_of_bytes};
 ghost use Rattle.des.specs.Blocks.{block_of_bits};
-ghost use Rattle.des_fast.specs.Transposition.{AreSlicesOf, AreBlocksOf, AreRowsOf, AreBlocksOfRows};
+ghost use Rattle.des_fast.specs.Transposition.{AreSlicesOf, AreBlocksOf, bits_of_row, block_at};
 
 use super::Slice;
-use super::transposition::{Rows, transpose};
+use super::transposition::{
+    Half, every_eighth, exchange_bytes, transpose_bits, write_every_eighth,
+};
 
 /// A function for the proof alone: the word of a block, whose first byte is the least significant. In
 /// a vector the bytes then stand as in memory. Of an element of a list of blocks the proof knows
@@ -28,42 +30,67 @@ pub(super) fn little_endian_block(word: u64) -> [u8; 8]
     word.to_le_bytes()
 }
 
-/// Makes rows those of a batch of blocks.
-pub(super) fn read_rows<S: Slice>(rows: &mut Rows<S>, blocks: &[[u8; 8]])
-    requires { length blocks.now ≡ S.BATCH }
-    ensures { AreRowsOf S.BATCH S.words S.place_bit blocks.now rows.new }
+// Every eighth row of a batch of blocks, from row i on.
+#[inline(always)]
+fn rows_of_blocks<S: Slice>(blocks: &[[u8; 8]], i: usize) -> [S; 8]
+    requires batch { length blocks.now ≡ S.BATCH }
+    requires within { i < 8 }
+    ensures { (k : ℕ) → k < S.BATCH → k / S.words % 8 ≡ i
+        → bits_of_row S.place_bit result (k / S.words / 8) (k % S.words)
+        ≡ bits_of_bytes (block_at blocks.now k) }
 {
-    'rows: for n in 0..64usize {
-        rows[n] = S::row_of(blocks, n);
+    [
+        S::row_of(blocks, i),
+        S::row_of(blocks, 8 + i),
+        S::row_of(blocks, 16 + i),
+        S::row_of(blocks, 24 + i),
+        S::row_of(blocks, 32 + i),
+        S::row_of(blocks, 40 + i),
+        S::row_of(blocks, 48 + i),
+        S::row_of(blocks, 56 + i),
+    ]
+}
+
+// Writes the blocks of every eighth row of a batch, from row i on.
+#[inline(always)]
+fn write_rows<S: Slice>(blocks: &mut [[u8; 8]], i: usize, rows: &[S; 8])
+    requires batch { length blocks.old ≡ S.BATCH }
+    requires within { i < 8 }
+    ensures written { (k : ℕ) → k < S.BATCH → k / S.words % 8 ≡ i → block_at blocks.new k
+        ≡ block_of_bits (bits_of_row S.place_bit rows.now (k / S.words / 8) (k % S.words)) }
+    ensures kept { (k : ℕ) → k / S.words % 8 ≢ i → block_at blocks.new k ≡ block_at blocks.old k }
+    ensures count { length blocks.new ≡ length blocks.old }
+{
+    for j in 0..8usize {
+        rows[j].write_row(blocks, 8 * j + i);
     }
 }
 
-/// Writes the batch of blocks of the rows.
-pub(super) fn write_rows<S: Slice>(blocks: &mut [[u8; 8]], rows: &Rows<S>)
-    requires { length blocks.old ≡ S.BATCH }
-    ensures written { AreBlocksOfRows S.BATCH S.words S.place_bit rows.now blocks.new }
-    ensures count { length blocks.new ≡ length blocks.old }
-{
-    'rows: for n in 0..64usize {
-        rows[n].write_row(blocks, n);
-    }
-}
-
-/// Makes slices those of a batch of blocks.
-pub(crate) fn read_blocks<S: Slice>(slices: &mut Rows<S>, blocks: &[[u8; 8]])
+/// Makes halves those of a batch of blocks after the initial permutation.
+pub(crate) fn read_blocks<S: Slice>(left: &mut Half<S>, right: &mut Half<S>, blocks: &[[u8; 8]])
     requires { length blocks.now ≡ S.BATCH }
-    ensures { AreSlicesOf S.BATCH S.bit blocks.now slices.new }
+    ensures { AreSlicesOf S.BATCH S.bit blocks.now left.new right.new }
 {
-    read_rows(slices, blocks);
-    transpose(slices);
+    'bits: for bit in 0..8usize {
+        let eight = exchange_bytes(rows_of_blocks(blocks, bit));
+        write_every_eighth(left, right, bit, eight);
+    }
+    transpose_bits(left, right);
 }
 
-/// Writes the batch of blocks of slices, which are used up.
-pub(crate) fn write_blocks<S: Slice>(blocks: &mut [[u8; 8]], slices: &mut Rows<S>)
+/// Writes the batch of blocks that two halves make under the final permutation. The halves are used up.
+pub(crate) fn write_blocks<S: Slice>(
+    blocks: &mut [[u8; 8]],
+    left: &mut Half<S>,
+    right: &mut Half<S>,
+)
     requires { length blocks.old ≡ S.BATCH }
-    ensures written { AreBlocksOf S.BATCH S.bit slices.old blocks.new }
+    ensures written { AreBlocksOf S.BATCH S.bit left.old right.old blocks.new }
     ensures count { length blocks.new ≡ length blocks.old }
 {
-    transpose(slices);
-    write_rows(blocks, slices);
+    transpose_bits(left, right);
+    'bits: for bit in 0..8usize {
+        let eight = exchange_bytes(every_eighth(left, right, bit));
+        write_rows(blocks, bit, &eight);
+    }
 }

@@ -1,15 +1,17 @@
 //! The transposition of bits: from blocks to slices, and back.
 //!
-//! Each word of the vectors holds a square of 64 rows of 64 bits, and all are transposed at once.
+//! Each word of the vectors holds a square of 64 rows of 64 bits, and all are transposed at once, in two
+//! steps: the bytes, across every eighth row, and the bits of each byte. Each step takes eight rows from
+//! their places in two half blocks, where the initial permutation IP puts them, and leaves eight there.
 
-ghost use Rattle.std.specs.Prelude.{◌≡◌, ◌<◌, ◌≢◌, ◌*◌, ◌+◌, ◌/◌, ◌%◌, ℕ, false, IsTrue, length, map, slice_index_or};
+ghost use Rattle.std.specs.Prelude.{◌≡◌, ◌<◌, ◌≢◌, ◌*◌, ◌+◌, ◌/◌, ◌%◌, ℕ, false, IsTrue, map, slice_index_or, slice_set};
 ghost use Rattle.des_fast.specs.Slices.{InEachBlock};
-ghost use Rattle.des_fast.specs.Transposition.{pairs_places, ArePairwise, exchanged, interleaved, joined, AreBytesExchanged, AreBitsExchanged, AreTransposed};
+ghost use Rattle.des_fast.specs.Transposition.{pairs_places, ArePairwise, exchanged, interleaved, joined, AreBytesExchanged, AreBitsExchanged, bits_of_halves, AreBitsTransposed};
 
 use super::Slice;
 
-/// 64 rows.
-pub(crate) type Rows<S> = [S; 64];
+/// A half block of each block after the initial permutation.
+pub(crate) type Half<S> = [S; 32];
 
 // Exchanges the bits of the first four rows under the mask with those of rows 4, 5, 6 and 7 at this
 // distance before them, which come out side by side. Three such exchanges, one after another, leave
@@ -51,10 +53,10 @@ fn join_pairs<S: Slice>(rows: [S; 8]) -> [S; 8]
     [a, b, c, d, e, f, g, h]
 }
 
-// Transposes the eight bytes of each word of eight rows. Three steps give each 16 bytes the bytes of
-// eight rows at one place of each of two words, and the last one divides these words.
+/// Transposes the eight bytes of each word of eight rows. Three steps give each 16 bytes the bytes of
+/// eight rows at one place of each of two words, and the last one divides these words.
 #[inline(always)]
-fn exchange_bytes<S: Slice>(rows: [S; 8]) -> [S; 8]
+pub(super) fn exchange_bytes<S: Slice>(rows: [S; 8]) -> [S; 8]
     ensures { AreBytesExchanged S.BATCH S.place_bit rows result }
 {
     join_pairs(interleave_pairs(interleave_pairs(interleave_pairs(rows))))
@@ -70,91 +72,125 @@ fn exchange_bits<S: Slice>(rows: [S; 8]) -> [S; 8]
     exchange_pairs(rows, 1, 0x5555555555555555)
 }
 
-// Every eighth row, from row i on.
+// The row of a bit of a byte, both from 0. In a half, eight rows side by side have one bit of each byte,
+// from the last byte to the first; the left half has the second bit, the fourth, and so on.
 #[inline(always)]
-fn every_eighth<S: Slice>(rows: &Rows<S>, i: usize) -> [S; 8]
-    requires { i < 8 }
+fn row<S: Slice>(left: &Half<S>, right: &Half<S>, byte: usize, bit: usize) -> S
+    requires of_eight { byte < 8 }
+    requires of_a_byte { bit < 8 }
+    ensures { InEachBlock S.BATCH (λ b. S.place_bit b result
+        ≡ slice_index_or (bits_of_halves (S.place_bit b) left.now right.now) (8 * byte + bit) false) }
+{
+    let place = 8 * (bit / 2) + 7 - byte;
+    if bit % 2 == 0 {
+        right[place]
+    } else {
+        left[place]
+    }
+}
+
+// Writes the row of a bit of a byte.
+#[inline(always)]
+fn write_row<S: Slice>(left: &mut Half<S>, right: &mut Half<S>, byte: usize, bit: usize, row: S)
+    requires of_eight { byte < 8 }
+    requires of_a_byte { bit < 8 }
+    ensures { InEachBlock S.BATCH (λ b. bits_of_halves (S.place_bit b) left.new right.new
+        ≡ slice_set (bits_of_halves (S.place_bit b) left.old right.old) (8 * byte + bit)
+        (S.place_bit b row)) }
+{
+    let place = 8 * (bit / 2) + 7 - byte;
+    if bit % 2 == 0 {
+        right[place] = row;
+    } else {
+        left[place] = row;
+    }
+}
+
+/// The rows of a bit of each byte: every eighth row.
+#[inline(always)]
+pub(super) fn every_eighth<S: Slice>(left: &Half<S>, right: &Half<S>, bit: usize) -> [S; 8]
+    requires { bit < 8 }
     ensures { InEachBlock S.BATCH (λ b. (j : ℕ) → j < 8
         → slice_index_or (map (S.place_bit b) result) j false
-        ≡ slice_index_or (map (S.place_bit b) rows.now) (8 * j + i) false) }
+        ≡ slice_index_or (bits_of_halves (S.place_bit b) left.now right.now) (8 * j + bit) false) }
 {
     [
-        rows[i],
-        rows[8 + i],
-        rows[16 + i],
-        rows[24 + i],
-        rows[32 + i],
-        rows[40 + i],
-        rows[48 + i],
-        rows[56 + i],
+        row(left, right, 0, bit),
+        row(left, right, 1, bit),
+        row(left, right, 2, bit),
+        row(left, right, 3, bit),
+        row(left, right, 4, bit),
+        row(left, right, 5, bit),
+        row(left, right, 6, bit),
+        row(left, right, 7, bit),
     ]
 }
 
-// Writes eight rows in the place of every eighth row, from row i on.
+/// Writes the rows of a bit of each byte.
 #[inline(always)]
-fn write_every_eighth<S: Slice>(rows: &mut Rows<S>, i: usize, eight: [S; 8])
-    requires { i < 8 }
+pub(super) fn write_every_eighth<S: Slice>(
+    left: &mut Half<S>,
+    right: &mut Half<S>,
+    bit: usize,
+    eight: [S; 8],
+)
+    requires { bit < 8 }
     ensures written { InEachBlock S.BATCH (λ b. (j : ℕ) → j < 8
-        → slice_index_or (map (S.place_bit b) rows.new) (8 * j + i) false
+        → slice_index_or (bits_of_halves (S.place_bit b) left.new right.new) (8 * j + bit) false
         ≡ slice_index_or (map (S.place_bit b) eight) j false) }
-    ensures kept { InEachBlock S.BATCH (λ b. (m : ℕ) → m % 8 ≢ i
-        → slice_index_or (map (S.place_bit b) rows.new) m false
-        ≡ slice_index_or (map (S.place_bit b) rows.old) m false) }
-    ensures count { length rows.new ≡ 64 }
+    ensures kept { InEachBlock S.BATCH (λ b. (m : ℕ) → m % 8 ≢ bit
+        → slice_index_or (bits_of_halves (S.place_bit b) left.new right.new) m false
+        ≡ slice_index_or (bits_of_halves (S.place_bit b) left.old right.old) m false) }
 {
-    for j in 0..8usize {
-        rows[8 * j + i] = eight[j];
+    for byte in 0..8usize {
+        write_row(left, right, byte, bit, eight[byte]);
     }
 }
 
-// Eight rows side by side, from row 8 * i on.
+// The rows of the bits of a byte.
 #[inline(always)]
-fn eight_rows<S: Slice>(rows: &Rows<S>, i: usize) -> [S; 8]
-    requires { i < 8 }
+fn eight_rows<S: Slice>(left: &Half<S>, right: &Half<S>, byte: usize) -> [S; 8]
+    requires { byte < 8 }
     ensures { InEachBlock S.BATCH (λ b. (j : ℕ) → j < 8
         → slice_index_or (map (S.place_bit b) result) j false
-        ≡ slice_index_or (map (S.place_bit b) rows.now) (8 * i + j) false) }
+        ≡ slice_index_or (bits_of_halves (S.place_bit b) left.now right.now) (8 * byte + j) false) }
 {
     [
-        rows[8 * i],
-        rows[8 * i + 1],
-        rows[8 * i + 2],
-        rows[8 * i + 3],
-        rows[8 * i + 4],
-        rows[8 * i + 5],
-        rows[8 * i + 6],
-        rows[8 * i + 7],
+        row(left, right, byte, 0),
+        row(left, right, byte, 1),
+        row(left, right, byte, 2),
+        row(left, right, byte, 3),
+        row(left, right, byte, 4),
+        row(left, right, byte, 5),
+        row(left, right, byte, 6),
+        row(left, right, byte, 7),
     ]
 }
 
-// Writes eight rows side by side, from row 8 * i on.
+// Writes the rows of the bits of a byte.
 #[inline(always)]
-fn write_eight<S: Slice>(rows: &mut Rows<S>, i: usize, eight: [S; 8])
-    requires { i < 8 }
+fn write_eight<S: Slice>(left: &mut Half<S>, right: &mut Half<S>, byte: usize, eight: [S; 8])
+    requires { byte < 8 }
     ensures written { InEachBlock S.BATCH (λ b. (j : ℕ) → j < 8
-        → slice_index_or (map (S.place_bit b) rows.new) (8 * i + j) false
+        → slice_index_or (bits_of_halves (S.place_bit b) left.new right.new) (8 * byte + j) false
         ≡ slice_index_or (map (S.place_bit b) eight) j false) }
-    ensures kept { InEachBlock S.BATCH (λ b. (m : ℕ) → m / 8 ≢ i
-        → slice_index_or (map (S.place_bit b) rows.new) m false
-        ≡ slice_index_or (map (S.place_bit b) rows.old) m false) }
-    ensures count { length rows.new ≡ 64 }
+    ensures kept { InEachBlock S.BATCH (λ b. (m : ℕ) → m / 8 ≢ byte
+        → slice_index_or (bits_of_halves (S.place_bit b) left.new right.new) m false
+        ≡ slice_index_or (bits_of_halves (S.place_bit b) left.old right.old) m false) }
 {
-    for j in 0..8usize {
-        rows[8 * i + j] = eight[j];
+    for bit in 0..8usize {
+        write_row(left, right, byte, bit, eight[bit]);
     }
 }
 
-/// Transposes the rows in each word: bit n of row m becomes bit m of row n.
-pub(crate) fn transpose<S: Slice>(rows: &mut Rows<S>)
-    ensures transposed { AreTransposed S.BATCH S.place_bit rows.old rows.new }
-    ensures count { length rows.new ≡ 64 }
+/// Transposes the bits of each byte across the eight rows of its bits.
+#[inline(always)]
+pub(super) fn transpose_bits<S: Slice>(left: &mut Half<S>, right: &mut Half<S>)
+    ensures { AreBitsTransposed S.BATCH (λ b. bits_of_halves (S.place_bit b) left.old right.old)
+        (λ b. bits_of_halves (S.place_bit b) left.new right.new) }
 {
-    'bytes: for i in 0..8usize {
-        let eight = exchange_bytes(every_eighth(rows, i));
-        write_every_eighth(rows, i, eight);
-    }
-    'bits: for i in 0..8usize {
-        let eight = exchange_bits(eight_rows(rows, i));
-        write_eight(rows, i, eight);
+    'bytes: for byte in 0..8usize {
+        let eight = exchange_bits(eight_rows(left, right, byte));
+        write_eight(left, right, byte, eight);
     }
 }

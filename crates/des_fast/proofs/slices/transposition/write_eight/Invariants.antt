@@ -1,12 +1,12 @@
--- The first j are written.
-use Rattle.std.proofs.Common.{◌≡◌, length}
+-- The first rows are written.
+use Rattle.std.proofs.Common.{map}
 use Rattle.des_fast.specs.Slices.{InEachBlock}
-use Rattle.des_fast.proofs.EightRows.{AreWrittenAt}
-use Rattle.des_fast.proofs.Stages.{beside_place}
+use Rattle.des_fast.specs.Transposition.{bits_of_halves}
+use Rattle.des_fast.proofs.EightRows.{AreWrittenAt, beside_place}
 use Rattle.des_fast.proofs.slices.transposition.write_eight.Given as goal
 
-abbrev pub invariant-loop-j : goal.invariant-loop-j
-invariant-loop-j g l =
-    (length l.rows ≡ 64)
-    × InEachBlock g.S.Slice.BATCH
-    (λ b. AreWrittenAt (g.S.Slice.place_bit b) (beside_place l.i) l.eight l.initial.rows l.rows l.j)
+abbrev pub invariant-loop-bit : goal.invariant-loop-bit
+invariant-loop-bit g l =
+    InEachBlock g.S.Slice.BATCH (λ b. let read = g.S.Slice.place_bit b in
+    AreWrittenAt (beside_place l.byte) (map read l.eight) (bits_of_halves read l.initial.left l.initial.right)
+    (bits_of_halves read l.left l.right) l.bit)

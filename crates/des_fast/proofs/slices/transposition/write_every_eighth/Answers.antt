@@ -1,29 +1,29 @@
 -- Row by row.
-use Rattle.std.proofs.Common.{ℕ, ◌<◌, false, refl, sym, ◌∙◌, arith}
-use Rattle.std.proofs.lemmas.List.{length-set, get_or-map}
-use Rattle.des_fast.proofs.EightRows.{AreWrittenAt-more}
-use Rattle.des_fast.proofs.Stages.{apart_place}
+use Rattle.std.proofs.Common.{ℕ, ◌++◌, List, Bool, false, map, refl, sym, arith}
+use Rattle.std.proofs.lemmas.List.{get_or-map}
+use Rattle.des.specs.Tables.{final_permutation}
+use Rattle.des.specs.Laws.Selections.{length-select}
+use Rattle.des_fast.specs.Transposition.{bits_of_halves}
+use Rattle.des_fast.proofs.EightRows.{AreWrittenAt-more, apart_place}
 use Rattle.des_fast.proofs.slices.transposition.write_every_eighth.Goals as goal
 
-pub loop-j-init : goal.loop-j-init
-loop-j-init g c = (omega arith, λ b within. (λ j below. absurd (omega arith), λ m elsewhere. refl))
+pub loop-byte-init : goal.loop-byte-init
+loop-byte-init g c b within = (λ j below. absurd (omega arith), λ m elsewhere. refl)
 
-pub loop-j-preserved : goal.loop-j-preserved
-loop-j-preserved g c =
-    let i : ℕ = c.args.i in
-    let j : ℕ = c.loop-j.j in
-    let inside : apart_place i j < 64 = omega (arith, c.requires) in (
-      length-set c.loop-j.rows (apart_place i j) _ ∙ c.loop-j.invariant.0,
-      λ b within.
-          AreWrittenAt-more (g.S.Slice.place_bit b) (apart_place i) c.args.eight c.args.rows.now c.loop-j.rows j _
-          (omega arith) (omega (arith, c.loop-j.invariant.0)) (λ k low q. absurd (omega arith))
-          (sym (get_or-map (g.S.Slice.place_bit b) c.args.eight j _ false (omega arith)))
-          (c.loop-j.invariant.1 b within),
-    )
+pub loop-byte-preserved : goal.loop-byte-preserved
+loop-byte-preserved g c b within =
+    let read = g.S.Slice.place_bit b in
+    let i : ℕ = c.args.bit in
+    let j : ℕ = c.loop-byte.byte in
+    let bits : List Bool = bits_of_halves read c.loop-byte.left c.loop-byte.right in
+    AreWrittenAt-more (apart_place i) (map read c.args.eight) (bits_of_halves read c.args.left.now c.args.right.now) bits
+    (bits_of_halves read c.write_row.new.left c.write_row.new.right) j _
+    (omega arith) (omega (arith, c.requires, length-select final_permutation (map read c.loop-byte.left ++ map read c.loop-byte.right)))
+    (λ k low q. absurd (omega arith)) (sym (get_or-map read c.args.eight j _ false (omega arith)))
+    (c.write_row.ensures b within) (c.loop-byte.invariant b within)
 
 pub returns : goal.returns
 returns g c = record {
-  written = λ b within j below. (c.loop-j.invariant.1 b within).0 j (omega arith);
-  kept = λ b within m other. (c.loop-j.invariant.1 b within).1 m (λ j below q. other (omega (arith, c.requires)));
-  count = c.loop-j.invariant.0;
+  written = λ b within j below. (c.loop-byte.invariant b within).0 j (omega arith);
+  kept = λ b within m other. (c.loop-byte.invariant b within).1 m (λ j below q. other (omega (arith, c.requires)));
 }
