@@ -71,9 +71,9 @@ pub(crate) fn read_blocks<S: Slice>(left: &mut Half<S>, right: &mut Half<S>, blo
     requires { length blocks.now ≡ S.BATCH }
     ensures { AreSlicesOf S.BATCH S.bit blocks.now left.new right.new }
 {
-    'bits: for bit in 0..8usize {
-        let eight = exchange_bytes(rows_of_blocks(blocks, bit));
-        write_every_eighth(left, right, bit, eight);
+    'bytes: for i in 0..8usize {
+        let eight = exchange_bytes(rows_of_blocks(blocks, i));
+        write_every_eighth(left, right, i, eight);
     }
     transpose_bits(left, right);
 }
@@ -89,8 +89,8 @@ pub(crate) fn write_blocks<S: Slice>(
     ensures count { length blocks.new ≡ length blocks.old }
 {
     transpose_bits(left, right);
-    'bits: for bit in 0..8usize {
-        let eight = exchange_bytes(every_eighth(left, right, bit));
-        write_rows(blocks, bit, &eight);
+    'bytes: for i in 0..8usize {
+        let eight = exchange_bytes(every_eighth(left, right, i));
+        write_rows(blocks, i, &eight);
     }
 }

@@ -72,8 +72,8 @@ fn exchange_bits<S: Slice>(rows: [S; 8]) -> [S; 8]
     exchange_pairs(rows, 1, 0x5555555555555555)
 }
 
-// The row of a bit of a byte, both from 0. In a half, eight rows side by side have one bit of each byte,
-// from the last byte to the first; the left half has the second bit, the fourth, and so on.
+// The row of a bit of a byte, both from 0. Eight rows side by side in a half are those of one bit of each
+// byte, from the last byte to the first; the left half has the second bit, the fourth, and so on.
 #[inline(always)]
 fn row<S: Slice>(left: &Half<S>, right: &Half<S>, byte: usize, bit: usize) -> S
     requires of_eight { byte < 8 }
@@ -106,91 +106,91 @@ fn write_row<S: Slice>(left: &mut Half<S>, right: &mut Half<S>, byte: usize, bit
     }
 }
 
-/// The rows of a bit of each byte: every eighth row.
+/// Every eighth row, from row i on.
 #[inline(always)]
-pub(super) fn every_eighth<S: Slice>(left: &Half<S>, right: &Half<S>, bit: usize) -> [S; 8]
-    requires { bit < 8 }
+pub(super) fn every_eighth<S: Slice>(left: &Half<S>, right: &Half<S>, i: usize) -> [S; 8]
+    requires { i < 8 }
     ensures { InEachBlock S.BATCH (λ b. (j : ℕ) → j < 8
         → slice_index_or (map (S.place_bit b) result) j false
-        ≡ slice_index_or (bits_of_halves (S.place_bit b) left.now right.now) (8 * j + bit) false) }
+        ≡ slice_index_or (bits_of_halves (S.place_bit b) left.now right.now) (8 * j + i) false) }
 {
     [
-        row(left, right, 0, bit),
-        row(left, right, 1, bit),
-        row(left, right, 2, bit),
-        row(left, right, 3, bit),
-        row(left, right, 4, bit),
-        row(left, right, 5, bit),
-        row(left, right, 6, bit),
-        row(left, right, 7, bit),
+        row(left, right, 0, i),
+        row(left, right, 1, i),
+        row(left, right, 2, i),
+        row(left, right, 3, i),
+        row(left, right, 4, i),
+        row(left, right, 5, i),
+        row(left, right, 6, i),
+        row(left, right, 7, i),
     ]
 }
 
-/// Writes the rows of a bit of each byte.
+/// Writes eight rows in the place of every eighth row, from row i on.
 #[inline(always)]
 pub(super) fn write_every_eighth<S: Slice>(
     left: &mut Half<S>,
     right: &mut Half<S>,
-    bit: usize,
+    i: usize,
     eight: [S; 8],
 )
-    requires { bit < 8 }
+    requires { i < 8 }
     ensures written { InEachBlock S.BATCH (λ b. (j : ℕ) → j < 8
-        → slice_index_or (bits_of_halves (S.place_bit b) left.new right.new) (8 * j + bit) false
+        → slice_index_or (bits_of_halves (S.place_bit b) left.new right.new) (8 * j + i) false
         ≡ slice_index_or (map (S.place_bit b) eight) j false) }
-    ensures kept { InEachBlock S.BATCH (λ b. (m : ℕ) → m % 8 ≢ bit
+    ensures kept { InEachBlock S.BATCH (λ b. (m : ℕ) → m % 8 ≢ i
         → slice_index_or (bits_of_halves (S.place_bit b) left.new right.new) m false
         ≡ slice_index_or (bits_of_halves (S.place_bit b) left.old right.old) m false) }
 {
-    for byte in 0..8usize {
-        write_row(left, right, byte, bit, eight[byte]);
+    for j in 0..8usize {
+        write_row(left, right, j, i, eight[j]);
     }
 }
 
-// The rows of the bits of a byte.
+// Eight rows side by side, from row 8 * i on.
 #[inline(always)]
-fn eight_rows<S: Slice>(left: &Half<S>, right: &Half<S>, byte: usize) -> [S; 8]
-    requires { byte < 8 }
+fn eight_rows<S: Slice>(left: &Half<S>, right: &Half<S>, i: usize) -> [S; 8]
+    requires { i < 8 }
     ensures { InEachBlock S.BATCH (λ b. (j : ℕ) → j < 8
         → slice_index_or (map (S.place_bit b) result) j false
-        ≡ slice_index_or (bits_of_halves (S.place_bit b) left.now right.now) (8 * byte + j) false) }
+        ≡ slice_index_or (bits_of_halves (S.place_bit b) left.now right.now) (8 * i + j) false) }
 {
     [
-        row(left, right, byte, 0),
-        row(left, right, byte, 1),
-        row(left, right, byte, 2),
-        row(left, right, byte, 3),
-        row(left, right, byte, 4),
-        row(left, right, byte, 5),
-        row(left, right, byte, 6),
-        row(left, right, byte, 7),
+        row(left, right, i, 0),
+        row(left, right, i, 1),
+        row(left, right, i, 2),
+        row(left, right, i, 3),
+        row(left, right, i, 4),
+        row(left, right, i, 5),
+        row(left, right, i, 6),
+        row(left, right, i, 7),
     ]
 }
 
-// Writes the rows of the bits of a byte.
+// Writes eight rows side by side, from row 8 * i on.
 #[inline(always)]
-fn write_eight<S: Slice>(left: &mut Half<S>, right: &mut Half<S>, byte: usize, eight: [S; 8])
-    requires { byte < 8 }
+fn write_eight<S: Slice>(left: &mut Half<S>, right: &mut Half<S>, i: usize, eight: [S; 8])
+    requires { i < 8 }
     ensures written { InEachBlock S.BATCH (λ b. (j : ℕ) → j < 8
-        → slice_index_or (bits_of_halves (S.place_bit b) left.new right.new) (8 * byte + j) false
+        → slice_index_or (bits_of_halves (S.place_bit b) left.new right.new) (8 * i + j) false
         ≡ slice_index_or (map (S.place_bit b) eight) j false) }
-    ensures kept { InEachBlock S.BATCH (λ b. (m : ℕ) → m / 8 ≢ byte
+    ensures kept { InEachBlock S.BATCH (λ b. (m : ℕ) → m / 8 ≢ i
         → slice_index_or (bits_of_halves (S.place_bit b) left.new right.new) m false
         ≡ slice_index_or (bits_of_halves (S.place_bit b) left.old right.old) m false) }
 {
-    for bit in 0..8usize {
-        write_row(left, right, byte, bit, eight[bit]);
+    for j in 0..8usize {
+        write_row(left, right, i, j, eight[j]);
     }
 }
 
-/// Transposes the bits of each byte across the eight rows of its bits.
+/// Transposes the bits of each byte across the eight rows of its number.
 #[inline(always)]
 pub(super) fn transpose_bits<S: Slice>(left: &mut Half<S>, right: &mut Half<S>)
     ensures { AreBitsTransposed S.BATCH (λ b. bits_of_halves (S.place_bit b) left.old right.old)
         (λ b. bits_of_halves (S.place_bit b) left.new right.new) }
 {
-    'bytes: for byte in 0..8usize {
-        let eight = exchange_bits(eight_rows(left, right, byte));
-        write_eight(left, right, byte, eight);
+    'bits: for i in 0..8usize {
+        let eight = exchange_bits(eight_rows(left, right, i));
+        write_eight(left, right, i, eight);
     }
 }

@@ -4,18 +4,18 @@ use Rattle.des_fast.specs.Transposition.{bits_of_halves}
 use Rattle.des_fast.proofs.TransposedRows.{AreTransposedBelow-more}
 use Rattle.des_fast.proofs.slices.transposition.transpose_bits.Goals as goal
 
-pub bytes-init : goal.bytes-init
-bytes-init g c m below b within = (λ none. absurd (omega arith), λ all. refl)
+pub bits-init : goal.bits-init
+bits-init g c m below b within = (λ none. absurd (omega arith), λ all. refl)
 
-pub bytes-preserved : goal.bytes-preserved
-bytes-preserved g c =
+pub bits-preserved : goal.bits-preserved
+bits-preserved g c =
     AreTransposedBelow-more g.S.Slice.BATCH g.S.Slice.place_bit
     (λ b. bits_of_halves (g.S.Slice.place_bit b) c.args.left.now c.args.right.now)
-    (λ b. bits_of_halves (g.S.Slice.place_bit b) c.bytes.left c.bytes.right)
+    (λ b. bits_of_halves (g.S.Slice.place_bit b) c.bits.left c.bits.right)
     (λ b. bits_of_halves (g.S.Slice.place_bit b) c.write_eight.new.left c.write_eight.new.right)
-    c.eight_rows.result c.exchange_bits-eight.result c.bytes.byte (omega (arith, g.met.S.Slice.whole_words)) (omega arith)
+    c.eight_rows.result c.exchange_bits-eight.result c.bits.i (omega (arith, g.met.S.Slice.whole_words)) (omega arith)
     c.eight_rows.ensures c.exchange_bits-eight.ensures c.write_eight.ensures.written c.write_eight.ensures.kept
-    c.bytes.invariant
+    c.bits.invariant
 
 pub returns : goal.returns
-returns g c m below b within = (c.bytes.invariant m below b within).0 (omega arith)
+returns g c m below b within = (c.bits.invariant m below b within).0 (omega arith)

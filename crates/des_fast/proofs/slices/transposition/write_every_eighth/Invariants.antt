@@ -5,8 +5,8 @@ use Rattle.des_fast.specs.Transposition.{bits_of_halves}
 use Rattle.des_fast.proofs.EightRows.{AreWrittenAt, apart_place}
 use Rattle.des_fast.proofs.slices.transposition.write_every_eighth.Given as goal
 
-abbrev pub invariant-loop-byte : goal.invariant-loop-byte
-invariant-loop-byte g l =
+abbrev pub invariant-loop-j : goal.invariant-loop-j
+invariant-loop-j g l =
     InEachBlock g.S.Slice.BATCH (λ b. let read = g.S.Slice.place_bit b in
-    AreWrittenAt (apart_place l.bit) (map read l.eight) (bits_of_halves read l.initial.left l.initial.right)
-    (bits_of_halves read l.left l.right) l.byte)
+    AreWrittenAt (apart_place l.i) (map read l.eight) (bits_of_halves read l.initial.left l.initial.right)
+    (bits_of_halves read l.left l.right) l.j)
