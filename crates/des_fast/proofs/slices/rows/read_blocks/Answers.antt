@@ -1,5 +1,5 @@
 -- The bytes, and then the bits.
-use Rattle.std.proofs.Common.{ℕ, ◌/◌, ◌%◌, List, Bool, ap, subst, sym, ◌∙◌, arith, inl, inr}
+use Rattle.std.proofs.Common.{ℕ, ◌/◌, ◌%◌, List, Bool, ◌∙◌, arith, inl, inr}
 use Rattle.std.proofs.lemmas.Bool.{cases_eq}
 use Rattle.des_fast.specs.Transposition.{bits_of_halves}
 use Rattle.des_fast.proofs.BlockRows.{IsPlaced-block}

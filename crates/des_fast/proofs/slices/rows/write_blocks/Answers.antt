@@ -1,5 +1,5 @@
 -- The bits, and then the bytes.
-use Rattle.std.proofs.Common.{ℕ, ◌/◌, ◌%◌, List, Bool, ap, sym, ◌∙◌, arith, inl, inr}
+use Rattle.std.proofs.Common.{ℕ, ◌/◌, ◌%◌, ap, ◌∙◌, arith, inl, inr}
 use Rattle.std.proofs.lemmas.Bool.{cases_eq}
 use Rattle.des.specs.Blocks.{block_of_bits}
 use Rattle.des_fast.specs.Transposition.{bits_of_halves}

@@ -1,5 +1,5 @@
 -- Byte by byte.
-use Rattle.std.proofs.Common.{ℕ, List, Bool, refl, arith}
+use Rattle.std.proofs.Common.{refl, arith}
 use Rattle.des_fast.specs.Transposition.{bits_of_halves}
 use Rattle.des_fast.proofs.TransposedRows.{AreTransposedBelow-more}
 use Rattle.des_fast.proofs.slices.transposition.transpose_bits.Goals as goal
