@@ -384,30 +384,78 @@ static void wrapped_keys(void) {
     }
 }
 
-/* The reports of one unwrapping under a hidden protection key. The bit of that number, if there is one, is changed. */
-static unsigned reports_of_unwrapping(bool is_tkw, size_t size, size_t bit) {
+/* Encloses in place a vector, a key and its check, as the key wrap of CMS does (RFC 3217, 3.1). */
+static void enclose(const struct path *path, const union context *context, uint8_t bytes[40]) {
+  uint8_t chain[8], second[8] = {0x4a, 0xdd, 0xa2, 0x2c, 0x79, 0xe8, 0x21, 0x05};
+  memcpy(chain, bytes, sizeof chain);
+  CHECK(path->encrypt_cbc(context, chain, bytes + 8, 32) == CUKVASHE_OK);
+  for (size_t i = 0; i < 20; i++) {
+    const uint8_t byte = bytes[i];
+    bytes[i] = bytes[39 - i];
+    bytes[39 - i] = byte;
+  }
+  CHECK(path->encrypt_cbc(context, second, bytes, 40) == CUKVASHE_OK);
+}
+
+/* Transforms in place a check and a key, as TKW does (NIST SP 800-38F, 7). */
+static void transform(const struct path *path, const union context *context, uint8_t bytes[28]) {
+  for (size_t step = 0; step < 6 * 6; step++) {
+    uint8_t block[8], *word = bytes + 4 + 4 * (step % 6);
+    memcpy(block, bytes, 4);
+    memcpy(block + 4, word, 4);
+    CHECK(path->encrypt_ecb(context, block, sizeof block) == CUKVASHE_OK);
+    block[3] ^= (uint8_t)(step + 1);
+    memcpy(bytes, block, 4);
+    memcpy(word, block + 4, 4);
+  }
+}
+
+/* Wraps the 24 bytes at `data` under the key of `size` bytes at `key`, by ciphers alone, so that the check of the key can be wrong: it is in
+   the bytes whose bits are set. Returns the length. EVP_BytesToKey hashes the 24 bytes, as a password and a salt. */
+static size_t wrap_with_check(bool is_tkw, size_t size, unsigned wrong, uint8_t wrapped[40]) {
+  const struct cipher *cipher = &ciphers[size == 16 ? EDE2 : EDE3];
+  uint8_t *check = is_tkw ? wrapped : wrapped + 32;
+  union context context;
+  CHECK(cipher->init(&context, key, size) == CUKVASHE_OK);
+  memcpy(wrapped, iv, sizeof iv);
+  memcpy(wrapped + (is_tkw ? 4 : 8), data, 24);
+  if (is_tkw) memset(check, 0xa6, 4);
+  else CHECK(cukvashe_bytes_to_key(CUKVASHE_SHA1, data, 16, data + 16, 8, check, 8) == CUKVASHE_OK);
+  for (unsigned place = 0; place < 8; place++)
+    if (wrong >> place & 1) check[place] ^= 0x80;
+  (is_tkw ? transform : enclose)(&cipher->paths[PUBLIC_PATH], &context, wrapped);
+  return is_tkw ? 28 : 40;
+}
+
+/* The reports of one unwrapping under a hidden protection key. The check is wrong in the bytes whose bits are set, and of what is wrapped the
+   bit of that number, if there is one, is changed. */
+static unsigned reports_of_unwrapping(bool is_tkw, size_t size, unsigned wrong, size_t bit) {
   uint8_t wrapped[40];
-  size_t length, key_length;
+  size_t key_length;
   random_bytes(key, sizeof key);
   random_bytes(data, 24);
-  if (is_tkw) CHECK(cukvashe_tkw_wrap_key(key, size, data, 24, wrapped, sizeof wrapped, &length) == CUKVASHE_OK);
-  else CHECK(cukvashe_cms_wrap_key(key, size, iv, data, 24, wrapped, sizeof wrapped, &length) == CUKVASHE_OK);
+  const size_t length = wrap_with_check(is_tkw, size, wrong, wrapped);
+  const bool is_right = wrong == 0 && bit >= 8 * length;
   if (bit < 8 * length) wrapped[bit / 8] ^= (uint8_t)(1 << bit % 8);
   (void)VALGRIND_MAKE_MEM_UNDEFINED(key, sizeof key);
   const unsigned before = VALGRIND_COUNT_ERRORS;
   const int status = (is_tkw ? cukvashe_tkw_unwrap_key : cukvashe_cms_unwrap_key)(key, size, wrapped, length, other, 24, &key_length);
   const unsigned reports = VALGRIND_COUNT_ERRORS - before;
-  CHECK(is_status(status, bit < 8 * length ? CUKVASHE_ERR_WRAPPED_KEY : CUKVASHE_OK));
+  CHECK(is_status(status, is_right ? CUKVASHE_OK : CUKVASHE_ERR_WRAPPED_KEY));
   return reports;
 }
 
-/* Whether something wraps a key decides a branch, whatever is wrong with it: as many reports for each changed bit. */
+/* Whether something wraps a key decides a branch, whatever is wrong with it: as many reports for each changed bit, and for each byte of the
+   check that alone is wrong. A comparison that ended early would end after the first byte, or at the last. */
 static void unwrapped_keys(void) {
+  enum { NO_BIT = 8 * 40 };
   for (int is_tkw = 0; is_tkw < 2; is_tkw++)
     for (size_t size = 16; size <= 24; size += 8) {
-      const unsigned reports = reports_of_unwrapping(is_tkw, size, 0);
-      CHECK(reports > 0);
-      for (size_t bit = 0; bit < 8 * 28; bit += 7) CHECK(reports_of_unwrapping(is_tkw, size, bit) == reports);
+      const unsigned reports = reports_of_unwrapping(is_tkw, size, 1, NO_BIT);
+      CHECK(reports > 0 && reports_of_unwrapping(is_tkw, size, 0, NO_BIT) > 0);
+      for (unsigned place = 1; place < (is_tkw ? 4 : 8); place++)
+        CHECK(reports_of_unwrapping(is_tkw, size, 1u << place, NO_BIT) == reports);
+      for (size_t bit = 0; bit < 8 * 28; bit += 7) CHECK(reports_of_unwrapping(is_tkw, size, 0, bit) == reports);
     }
   printf("no report of the place of a changed bit\n");
 }
