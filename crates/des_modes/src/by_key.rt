@@ -1,4 +1,5 @@
-//! The key wraps in one call, by the relation of the cipher's key.
+//! The key wraps of `cms_key_wrap` and `tkw`, with contracts that name the relation of the protection
+//! key, from which the cipher is made, where theirs name the cipher's encryption.
 
 ghost use Rattle.std.specs.Prelude.{◌≡◌, ◌<◌, ◌≤◌, ◌+◌, ◌^◌, ℕ, List, length, replicate, IsOk, OnOk, OnErr};
 ghost use Rattle.std.specs.List.{All};
@@ -20,7 +21,7 @@ pub fn wrap_cms<C: Relating>(cipher: &C, iv: &[u8; 8], key: &[[u8; 8]], wrapped:
     cms_key_wrap::wrap(cipher, iv, key, wrapped);
 }
 
-/// Unwraps a key that the key wrap of CMS wrapped, as `cms_key_wrap::unwrap` does.
+/// Unwraps a key by the key wrap of CMS, as `cms_key_wrap::unwrap` does.
 pub fn unwrap_cms<C: Relating>(
     cipher: &C,
     wrapped: &[[u8; 8]],
@@ -49,7 +50,7 @@ pub fn wrap_tkw<C: Relating>(cipher: &C, key: &[[u8; 4]], wrapped: &mut [[u8; 4]
     tkw::wrap(cipher, key, wrapped);
 }
 
-/// Unwraps a key that TKW wrapped, as `tkw::unwrap` does.
+/// Unwraps a key by TKW, as `tkw::unwrap` does.
 pub fn unwrap_tkw<C: Relating>(
     cipher: &C,
     wrapped: &[[u8; 4]],

@@ -1,9 +1,9 @@
 //! The triple DES key wrap of CMS (RFC 3217, 3), over any block cipher: a key of whole blocks of 8
-//! bytes, with its checksum by SHA-1, becomes a list of two blocks more.
+//! bytes is wrapped together with its checksum by SHA-1, and becomes two blocks longer.
 //!
-//! RFC 3217 wraps keys of triple DES, of three blocks; libraries take other numbers of blocks too. The
-//! key is wrapped as it is: RFC 3217 wants odd parity before a key is wrapped and after it is
-//! unwrapped, which `des::weak_key::with_odd_parity` makes and shows.
+//! RFC 3217 wraps keys of triple DES, which have three blocks; libraries take other numbers of blocks
+//! too. The key is wrapped as it is. RFC 3217 wants odd parity before a key is wrapped and after it is
+//! unwrapped: `des::weak_key::with_odd_parity` sets it, and keeps a key that has it.
 
 ghost use Rattle.std.specs.Prelude.{◌≡◌, ◌≤◌, ◌+◌, ◌++◌, ℕ, List, [], ◌∷◌, length, drop, replicate, IsOk, OnOk, OnErr};
 ghost use Rattle.std.specs.List.{All};
@@ -40,7 +40,7 @@ fn reverse_bytes(blocks: &mut [[u8; 8]])
     }
 }
 
-// Writes a key and its checksum.
+// Writes a key, and its checksum behind it.
 fn write_checked(checked: &mut [[u8; 8]], key: &[[u8; 8]])
     requires { length checked.old ≡ length key.now + 1 }
     ensures { checked.new ≡ key.now ++ checksum_of key.now ∷ [] }
@@ -65,7 +65,7 @@ fn enclose<C: BlockCipherEncrypt>(cipher: &C, iv: &[u8; 8], blocks: &mut [[u8; 8
     cbc::encrypt(cipher, &SECOND_IV, blocks);
 }
 
-// Decrypts a list that was chained, and the block that was chained behind it.
+// Decrypts a list of blocks by CBC, and the block that follows it.
 fn decrypt<C: BlockCipher>(cipher: &C, iv: &[u8; 8], blocks: &mut [[u8; 8]], last: &mut [u8; 8])
     ensures ciphertext { All IsBlock (blocks.old ++ last.old ∷ []) }
     ensures plaintext { All IsBlock (blocks.new ++ last.new ∷ []) }
@@ -81,7 +81,8 @@ fn decrypt<C: BlockCipher>(cipher: &C, iv: &[u8; 8], blocks: &mut [[u8; 8]], las
     are_bytes(last);
 }
 
-// Writes the key that was enclosed. The answer is its initialization vector, and the block behind it.
+// Undoes `enclose`: writes the key, and returns the initialization vector and the block behind the key,
+// which is to be its checksum.
 fn open<C: BlockCipher>(cipher: &C, enclosed: &[[u8; 8]], key: &mut [[u8; 8]]) -> ([u8; 8], [u8; 8])
     requires { length enclosed.now ≡ length key.old + 2 }
     ensures vector { IsBlock result.0 }
@@ -103,8 +104,8 @@ fn open<C: BlockCipher>(cipher: &C, enclosed: &[[u8; 8]], key: &mut [[u8; 8]]) -
     (last, first)
 }
 
-/// Wraps a key into a list of two blocks more. The initialization vector must be random, eight bytes
-/// that nobody can predict.
+/// Wraps a key into a list that is two blocks longer. The initialization vector must be random: eight
+/// bytes that nobody can predict.
 pub fn wrap<C: BlockCipherEncrypt>(
     cipher: &C,
     iv: &[u8; 8],
@@ -120,8 +121,8 @@ pub fn wrap<C: BlockCipherEncrypt>(
     enclose(cipher, iv, wrapped);
 }
 
-/// Unwraps a key into a list of two blocks less. If `wrapped` wraps no key under this cipher, the
-/// answer is `UnwrapError`, and the list is zeros. Every byte of the checksum is compared.
+/// Unwraps a key, which is two blocks shorter than `wrapped`. If `wrapped` wraps no key under this
+/// cipher, the answer is `UnwrapError`, and `key` is zeros. Every byte of the checksum is compared.
 pub fn unwrap<C: BlockCipher>(
     cipher: &C,
     wrapped: &[[u8; 8]],

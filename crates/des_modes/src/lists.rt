@@ -1,5 +1,5 @@
-//! A cipher by its calls of lists, in the form that the modes take: the width of the batches, and whether
-//! tables may be read, are chosen once.
+//! A cipher that encrypts by its calls for lists, in the form that the modes take: the width of the
+//! batches, and whether tables may be read, are chosen once.
 
 ghost use Rattle.std.specs.Prelude.{◌≡◌};
 
@@ -7,8 +7,7 @@ use des::cipher::{BlockCipherEncrypt, OneBlockAtATime};
 use des_fast::many::{ManyBlocks, Slice};
 use std::marker::PhantomData;
 
-/// The cipher by its calls of lists, in batches of `S::BATCH` blocks. If `no_tables` is true, no table is
-/// read at an index that depends on the key or on a block.
+/// A cipher that encrypts by its calls for lists, in batches of `S::BATCH` blocks.
 #[derive(Drop)]
 pub struct ByLists<'a, C, S> {
     cipher: &'a C,
@@ -17,7 +16,8 @@ pub struct ByLists<'a, C, S> {
 }
 
 impl<'a, C: ManyBlocks, S: Slice> ByLists<'a, C, S> {
-    /// The calls of lists of the cipher.
+    /// The cipher, by its calls for lists. If `no_tables` is true, no table is read at an index that
+    /// depends on the key or on a block.
     pub fn new(cipher: &'a C, no_tables: bool) -> ByLists<'a, C, S>
         ensures { result.cipher.now ≡ cipher.now }
     {
