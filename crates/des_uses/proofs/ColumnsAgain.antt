@@ -66,7 +66,7 @@ module _ (Relates : List ℕ → List ℕ → Type 0) (back : List ℕ → List 
 
   -- ---- CBC
 
-  ciphertext-are_blocks : (iv : List ℕ) (p q : List (List ℕ)) → CbcUnder Relates iv p q → All IsBlock q
+  pub ciphertext-are_blocks : (iv : List ℕ) (p q : List (List ℕ)) → CbcUnder Relates iv p q → All IsBlock q
   ciphertext-are_blocks iv p q chains =
       All-from_get_or IsBlock q [] (λ i within.
       let this : i + 1 - 1 ≡ i = omega arith in
@@ -130,23 +130,6 @@ module _ (Relates : List ℕ → List ℕ → Type 0) (back : List ℕ → List 
         one.text_is ∙ ap (text_of form value) same ∙ sym two.text_is,
       )
 
-  -- the texts of a column are those that its values are read as
-  pub read-same : (form : ValueForm) (mode : BlockMode) (values texts : List (List ℕ)) (again lengths : List ℕ)
-      (statuses : List ℤ) → HasVector mode → length texts ≡ length values
-      → ((k : ℕ) → k < length values → IsReading form mode Relates (get_or values k []) OK (get_or texts k []))
-      → (column : IsColumnRead (IsReading form mode Relates) values again lengths statuses)
-      → (column.read ≡ texts) × All (λ status. status ≡ OK) statuses
-  read-same form mode values texts again lengths statuses vector count written column = (
-    ext_get_or [] column.read texts (column.count ∙ sym count) (λ k within.
-        let below : k < length values = omega (arith, within, column.count) in
-        (reading-same form mode (get_or values k []) (get_or column.read k []) (get_or texts k []) _ OK vector
-        (column.reads k below) (written k below)).1),
-    All-from_get_or (λ status. status ≡ OK) statuses OK (λ k within.
-        let below : k < length values = omega (arith, within, column.statuses_count) in
-        (reading-same form mode (get_or values k []) (get_or column.read k []) (get_or texts k []) _ OK vector
-        (column.reads k below) (written k below)).0),
-  )
-
 -- ---- the values of a column, by their lengths
 
 pub pieces-joined : (values : List (List ℕ)) → pieces (map length values) (joined values) ≡ values
@@ -155,20 +138,21 @@ pieces-joined (value ∷ values) =
     ap₂ ◌∷◌ (take_at value (joined values) (length value) refl)
     (ap (pieces (map length values)) (drop_at value (joined values) (length value) refl) ∙ pieces-joined values)
 
--- each is as long as its text needs
-lengths-written : (size_of : ℕ → ℕ) (P : List ℕ → List ℕ → Type 0) (lengths bytes values : List ℕ)
-    → sum lengths ≡ length bytes → (column : IsColumnWritten size_of P (pieces lengths bytes) values)
-    → map length column.written ≡ map size_of lengths
-lengths-written size_of P lengths bytes values whole column =
-    let count : length column.written ≡ length lengths = column.count ∙ length-pieces lengths bytes in
-    ext_get_or 0 (map length column.written) (map size_of lengths)
-    (length-map column.written length ∙ count ∙ sym (length-map lengths size_of)) (λ k within.
+-- each is as long as its text needs: `span` says how long, and `size_of` the same by what it is written of
+lengths-written : (size_of span : ℕ → ℕ) (Writes : List ℕ → List ℕ → Type 0) (sources : List (List ℕ)) (lengths values : List ℕ)
+    → length sources ≡ length lengths
+    → ((k : ℕ) → k < length lengths → size_of (length (get_or sources k [])) ≡ span (get_or lengths k 0))
+    → (column : IsColumnWritten size_of Writes sources values)
+    → map length column.written ≡ map span lengths
+lengths-written size_of span Writes sources lengths values many spans column =
+    let count : length column.written ≡ length lengths = column.count ∙ many in
+    ext_get_or 0 (map length column.written) (map span lengths)
+    (length-map column.written length ∙ count ∙ sym (length-map lengths span)) (λ k within.
     let below : k < length lengths = omega (arith, within, count, length-map column.written (length {A = ℕ})) in
-    let of_text : k < length (pieces lengths bytes) = omega (arith, below, length-pieces lengths bytes) in
     get_or-map length column.written k [] 0 (omega (arith, below, count))
-    ∙ column.sizes k of_text
-    ∙ ap size_of (length-piece lengths bytes k below whole)
-    ∙ sym (get_or-map size_of lengths k 0 0 below))
+    ∙ column.sizes k (omega (arith, below, many))
+    ∙ spans k below
+    ∙ sym (get_or-map span lengths k 0 0 below))
 
 lengths-of_pieces : (lengths bytes : List ℕ) → sum lengths ≡ length bytes → map length (pieces lengths bytes) ≡ lengths
 lengths-of_pieces lengths bytes whole =
@@ -194,8 +178,62 @@ pub record ComeAgain (lengths bytes sizes again again_lengths : List ℕ) (statu
   pub lengths_are : again_lengths ≡ lengths
   pub texts_are : again ≡ joined (zip2 (λ size text. filled_to size text) sizes (pieces lengths bytes))
 
--- they come again, if each value that is written of a text can be read as it
-texts-again : (form : ValueForm) (mode : BlockMode) (Relates : List ℕ → List ℕ → Type 0) (inverse : List ℕ → List ℕ)
+-- a value is read as one text
+module _ (Reads : List ℕ → ℤ → List ℕ → Type 0)
+    (one : (value text other : List ℕ) (status its : ℤ) → Reads value status text → Reads value its other
+    → (status ≡ its) × (text ≡ other)) where
+  -- so the texts of a column are those that its values are read as
+  read-same : (values texts : List (List ℕ)) (again lengths : List ℕ) (statuses : List ℤ) → length texts ≡ length values
+      → ((k : ℕ) → k < length values → Reads (get_or values k []) OK (get_or texts k []))
+      → (column : IsColumnRead Reads values again lengths statuses)
+      → (column.read ≡ texts) × All (λ status. status ≡ OK) statuses
+  read-same values texts again lengths statuses count written column = (
+    ext_get_or [] column.read texts (column.count ∙ sym count) (λ k within.
+        let below : k < length values = omega (arith, within, column.count) in
+        (one (get_or values k []) (get_or column.read k []) (get_or texts k []) _ OK (column.reads k below) (written k below)).1),
+    All-from_get_or (λ status. status ≡ OK) statuses OK (λ k within.
+        let below : k < length values = omega (arith, within, column.statuses_count) in
+        (one (get_or values k []) (get_or column.read k []) (get_or texts k []) _ OK (column.reads k below) (written k below)).0),
+  )
+
+  -- they come again, if each value can be read as its text
+  pub texts-again : (size_of span : ℕ → ℕ) (Writes : List ℕ → List ℕ → Type 0) (sources : List (List ℕ))
+      (lengths bytes sizes values again again_lengths : List ℕ) (statuses : List ℤ)
+      → sum lengths ≡ length bytes → length sources ≡ length lengths → sizes ≡ map span lengths
+      → ((k : ℕ) → k < length lengths → size_of (length (get_or sources k [])) ≡ span (get_or lengths k 0))
+      → ((k : ℕ) (value : List ℕ) → k < length lengths → length value ≡ size_of (length (get_or sources k []))
+      → Writes (get_or sources k []) value → Reads value OK (get_or (pieces lengths bytes) k []))
+      → IsColumnWritten size_of Writes sources values
+      → IsColumnRead Reads (pieces sizes values) again again_lengths statuses
+      → ComeAgain lengths bytes sizes again again_lengths statuses
+  texts-again size_of span Writes sources lengths bytes sizes values again again_lengths statuses whole many sized spans law
+      written column =
+      let texts : List (List ℕ) = pieces lengths bytes in
+      let sizes_are : map length written.written ≡ sizes =
+      lengths-written size_of span Writes sources lengths values many spans written ∙ sym sized in
+      let values_are : pieces sizes values ≡ written.written =
+      ap₂ pieces (sym sizes_are) written.places ∙ pieces-joined written.written in
+      let count : length texts ≡ length (pieces sizes values) =
+      length-pieces lengths bytes ∙ sym (ap length values_are ∙ written.count ∙ many) in
+      let back =
+      read-same (pieces sizes values) texts again again_lengths statuses count
+      (λ k below.
+      let here : k < length lengths = omega (arith, below, count, length-pieces lengths bytes) in
+      let source : k < length sources = omega (arith, here, many) in
+      subst (λ (l : List (List ℕ)). Reads (get_or l k []) OK (get_or texts k [])) (sym values_are)
+      (law k (get_or written.written k []) here (written.sizes k source) (written.writes k source)))
+      column in
+      record {
+        all = back.1;
+        lengths_are = column.lengths ∙ ap (map length) back.0 ∙ lengths-of_pieces lengths bytes whole;
+        texts_are =
+            column.places
+            ∙ ap joined (places-by_length (pieces sizes values) column.read
+            ∙ ap₂ (zip2 (λ size text. filled_to size text)) (ap (map length) values_are ∙ sizes_are) back.0);
+      }
+
+-- values of a form, under a key
+form-again : (form : ValueForm) (mode : BlockMode) (Relates : List ℕ → List ℕ → Type 0) (inverse : List ℕ → List ℕ)
     (Writes : List ℕ → List ℕ → Type 0) (lengths bytes sizes values again again_lengths : List ℕ) (statuses : List ℤ)
     → IsGraphOf inverse (λ y x. Relates x y) → HasVector mode
     → ((text value : List ℕ) → IsTextSize form (length text) → length value ≡ value_size form (length text)
@@ -204,30 +242,14 @@ texts-again : (form : ValueForm) (mode : BlockMode) (Relates : List ℕ → List
     → IsColumnWritten (value_size form) Writes (pieces lengths bytes) values
     → IsColumnRead (IsReading form mode Relates) (pieces sizes values) again again_lengths statuses
     → ComeAgain lengths bytes sizes again again_lengths statuses
-texts-again form mode Relates inverse Writes lengths bytes sizes values again again_lengths statuses graph vector law whole
-    fit sized written column =
-    let texts : List (List ℕ) = pieces lengths bytes in
-    let sizes_are : map length written.written ≡ sizes =
-    lengths-written (value_size form) Writes lengths bytes values whole written ∙ sym sized in
-    let values_are : pieces sizes values ≡ written.written =
-    ap₂ pieces (sym sizes_are) written.places ∙ pieces-joined written.written in
-    let count : length texts ≡ length (pieces sizes values) = sym written.count ∙ sym (ap length values_are) in
-    let back =
-    read-same Relates inverse graph form mode (pieces sizes values) texts again again_lengths statuses vector count
-    (λ k below.
-    let here : k < length texts = omega (arith, below, count) in
-    subst (λ (l : List (List ℕ)). IsReading form mode Relates (get_or l k []) OK (get_or texts k [])) (sym values_are)
-    (law (get_or texts k []) (get_or written.written k []) (texts-sized form lengths bytes whole fit k here)
-    (written.sizes k here) (written.writes k here)))
-    column in
-    record {
-      all = back.1;
-      lengths_are = column.lengths ∙ ap (map length) back.0 ∙ lengths-of_pieces lengths bytes whole;
-      texts_are =
-          column.places
-          ∙ ap joined (places-by_length (pieces sizes values) column.read
-          ∙ ap₂ (zip2 (λ size text. filled_to size text)) (ap (map length) values_are ∙ sizes_are) back.0);
-    }
+form-again form mode Relates inverse Writes lengths bytes sizes values again again_lengths statuses graph vector law whole
+    fit sized =
+    texts-again (IsReading form mode Relates)
+    (λ value text other status its. reading-same Relates inverse graph form mode value text other status its vector)
+    (value_size form) (value_size form) Writes (pieces lengths bytes) lengths bytes sizes values again again_lengths statuses
+    whole (length-pieces lengths bytes) sized (λ k below. ap (value_size form) (length-piece lengths bytes k below whole))
+    (λ k value below. law (get_or (pieces lengths bytes) k []) value
+    (texts-sized form lengths bytes whole fit k (omega (arith, below, length-pieces lengths bytes))))
 
 -- ---- of MySQL
 
@@ -237,7 +259,7 @@ pub mysql-again : (key : List ℕ) (number : ℕ) (lengths bytes sizes values ag
     → IsColumnRead (Reads key) (pieces sizes values) again again_lengths statuses
     → ComeAgain lengths bytes sizes again again_lengths statuses
 mysql-again key number lengths bytes sizes values again again_lengths statuses is_key whole =
-    texts-again Mysql (Cbc (replicate 8 0)) (EnciphersEde3 key) (ede3_decryption key) (Writes key number) lengths bytes sizes
+    form-again Mysql (Cbc (replicate 8 0)) (EnciphersEde3 key) (ede3_decryption key) (Writes key number) lengths bytes sizes
     values again again_lengths statuses (HasGraphs-Triple true true key is_key).decryption
     (refl, All-replicate (λ byte. byte < 256) 8 0 (lit< tt)) (λ text value fits. mysql-read key number text value) whole
     (λ k d below. tt)
@@ -281,6 +303,6 @@ pub pgcrypto-again : (by : Scheme) (key iv lengths bytes sizes values again agai
     → IsColumnRead (ReadsPgcrypto by key iv) (pieces sizes values) again again_lengths statuses
     → ComeAgain lengths bytes sizes again again_lengths statuses
 pgcrypto-again by key iv lengths bytes sizes values again again_lengths statuses of_key of_iv =
-    texts-again by.form (mode_by by.cipher iv) (relation_by by.cipher key) (decryption_by by.cipher key)
+    form-again by.form (mode_by by.cipher iv) (relation_by by.cipher key) (decryption_by by.cipher key)
     (WritesPgcrypto by key iv) lengths bytes sizes values again again_lengths statuses (decrypts by.cipher key of_key)
     (has-vector by.cipher iv of_iv) (pgcrypto-read by key iv)

@@ -1,5 +1,7 @@
 pub mod BlockLists
 pub mod ColumnsAgain
+pub mod DerivedKeys
+pub mod JasyptAgain
 pub mod JoinedParts
 pub mod KeyedCbc
 pub mod RelatedBlocks

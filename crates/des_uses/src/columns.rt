@@ -1,18 +1,20 @@
 //! Columns of old records that are written, and read again.
 
-ghost use Rattle.std.specs.Prelude.{◌≡◌, ◌<◌, ◌↔◌, IsSome, IsTrue, length, map, sum};
+ghost use Rattle.std.specs.Prelude.{◌≡◌, ◌≢◌, ◌+◌, ◌<◌, ◌↔◌, IsOk, IsSome, IsTrue, IfOk, OnOk, length, map, sum};
 ghost use Rattle.std.specs.List.{All};
 ghost use Rattle.std.specs.Simd.Lanes.{zip2};
 ghost use Rattle.des_columns.specs.EncryptedBytes.{joined};
 ghost use Rattle.des_columns.specs.Columns.{pieces};
 ghost use Rattle.des_columns.specs.Forms.{filled_to};
+ghost use Rattle.des_columns.specs.Jasypt.{value_size as string_size};
 ghost use Rattle.des_columns.specs.PgcryptoColumns.{form_of, scheme_of};
 ghost use Rattle.des_columns.specs.Writings.{IsTextSize, value_size};
 ghost use Rattle.des_columns.specs.declared.form.ValueForm.TheVariants.{Mysql};
 
-use des::cipher::are_bytes;
+use des::cipher::{are_blocks, are_bytes};
+use des_columns::pbe::{Algorithm, PbeError};
 use des_columns::pgcrypto::Scheme;
-use des_columns::{mysql, pgcrypto};
+use des_columns::{jasypt, mysql, pgcrypto};
 use des_fast::many::Slice;
 
 /// Writes the values of texts of a column of MySQL, and reads them under the same key: every text
@@ -80,6 +82,48 @@ pub fn pgcrypto_texts_again<S: Slice>(
         by,
         key,
         iv,
+        values,
+        value_lengths,
+        again,
+        again_lengths,
+        statuses,
+    )
+}
+
+/// Writes texts as strings of Jasypt under a password, each from a salt of its own, and reads them under
+/// the same password: every text comes back. `Derive` if there is no iteration.
+pub fn jasypt_texts_again(
+    by: Algorithm,
+    iterations: u32,
+    password: &[u8],
+    salts: &[[u8; 8]],
+    texts: &[u8],
+    lengths: &[usize],
+    values: &mut [u8],
+    value_lengths: &[usize],
+    again: &mut [u8],
+    again_lengths: &mut [usize],
+    statuses: &mut [i32],
+) -> Result<bool, PbeError>
+    requires whole { sum lengths.now ≡ length texts.now }
+    requires salts { length salts.now ≡ length lengths.now }
+    requires sizes { value_lengths.now ≡ map (λ size. string_size (8 + size)) lengths.now }
+    requires values { length values.old ≡ sum value_lengths.now }
+    requires again { length again.old ≡ length values.old }
+    requires again_lengths { length again_lengths.old ≡ length lengths.now }
+    requires statuses { length statuses.old ≡ length lengths.now }
+    ensures accepted { IsOk result ↔ (iterations ≢ 0) }
+    ensures read { IfOk result (λ all. IsTrue all) }
+    ensures lengths { OnOk result (again_lengths.new ≡ lengths.now) }
+    ensures texts { OnOk result (again.new ≡ joined (zip2 (λ size text. filled_to size text)
+        value_lengths.now (pieces lengths.now texts.now))) }
+{
+    are_blocks(salts);
+    jasypt::encrypt_values(by, iterations, password, salts, texts, lengths, values)?;
+    jasypt::decrypt_values(
+        by,
+        iterations,
+        password,
         values,
         value_lengths,
         again,

@@ -1,0 +1,76 @@
+//! Texts in CTR, OFB and CFB, over any cipher, in pieces and back: what the clauses of `Stream` give to a
+//! caller.
+
+ghost use Rattle.std.specs.Prelude.{◌≡◌, ◌↔◌, ◌*◌, ◌≤◌, ◌++◌, ℕ, List, IsTrue, IsFalse, length};
+ghost use Rattle.des.specs.Blocks.{AreBytes};
+ghost use Rattle.des_modes.specs.Ctr.{Ctr};
+ghost use Rattle.des_modes.specs.Modes.{InMode, IsMode, mode_by};
+
+use des::cipher::{BlockCipherEncrypt, are_bytes};
+use des_modes::Direction;
+use des_modes::stream::Stream;
+
+/// Encrypts a text that comes in two pieces, in the mode of a number: together they become what the text
+/// becomes as one. `false` if no mode has the number; nothing is changed then.
+pub fn encrypt_in_two_pieces<C: BlockCipherEncrypt>(
+    cipher: &C,
+    number: u32,
+    iv: &[u8; 8],
+    head: &mut [u8],
+    tail: &mut [u8],
+) -> bool
+    ensures accepted { IsTrue result ↔ IsMode number }
+    ensures whole { IsTrue result → InMode (mode_by number) (C.encrypted cipher.now) iv.now
+        (head.old ++ tail.old) (head.new ++ tail.new) }
+    ensures kept { IsFalse result → (head.new ≡ head.old) × (tail.new ≡ tail.old) }
+{
+    let Some(mut stream) = Stream::new(number, iv) else {
+        return false;
+    };
+    let mode = stream.mode().unwrap();
+    stream.apply(Direction::Encrypt, mode, cipher, head);
+    stream.apply(Direction::Encrypt, mode, cipher, tail);
+    true
+}
+
+/// Encrypts a text in two pieces, the first of `count` bytes, and decrypts it as one: it comes back.
+/// `false` if no mode has the number.
+pub fn text_again<C: BlockCipherEncrypt>(
+    cipher: &C,
+    number: u32,
+    iv: &[u8; 8],
+    text: &mut [u8],
+    count: usize,
+) -> bool
+    requires { count ≤ length text.old }
+    ensures accepted { IsTrue result ↔ IsMode number }
+    ensures same { text.new ≡ text.old }
+{
+    are_bytes(text);
+    let (head, tail) = text.split_at_mut(count);
+    if !encrypt_in_two_pieces(cipher, number, iv, head, tail) {
+        return false;
+    }
+    let mut stream = Stream::new(number, iv).unwrap();
+    let mode = stream.mode().unwrap();
+    stream.apply(Direction::Decrypt, mode, cipher, text);
+    true
+}
+
+/// Decrypts a part of what the counter mode made of a text, with no other part of it: `block` is the
+/// first counter block, and `blocks` blocks stand before the part.
+pub fn decrypt_part_of_ctr<C: BlockCipherEncrypt>(
+    cipher: &C,
+    block: &[u8; 8],
+    blocks: u64,
+    part: &mut [u8],
+)
+    ensures { (before text encrypted : List ℕ) → length before ≡ 8 * blocks → AreBytes encrypted
+        → Ctr (C.encrypted cipher.now) block.now before encrypted
+        → Ctr (C.encrypted cipher.now) block.now (before ++ text) (encrypted ++ part.old)
+        → part.new ≡ text }
+{
+    let mut stream = Stream::ctr_at(block, blocks);
+    let mode = stream.mode().unwrap();
+    stream.apply(Direction::Decrypt, mode, cipher, part);
+}
