@@ -33,27 +33,35 @@ pub fn encrypt_in_two_pieces<C: BlockCipherEncrypt>(
     true
 }
 
-/// Encrypts a text in two pieces, the first of `count` bytes, and decrypts it as one: it comes back.
-/// `false` if no mode has the number.
+/// Encrypts a text in two pieces, the first of `count` bytes, and decrypts what they became as one: the
+/// text comes back. `false` if no mode has the number.
 pub fn text_again<C: BlockCipherEncrypt>(
     cipher: &C,
     number: u32,
     iv: &[u8; 8],
-    text: &mut [u8],
+    text: &[u8],
     count: usize,
+    encrypted: &mut [u8],
+    again: &mut [u8],
 ) -> bool
-    requires { count ≤ length text.old }
+    requires count { count ≤ length text.now }
+    requires encrypted { length encrypted.old ≡ length text.now }
+    requires again { length again.old ≡ length text.now }
     ensures accepted { IsTrue result ↔ IsMode number }
-    ensures same { text.new ≡ text.old }
+    ensures encrypted { IsTrue result → InMode (mode_by number) (C.encrypted cipher.now) iv.now text.now
+        encrypted.new }
+    ensures same { IsTrue result → again.new ≡ text.now }
 {
     are_bytes(text);
-    let (head, tail) = text.split_at_mut(count);
+    encrypted.copy_from_slice(text);
+    let (head, tail) = encrypted.split_at_mut(count);
     if !encrypt_in_two_pieces(cipher, number, iv, head, tail) {
         return false;
     }
+    again.copy_from_slice(encrypted);
     let mut stream = Stream::new(number, iv).unwrap();
     let mode = stream.mode().unwrap();
-    stream.apply(Direction::Decrypt, mode, cipher, text);
+    stream.apply(Direction::Decrypt, mode, cipher, again);
     true
 }
 

@@ -1,4 +1,4 @@
-use Rattle.std.proofs.Common.{◌≡◌, ◌↔◌, ℤ, ◌+◌, Bool, IsTrue, Result, Ok, Err, IfOk, IsOk, OnOk, List, length, map, sum, refl, ap, sym, ◌∙◌}
+use Rattle.std.proofs.Common.{◌≡◌, ◌↔◌, ◌+◌, Bool, IsTrue, Result, Ok, Err, IfOk, OnOk, length, sum, refl, ap, sym, ◌∙◌}
 use Rattle.std.specs.List.{All}
 use Rattle.std.proofs.lemmas.List.{length-map}
 use Rattle.std.proofs.lemmas.List.Sums.{sum-map}
@@ -7,7 +7,6 @@ use Rattle.des_columns.specs.Columns.{pieces}
 use Rattle.des_columns.specs.Jasypt.{Reads, value_size as string_size}
 use Rattle.des_columns.specs.Readings.{IsColumnRead}
 use Rattle.des_columns.specs.declared.status.TheConstants.{OK}
-use Rattle.des_uses.proofs.ColumnsAgain.{ComeAgain}
 use Rattle.des_uses.proofs.JasyptAgain.{jasypt-again}
 use Rattle.des_uses.proofs.columns.jasypt_texts_again.Goals as goal
 
