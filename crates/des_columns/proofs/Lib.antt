@@ -1,5 +1,6 @@
 pub mod JoinedBlocks
 pub mod Pieces
+pub mod Turns
 pub mod ReadColumns
 pub mod DecryptedBlocks
 pub mod ReadValues
@@ -12,7 +13,7 @@ pub mod Base64Groups
 pub mod EncryptedBlocks
 pub mod PaddedTexts
 pub mod WrittenColumns
-pub mod GatheredTexts
+pub mod RelatedRecords
 pub mod SpreadKeySizes
 pub mod SchemeRelations
 pub mod AlgorithmKeys

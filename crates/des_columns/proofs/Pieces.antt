@@ -1,17 +1,12 @@
 -- The values of a column: each, those before one, those from one on.
-use Rattle.std.proofs.Common.{◌≡◌, ℕ, zero, suc, ◌+◌, ◌-◌, ◌/◌, ◌≤◌, ◌<◌, min, List, [], ◌∷◌, ◌++◌, length, take, drop, get_or, sum, refl, ap, ap₂, sym, ◌∙◌, arith, take-add, append_assoc, take-append-drop}
-use Rattle.std.specs.List.{flat_map}
+use Rattle.std.proofs.Common.{◌≡◌, ℕ, zero, suc, ◌+◌, ◌-◌, ◌/◌, ◌≤◌, ◌<◌, min, List, [], ◌∷◌, ◌++◌, length, take, drop, get_or, sum, refl, ap, ap₂, sym, ◌∙◌, arith}
+use Rattle.std.specs.List.{flat_map, sum_by}
 use Rattle.std.specs.Simd.{first_chunks}
-use Rattle.std.proofs.Math.Seq.{get_or-append_seam}
-use Rattle.std.proofs.lemmas.List.{drop_more, drop_min, take_min, append-nil, take_more, drop-drop, take_at, drop_at, length-append, drop-take, take-take, drop-append-le, drop_all, length-take}
-use Rattle.std.proofs.lemmas.List.Concat.{flat_map-append}
-use Rattle.std.proofs.lemmas.List.Sums.{sum_by-append, sum_by-cons}
+use Rattle.std.proofs.lemmas.List.{drop_more, drop_min, flat_map_more, length-drop, take_min, take_more, take_rest, drop-drop}
+use Rattle.std.proofs.lemmas.List.Sums.{sum_by-cons, sum_by-take-drop}
 use Rattle.des_columns.specs.Columns.{pieces}
 use Rattle.des_columns.specs.Forms.{blocks_of, part_of}
 use Rattle.des_columns.specs.declared.form.ValueForm.{ValueForm}
-
-pub last-of : {X : Type 0} (xs : List X) (x d : X) (k : ℕ) → k ≡ length xs → get_or (xs ++ x ∷ []) k d ≡ x
-last-of xs x d k is = ap (λ n. get_or (xs ++ x ∷ []) n d) is ∙ get_or-append_seam xs x [] d
 
 pub length-pieces : (lengths bytes : List ℕ) → length (pieces lengths bytes) ≡ length lengths
 length-pieces [] bytes = refl
@@ -35,78 +30,48 @@ drop-pieces (size ∷ lengths) bytes (suc k) below =
     ∙ ap (pieces (drop k lengths)) (drop-drop (sum (take k lengths)) size bytes)
     ∙ ap (λ n. pieces (drop k lengths) (drop n bytes)) (sym (sum_by-cons (λ n. n) size (take k lengths)))
 
-pub take-pieces : (lengths bytes : List ℕ) (k total : ℕ) → total ≡ sum (take k lengths)
-    → pieces (take k lengths) (take total bytes) ≡ take k (pieces lengths bytes)
-take-pieces lengths bytes zero total is = refl
-take-pieces [] bytes (suc k) total is = refl
-take-pieces (size ∷ lengths) bytes (suc k) total is =
-    let rest : ℕ = sum (take k lengths) in
-    let whole : total ≡ size + rest = is ∙ sum_by-cons (λ n. n) size (take k lengths) in
-    ap₂ ◌∷◌ (take-take size total bytes (omega (arith, whole)))
-    (ap (λ n. pieces (take k lengths) (drop size (take n bytes))) whole
-    ∙ ap (pieces (take k lengths)) (drop-take size rest bytes)
-    ∙ take-pieces lengths (drop size bytes) k rest refl)
+pub take-pieces : (lengths bytes : List ℕ) (k : ℕ) → pieces (take k lengths) bytes ≡ take k (pieces lengths bytes)
+take-pieces lengths bytes zero = refl
+take-pieces [] bytes (suc k) = refl
+take-pieces (size ∷ lengths) bytes (suc k) = ap (λ l. take size bytes ∷ l) (take-pieces lengths (drop size bytes) k)
 
--- the values from one on before another
-pub pieces-between : (lengths bytes : List ℕ) (from end start stop : ℕ) → from ≤ end → end ≤ length lengths
-    → start ≡ sum (take from lengths) → stop ≡ sum (take end lengths)
-    → pieces (take (end - from) (drop from lengths)) (take (stop - start) (drop start bytes)) ≡ drop from (take end (pieces lengths bytes))
-pieces-between lengths bytes from end start stop order within at to =
-    let count : ℕ = end - from in
-    let is : from + count ≡ end = omega (arith, order) in
-    let total : stop ≡ start + sum (take count (drop from lengths)) =
-    to ∙ ap (λ n. sum (take n lengths)) (sym is) ∙ ap sum (take-add from count lengths)
-    ∙ sum_by-append (λ n. n) (take from lengths) (take count (drop from lengths))
-    ∙ ap (λ n. n + sum (take count (drop from lengths))) (sym at) in
-    take-pieces (drop from lengths) (drop start bytes) count (stop - start) (omega (arith, total))
-    ∙ ap (λ n. take count (pieces (drop from lengths) (drop n bytes))) at
-    ∙ ap (take count) (sym (drop-pieces lengths bytes from (omega (arith, order, within))))
-    ∙ sym (drop-take from count (pieces lengths bytes))
-    ∙ ap (λ n. drop from (take n (pieces lengths bytes))) is
-
-pub none-between : (from : ℕ) (values : List (List ℕ)) → drop from (take from values) ≡ []
-none-between from values = drop_all from (take from values) (omega (arith, length-take from values))
-
--- what a function makes of values from one on, up to one more
-pub flat_map-more : {X : Type 0} (f : List ℕ → List X) (values : List (List ℕ)) (from k : ℕ) → from ≤ k → k < length values
-    → flat_map f (drop from (take (k + 1) values)) ≡ flat_map f (drop from (take k values)) ++ f (get_or values k [])
-flat_map-more f values from k order below =
-    ap (λ l. flat_map f (drop from l)) (take_more values k [] below)
-    ∙ ap (flat_map f) (drop-append-le from (take k values) (get_or values k [] ∷ [])
-    (omega (arith, order, below, length-take k values)))
-    ∙ flat_map-append f (drop from (take k values)) (get_or values k [] ∷ [])
-    ∙ ap (λ l. flat_map f (drop from (take k values)) ++ l) (append-nil (f (get_or values k [])))
-
--- and where it stands
-pub flat_map-at : {X : Type 0} (f : List ℕ → List X) (values : List (List ℕ)) (from k end n : ℕ) → from ≤ k → k < end
-    → end ≤ length values → n ≡ length (flat_map f (drop from (take k values)))
-    → (take (length (f (get_or values k []))) (drop n (flat_map f (drop from (take end values)))) ≡ f (get_or values k []))
-    × (n + length (f (get_or values k [])) ≤ length (flat_map f (drop from (take end values))))
-flat_map-at f values from k end n order below within at =
-    let before = flat_map f (drop from (take k values)) in
-    let here = f (get_or values k []) in
-    let some : List (List ℕ) = take end values in
-    let rest = flat_map f (drop (k + 1) some) in
-    let front : some ≡ take (k + 1) values ++ drop (k + 1) some =
-    sym (take-append-drop (k + 1) some)
-    ∙ ap (λ l. l ++ drop (k + 1) some) (take-take (k + 1) end values (omega (arith, below))) in
-    let all : flat_map f (drop from some) ≡ before ++ (here ++ rest) =
-    ap (λ l. flat_map f (drop from l)) front
-    ∙ ap (flat_map f) (drop-append-le from (take (k + 1) values) (drop (k + 1) some)
-    (omega (arith, order, below, within, length-take (k + 1) values)))
-    ∙ flat_map-append f (drop from (take (k + 1) values)) (drop (k + 1) some)
-    ∙ ap (λ l. l ++ rest) (flat_map-more f values from k order (omega (arith, below, within)))
-    ∙ append_assoc before here rest in (
-      ap (take (length here)) (ap₂ drop at all ∙ drop_at before (here ++ rest) (length before) refl)
-          ∙ take_at here rest (length here) refl,
-      omega (arith, at, ap length all, length-append before (here ++ rest), length-append here rest),
-    )
+-- what a function makes of values up to one more
+pub flat_map-more : {X : Type 0} (f : List ℕ → List X) (values : List (List ℕ)) (k : ℕ) → k < length values
+    → flat_map f (take (k + 1) values) ≡ flat_map f (take k values) ++ f (get_or values k [])
+flat_map-more f values k below =
+    ap (flat_map f) (take_more values k [] below) ∙ sym (flat_map_more f [] (take k values) (get_or values k []))
 
 -- the bytes at a value's place are the value
 pub value-at : (lengths bytes : List ℕ) (k start size : ℕ) → k < length lengths → start ≡ sum (take k lengths)
     → size ≡ get_or lengths k 0 → take size (drop start bytes) ≡ get_or (pieces lengths bytes) k []
 value-at lengths bytes k start size below at is =
     ap₂ (λ n m. take n (drop m bytes)) is at ∙ sym (pieces-at lengths bytes k below)
+
+-- the values from one on, of what is left of the lengths and of the bytes; and the first of them
+pub pieces-left : (lengths bytes : List ℕ) (k start : ℕ) → k ≤ length lengths → start ≡ sum (take k lengths)
+    → pieces (take (length lengths - k) (drop k lengths)) (take (length bytes - start) (drop start bytes))
+    ≡ drop k (pieces lengths bytes)
+pieces-left lengths bytes k start within at =
+    ap₂ pieces (take_rest lengths k) (take_rest bytes start)
+    ∙ ap (λ n. pieces (drop k lengths) (drop n bytes)) at ∙ sym (drop-pieces lengths bytes k within)
+
+pub next-left : (lengths bytes : List ℕ) (k start size : ℕ) → k < length lengths → start ≡ sum (take k lengths)
+    → size ≡ get_or lengths k 0
+    → pieces (take (length lengths - k) (drop k lengths)) (take (length bytes - start) (drop start bytes))
+    ≡ take size (drop start bytes) ∷ drop (k + 1) (pieces lengths bytes)
+next-left lengths bytes k start size below at is =
+    pieces-left lengths bytes k start (omega (arith, below)) at
+    ∙ drop_more (pieces lengths bytes) k [] (omega (arith, length-pieces lengths bytes, below))
+    ∙ ap (λ value. value ∷ drop (k + 1) (pieces lengths bytes)) (sym (value-at lengths bytes k start size below at is))
+
+-- what is left of the lengths adds up to what is left of the bytes
+pub sum-left : (f : ℕ → ℕ) (lengths bytes : List ℕ) (k start : ℕ) → sum_by f lengths ≡ length bytes
+    → start ≡ sum_by f (take k lengths)
+    → sum_by f (take (length lengths - k) (drop k lengths)) ≡ length (take (length bytes - start) (drop start bytes))
+sum-left f lengths bytes k start whole at =
+    ap (sum_by f) (take_rest lengths k)
+    ∙ omega (arith, sum_by-take-drop f lengths k, whole, at, length-drop start bytes)
+    ∙ sym (ap length (take_rest bytes start))
 
 pub length-first_chunks : {X : Type 0} (n k : ℕ) (xs : List X) → length (first_chunks n k xs) ≡ k
 length-first_chunks n zero xs = refl

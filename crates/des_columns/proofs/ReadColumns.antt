@@ -1,19 +1,19 @@
 -- Columns that are read: of one value, of some and others behind them, and of the first values.
-use Rattle.std.proofs.Common.{◌≡◌, ℕ, ℤ, ◌+◌, ◌≤◌, ◌<◌, List, [], ◌∷◌, ◌++◌, length, take, drop, get_or, refl, ap, ap₂, sym, ◌∙◌, arith, sum, inl, inr}
+use Rattle.std.proofs.Common.{◌≡◌, ℕ, ℤ, ◌+◌, ◌≤◌, ◌<◌, List, [], ◌∷◌, ◌++◌, length, take, drop, get_or, refl, ap, ap₂, sym, ◌∙◌, arith, sum, below_more}
 use Rattle.std.specs.Simd.Lanes.{zip2}
 use Rattle.std.proofs.Math.ListN.{set}
-use Rattle.std.proofs.lemmas.Bool.{cases_lt}
-use Rattle.std.proofs.lemmas.List.{append-nil, get_or_append_left, length-append, map-append, length-drop, length-take-le, take_all, take_more, take_more_set}
+use Rattle.std.proofs.lemmas.List.{append-nil, get_or_append_left, get_or_push, length_push, length-append, map-append, length-drop, length-take-le, take_all, take_more, take_more_set}
 use Rattle.std.proofs.lemmas.List.Concat.{flat_map-append}
 use Rattle.std.proofs.lemmas.List.Sums.{sum_by_more, sum_by_more_le}
 use Rattle.std.proofs.lemmas.Slice.{take-put_mid}
 use Rattle.des_fast.proofs.SliceBits.{zip2-append}
 use Rattle.des_columns.specs.EncryptedBytes.{joined}
 use Rattle.des_columns.specs.Forms.{filled_to}
-use Rattle.des_columns.specs.Readings.{IsColumnRead}
+use Rattle.des_columns.specs.Readings.{IsColumnRead, IsRead}
+use Rattle.des_columns.specs.declared.form.Reading.{Reading}
 use Rattle.des_columns.specs.declared.status.TheConstants.{OK}
 use Rattle.des_columns.specs.Columns.{pieces}
-use Rattle.des_columns.proofs.Pieces.{last-of, length-pieces, value-at}
+use Rattle.des_columns.proofs.Pieces.{length-pieces, value-at}
 use borrow.Rule.Slice.PartMut.{put_mid}
 
 -- by what follows for each value
@@ -52,21 +52,19 @@ module _ (Reads : List ℕ → ℤ → List ℕ → Type 0) where
         count = length-append column.read (text ∷ []) ∙ ap (λ n. n + 1) column.count ∙ sym (length-append vs (value ∷ []));
         statuses_count =
             length-append ss (status ∷ []) ∙ ap (λ n. n + 1) column.statuses_count ∙ sym (length-append vs (value ∷ []));
-        reads = λ k below. elim (cases_lt k (length vs)) [
-          | inl before ↦
-              rw (
-                get_or_append_left vs (value ∷ []) [] k before,
-                get_or_append_left ss (status ∷ []) OK k (omega (arith, before, column.statuses_count)),
-                get_or_append_left column.read (text ∷ []) [] k (omega (arith, before, column.count)),
-              ) (column.reads k before)
-          | inr after ↦
-              let here : k ≡ length vs = omega (arith, after, below, length-append vs (value ∷ [])) in
-              rw (
-                last-of vs value [] k here,
-                last-of ss status OK k (here ∙ sym column.statuses_count),
-                last-of column.read text [] k (here ∙ sym column.count),
-              ) reads
-        ];
+        reads = λ k below.
+            below_more
+            (λ k. Reads (get_or (vs ++ value ∷ []) k []) (get_or (ss ++ status ∷ []) k OK) (get_or (column.read ++ text ∷ []) k []))
+            (length vs) (λ k before. rw (
+              get_or_append_left vs (value ∷ []) [] k before,
+              get_or_append_left ss (status ∷ []) OK k (omega (arith, before, column.statuses_count)),
+              get_or_append_left column.read (text ∷ []) [] k (omega (arith, before, column.count)),
+            ) (column.reads k before))
+            (rw (
+              get_or_push vs value [] (length vs) refl,
+              get_or_push ss status OK (length vs) column.statuses_count,
+              get_or_push column.read text [] (length vs) column.count,
+            ) reads) k (omega (arith, below, length_push vs value));
         lengths = ap (λ l. l ++ length text ∷ []) column.lengths ∙ sym (map-append length column.read (text ∷ []));
         places =
             ap₂ ◌++◌ column.places (is ∙ sym (append-nil (fill value text)))
@@ -79,29 +77,31 @@ module _ (Reads : List ℕ → ℤ → List ℕ → Type 0) where
       (t : length texts ≡ length bytes) (l : length text_lengths ≡ length lengths) (s : length statuses ≡ length lengths)
       (at : start ≡ sum (take k lengths))
       (column : IsColumnRead Reads (take k (pieces lengths bytes)) (take start texts) (take k text_lengths) (take k statuses)) where
-    pub column-next : (size end count : ℕ) (status : ℤ) (place text : List ℕ) → k < length lengths → size ≡ get_or lengths k 0
-        → end ≡ start + get_or lengths k 0 → length place ≡ length (take size (drop start texts)) → count ≡ length text
-        → place ≡ filled_to (length (take size (drop start bytes))) text → Reads (take size (drop start bytes)) status text
-        → (end ≡ sum (take (k + 1) lengths))
-        × IsColumnRead Reads (take (k + 1) (pieces lengths bytes)) (take end (put_mid start size texts place))
-        (take (k + 1) (set text_lengths k count)) (take (k + 1) (set statuses k status))
-    column-next size end count status place text below is to as_long long filled reads =
+    pub column-next : (size : ℕ) (reading : Reading) (status : ℤ) (place : List ℕ) → k < length lengths
+        → size ≡ get_or lengths k 0 → length place ≡ length (take size (drop start texts)) → status ≡ reading.status
+        → IsRead Reads (take size (drop start bytes)) reading place
+        → (start + get_or lengths k 0 ≡ sum (take (k + 1) lengths))
+        × IsColumnRead Reads (take (k + 1) (pieces lengths bytes))
+        (take (start + get_or lengths k 0) (put_mid start size texts place))
+        (take (k + 1) (set text_lengths k reading.length)) (take (k + 1) (set statuses k status))
+    column-next size reading status place below is as_long told read =
         let vs : List (List ℕ) = pieces lengths bytes in
         let value : List ℕ = take size (drop start bytes) in
         let within : start + get_or lengths k 0 ≤ length texts =
         omega (arith, sum_by_more_le (λ n. n) lengths k 0 below, whole, t, at) in
         let placed : length place ≡ size =
         as_long ∙ length-take-le size (drop start texts) (omega (arith, length-drop start texts, within, is)) in (
-          to ∙ ap (λ n. n + get_or lengths k 0) at ∙ sym (sum_by_more (λ n. n) lengths k 0 below),
+          ap (λ n. n + get_or lengths k 0) at ∙ sym (sum_by_more (λ n. n) lengths k 0 below),
           rw (
             take_more vs k [] (omega (arith, length-pieces lengths bytes, below)),
             sym (value-at lengths bytes k start size below at is),
-            take-put_mid start size texts place end (omega (arith, to, placed, is)) (omega (arith, within)),
-            take_more_set text_lengths k count (omega (arith, below, l)),
-            long,
+            take-put_mid start size texts place (start + get_or lengths k 0) (omega (arith, placed, is)) (omega (arith, within)),
+            take_more_set text_lengths k reading.length (omega (arith, below, l)),
+            read.length_is,
             take_more_set statuses k status (omega (arith, below, s)),
-          ) (column-more (take k vs) (take start texts) (take k text_lengths) (take k statuses) value place text status reads filled
-              column),
+            told,
+          ) (column-more (take k vs) (take start texts) (take k text_lengths) (take k statuses) value place read.text
+              reading.status read.reads read.placed column),
         )
 
     pub column-end : length lengths ≤ k → IsColumnRead Reads (pieces lengths bytes) texts text_lengths statuses

@@ -3,10 +3,12 @@ use Rattle.std.specs.Prelude.{◌≡◌, ℕ, ℤ, ◌/◌, Bool, true, false, O
 use Rattle.std.specs.Option.{option_or}
 use Rattle.std.specs.Simd.{first_chunks}
 use Rattle.des_columns.specs.EncryptedBytes.{joined}
-use Rattle.des_columns.specs.Forms.{blocks_of, fault_before, size_in, status_after, text_after, xored}
+use Rattle.des_columns.specs.Forms.{blocks_of, fault_before, part_of, size_in, status_after, text_after, xored}
+use Rattle.des_columns.specs.Waiting.{AreWaiting}
 use Rattle.des_columns.specs.declared.form.BlockMode.{BlockMode}
 use Rattle.des_columns.specs.declared.form.ValueForm.{ValueForm}
 use Rattle.des_columns.specs.declared.status.TheConstants.{ERR_KEY_NUMBER}
+use Rattle.des_columns.specs.declared.waiting.Waiting.{Waiting}
 
 -- the values of a column, by their lengths
 abbrev pub pieces : List ℕ → List ℕ → List (List ℕ)
@@ -16,6 +18,11 @@ pieces (size ∷ lengths) bytes = take size bytes ∷ pieces lengths (drop size 
 -- the blocks of a value, each decrypted by what its key is
 abbrev pub decrypted : ValueForm → (List ℕ → List ℕ → List ℕ) → List ℕ → List (List ℕ)
 decrypted form decryption value = map (decryption value) (blocks_of form value)
+
+-- the blocks of the first of some values, each decrypted, stand in a buffer
+abbrev pub AreDecrypted : ValueForm → (List ℕ → List ℕ → List ℕ) → List (List ℕ) → Waiting → List (List ℕ) → Type 0
+AreDecrypted form decryption =
+    AreWaiting (λ value. length (part_of form value) / 8) (λ value blocks. blocks ≡ decrypted form decryption value)
 
 -- whole blocks, decrypted
 abbrev pub deciphered : BlockMode → (List ℕ → List ℕ) → List ℕ → List ℕ

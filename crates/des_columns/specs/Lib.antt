@@ -3,6 +3,7 @@ pub mod Mysql
 pub mod KeyFile
 pub mod Forms
 pub mod Columns
+pub mod Waiting
 pub mod Readings
 pub mod Writings
 pub mod MysqlColumns

@@ -1,12 +1,12 @@
 -- What is written of the texts of a column: each value by its definition.
-use Rattle.std.specs.Prelude.{◌≡◌, ◌<◌, ℕ, ◌+◌, ◌-◌, ◌*◌, ◌/◌, ◌%◌, ◌==◌, if◌then◌else◌, List, [], ◌∷◌, ◌++◌, length, map, replicate, sum, get_or}
-use Rattle.std.specs.List.{All}
-use Rattle.des_fast.specs.Records.{record_of}
+use Rattle.std.specs.Prelude.{◌≡◌, ◌<◌, ℕ, ◌+◌, ◌-◌, ◌*◌, ◌/◌, ◌%◌, ◌==◌, if◌then◌else◌, List, [], ◌∷◌, ◌++◌, length, replicate, get_or}
 use Rattle.des_columns.specs.EncryptedBytes.{joined, IsEncrypted}
 use Rattle.des_columns.specs.Mysql.{padded}
+use Rattle.des_columns.specs.Waiting.{AreWaiting}
 use Rattle.des_columns.specs.declared.form.BlockMode.{BlockMode}
 use Rattle.des_columns.specs.declared.form.ValueForm.{ValueForm}
 use Rattle.des_columns.specs.declared.form.ValueForm.TheVariants.{Mysql, Pkcs7, Unpadded}
+use Rattle.des_columns.specs.declared.waiting.Waiting.{Waiting}
 
 -- ---- around the text
 
@@ -51,10 +51,13 @@ pub record IsColumnWritten (size_of : ℕ → ℕ) (Writes : List ℕ → List �
   pub writes : (k : ℕ) → k < length texts → Writes (get_or texts k []) (get_or written k [])
   pub places : values ≡ joined written
 
--- texts, each with its padding, are records of blocks
-pub record AreGathered (form : ValueForm) (lengths : List ℕ) (texts : List (List ℕ)) (sizes : List ℕ) (blocks : List (List ℕ)) : Type 0 where
-  pub lengths_are : lengths ≡ map length texts
-  pub sizes_are : sizes ≡ map (λ size. value_size form size / 8) lengths
-  pub fit : All (IsTextSize form) lengths
-  pub whole : length blocks ≡ sum sizes
-  pub padded : (k : ℕ) → k < length texts → joined (record_of sizes blocks k) ≡ padded_by form (get_or texts k [])
+-- the blocks of the first of some texts, with their padding, stand in a buffer, each text encrypted by itself under any key that is the
+-- cipher's
+abbrev pub size_in_blocks : ValueForm → List ℕ → ℕ
+size_in_blocks form text = value_size form (length text) / 8
+
+abbrev pub AreEnciphered : ValueForm → BlockMode → (List ℕ → Type 0) → (List ℕ → List ℕ → List ℕ → Type 0) → List (List ℕ)
+    → Waiting → List (List ℕ) → Type 0
+AreEnciphered form mode IsItsKey relation =
+    AreWaiting (size_in_blocks form)
+    (λ text blocks. (key : List ℕ) → IsItsKey key → IsEncrypted mode (relation key) (padded_by form text) (joined blocks))

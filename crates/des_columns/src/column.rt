@@ -1,66 +1,20 @@
 //! Columns: values, one after another, read together. The blocks of many of them are decrypted as one
 //! list, in a buffer of 1,024 blocks on the stack; a value that is longer goes by itself.
 
-ghost use Rattle.std.specs.Prelude.{◌≡◌, ◌≤◌, ◌<◌, ◌*◌, ◌/◌, ◌%◌, ◌++◌, ◌↔◌, ℕ, IsTrue, List, length, take, drop, map, sum};
-ghost use Rattle.std.specs.List.{All, flat_map};
-ghost use Rattle.des_columns.specs.Forms.{blocks_of, filled_to};
-ghost use Rattle.des_columns.specs.Columns.{ReadsAs, deciphered, decrypted, fault_under, pieces, status_as, text_as};
-ghost use Rattle.des_columns.specs.Readings.{IsColumnRead};
+ghost use Rattle.std.specs.Prelude.{◌≡◌, ◌≤◌, ◌%◌, ◌↔◌, ◌∷◌, ℕ, IsTrue, List, length, sum};
+ghost use Rattle.std.specs.List.{All};
+ghost use Rattle.des_columns.specs.Forms.{filled_to};
+ghost use Rattle.des_columns.specs.Columns.{AreDecrypted, ReadsAs, deciphered, fault_under, pieces, status_as, text_as};
+ghost use Rattle.des_columns.specs.Readings.{IsColumnRead, IsRead};
 
 use crate::form::{BlockMode, Reading, ValueForm, finish, write_text};
 use crate::status::{ERR_KEY_NUMBER, OK};
 use crate::value_keys::ValueKeys;
+use crate::waiting::Waiting;
 use des_fast::many::Slice;
 
 // The blocks that are decrypted together.
 const BLOCKS: usize = 1024;
-
-// Where the values end that were taken, in values and in bytes, and how many encrypted blocks they
-// have.
-#[derive(Clone, Copy)]
-struct Taken {
-    end: usize,
-    bytes: usize,
-    blocks: usize,
-}
-
-// Copies the blocks of values into the buffer, from value `from` on, which begins at byte `start`, as
-// long as they fit.
-fn gather(
-    form: ValueForm,
-    values: &[u8],
-    lengths: &[usize],
-    from: usize,
-    start: usize,
-    buffer: &mut [[u8; 8]],
-) -> Taken
-    requires whole { sum lengths.now ≡ length values.now }
-    requires from { from ≤ length lengths.now }
-    requires start { start ≡ sum (take from lengths.now) }
-    ensures from { from ≤ result.end }
-    ensures end { result.end ≤ length lengths.now }
-    ensures start { start ≤ result.bytes }
-    ensures bytes { result.bytes ≡ sum (take result.end lengths.now) }
-    ensures blocks { result.blocks ≤ length buffer.old }
-    ensures gathered { take result.blocks buffer.new
-        ≡ flat_map (blocks_of form) (drop from (take result.end (pieces lengths.now values.now))) }
-{
-    let mut end = from;
-    let mut bytes = start;
-    let mut blocks = 0;
-    'values: while end < lengths.len() {
-        let value = &values[bytes..bytes + lengths[end]];
-        let (more, _) = form.part_of(value).as_chunks::<8>();
-        if more.len() > buffer.len() - blocks {
-            break;
-        }
-        buffer[blocks..blocks + more.len()].copy_from_slice(more);
-        bytes += value.len();
-        blocks += more.len();
-        end += 1;
-    }
-    Taken { end, bytes, blocks }
-}
 
 /// How the values of a column are read: under which keys, from which form, and by which mode.
 #[derive(Drop)]
@@ -84,52 +38,43 @@ impl<K: ValueKeys> Reader<K> {
         }
     }
 
-    // Writes what is read of values whose blocks are decrypted, from value `from` on, which begins at
-    // byte `start`.
-    fn write_texts(
+    // Decrypts the blocks of values together, from the first on, as long as they fit the buffer; unless
+    // some wait there.
+    fn refill<S: Slice>(
         &self,
         values: &[u8],
         lengths: &[usize],
-        from: usize,
-        start: usize,
-        end: usize,
-        answers: &mut [[u8; 8]],
-        texts: &mut [u8],
-        text_lengths: &mut [usize],
-        statuses: &mut [i32],
+        waiting: &mut Waiting,
+        buffer: &mut [[u8; 8]],
     )
         requires whole { sum lengths.now ≡ length values.now }
-        requires from { from ≤ end }
-        requires start { start ≡ sum (take from lengths.now) }
-        requires end { end ≤ length lengths.now }
-        requires answers { answers.old ≡ flat_map (decrypted self.now.form
-            (K.decryption self.now.keys)) (drop from (take end (pieces lengths.now values.now))) }
-        requires texts { length texts.old ≡ length values.now }
-        requires text_lengths { length text_lengths.old ≡ length lengths.now }
-        requires statuses { length statuses.old ≡ length lengths.now }
-        requires read { IsColumnRead (ReadsAs self.now.form self.now.mode (K.has_key self.now.keys)
-            (K.decryption self.now.keys)) (take from (pieces lengths.now values.now))
-            (take start texts.old) (take from text_lengths.old) (take from statuses.old) }
-        ensures { IsColumnRead (ReadsAs self.now.form self.now.mode (K.has_key self.now.keys)
-            (K.decryption self.now.keys)) (take end (pieces lengths.now values.now))
-            (take (sum (take end lengths.now)) texts.new) (take end text_lengths.new)
-            (take end statuses.new) }
+        requires few { length buffer.old ≤ K.MOST_BLOCKS }
+        requires waiting { AreDecrypted self.now.form (K.decryption self.now.keys)
+            (pieces lengths.now values.now) waiting.old buffer.old }
+        ensures { AreDecrypted self.now.form (K.decryption self.now.keys)
+            (pieces lengths.now values.now) waiting.new buffer.new }
     {
-        let mut start = start;
-        let mut first = 0;
-        'values: for k in from..end {
-            let next = start + lengths[k];
-            let value = &values[start..next];
-            let fault = self.fault_of(value);
-            let count = self.form.part_of(value).len() / 8;
-            let answers = &mut answers[first..first + count];
-            let place = &mut texts[start..next];
-            let reading = write_text(self.form, self.mode, fault, value, answers, place);
-            text_lengths[k] = reading.length;
-            statuses[k] = reading.status;
-            start = next;
-            first += count;
+        if waiting.count > 0 {
+            return;
         }
+        let mut count = 0;
+        let mut bytes = 0;
+        let mut blocks = 0;
+        'values: while count < lengths.len() {
+            let value = &values[bytes..bytes + lengths[count]];
+            let (more, _) = self.form.part_of(value).as_chunks::<8>();
+            if more.len() > buffer.len() - blocks {
+                break;
+            }
+            buffer[blocks..blocks + more.len()].copy_from_slice(more);
+            count += 1;
+            bytes += value.len();
+            blocks += more.len();
+        }
+        let answers = &mut buffer[..blocks];
+        self.keys
+            .decrypt_values::<S>(self.form, values, &lengths[..count], answers);
+        *waiting = Waiting { count, first: 0 };
     }
 
     /// Decrypts whole blocks of a value in place, however many they are, as many at a time as the
@@ -173,6 +118,36 @@ impl<K: ValueKeys> Reader<K> {
         finish(self.form, self.fault_of(value), part.len(), place)
     }
 
+    // Reads the next value, from the buffer if it waits there.
+    fn read_next<S: Slice>(
+        &self,
+        value: &[u8],
+        waiting: &mut Waiting,
+        buffer: &mut [[u8; 8]],
+        place: &mut [u8],
+    ) -> Reading
+        requires buffer { 1 ≤ length buffer.old }
+        requires waiting { (others : List (List ℕ)) × AreDecrypted self.now.form
+            (K.decryption self.now.keys) (value.now ∷ others) waiting.old buffer.old }
+        requires place { length place.old ≡ length value.now }
+        ensures read { IsRead (ReadsAs self.now.form self.now.mode (K.has_key self.now.keys)
+            (K.decryption self.now.keys)) value.now result place.new }
+        ensures waiting { (others : List (List ℕ)) → AreDecrypted self.now.form
+            (K.decryption self.now.keys) (value.now ∷ others) waiting.old buffer.old
+            → AreDecrypted self.now.form (K.decryption self.now.keys) others waiting.new buffer.new }
+    {
+        if waiting.count == 0 {
+            return self.read_long::<S>(value, buffer, place);
+        }
+        let first = waiting.first;
+        let end = first + self.form.part_of(value).len() / 8;
+        waiting.count -= 1;
+        waiting.first = end;
+        let answers = &mut buffer[first..end];
+        let fault = self.fault_of(value);
+        write_text(self.form, self.mode, fault, value, answers, place)
+    }
+
     /// Reads the values of a column, one after another, of these lengths. Text k is written where
     /// value k begins, before zeros, and its length; and status k, which is `OK` or why value k has
     /// no text. Returns whether all of them are `OK`.
@@ -194,38 +169,17 @@ impl<K: ValueKeys> Reader<K> {
         ensures all { IsTrue result ↔ All (λ status. status ≡ OK) statuses.new }
     {
         let mut buffer = [[0; 8]; BLOCKS];
-        let mut from = 0;
+        let buffer = &mut buffer[..K::MOST_BLOCKS];
+        let mut waiting = Waiting { count: 0, first: 0 };
         let mut start = 0;
-        'groups: while from < lengths.len() {
-            let buffer = &mut buffer[..K::MOST_BLOCKS];
-            let taken = gather(self.form, values, lengths, from, start, buffer);
-            if taken.end == from {
-                let end = start + lengths[from];
-                let place = &mut texts[start..end];
-                let reading = self.read_long::<S>(&values[start..end], buffer, place);
-                text_lengths[from] = reading.length;
-                statuses[from] = reading.status;
-                from += 1;
-                start = end;
-            } else {
-                let some = &values[start..taken.bytes];
-                let answers = &mut buffer[..taken.blocks];
-                self.keys
-                    .decrypt_values::<S>(self.form, some, &lengths[from..taken.end], answers);
-                self.write_texts(
-                    values,
-                    lengths,
-                    from,
-                    start,
-                    taken.end,
-                    answers,
-                    texts,
-                    text_lengths,
-                    statuses,
-                );
-                from = taken.end;
-                start = taken.bytes;
-            }
+        'values: for k in 0..lengths.len() {
+            self.refill::<S>(&values[start..], &lengths[k..], &mut waiting, buffer);
+            let end = start + lengths[k];
+            let place = &mut texts[start..end];
+            let reading = self.read_next::<S>(&values[start..end], &mut waiting, buffer, place);
+            text_lengths[k] = reading.length;
+            statuses[k] = reading.status;
+            start = end;
         }
         are_ok(statuses)
     }

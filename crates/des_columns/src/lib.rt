@@ -21,4 +21,5 @@ pub mod pbe;
 pub mod pgcrypto;
 pub mod status;
 mod value_keys;
+mod waiting;
 pub mod writing;

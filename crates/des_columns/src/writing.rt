@@ -1,17 +1,19 @@
 //! Columns, written under one key: the values of texts, one after another. Short ones are encrypted in
 //! step, a block of each at a time, as records of `des_fast` are; a longer one goes by itself.
 
-ghost use Rattle.std.specs.Prelude.{◌≡◌, ◌≤◌, ◌<◌, ◌+◌, ◌*◌, ◌/◌, ◌%◌, ◌^◌, ◌++◌, ◌↔◌, ℕ, List, IsTrue, length, replicate, sum, take};
+ghost use Rattle.std.specs.Prelude.{◌≡◌, ◌≤◌, ◌<◌, ◌+◌, ◌*◌, ◌/◌, ◌%◌, ◌^◌, ◌++◌, ◌↔◌, ◌∷◌, ℕ, List, IsTrue, length, map, replicate, sum, take};
 ghost use Rattle.std.specs.List.{All, sum_by};
 ghost use Rattle.des_fast.specs.Records.{record_of};
 ghost use Rattle.des_fast.specs.SpreadKeys.{AreSpreadKeys};
 ghost use Rattle.des_columns.specs.Columns.{pieces};
 ghost use Rattle.des_columns.specs.EncryptedBytes.{AreEncrypted, IsEncrypted, joined};
 ghost use Rattle.des_columns.specs.Forms.{mode_after};
-ghost use Rattle.des_columns.specs.Writings.{AreGathered, IsColumnWritten, IsTextSize, IsWriting, padded_by, value_size};
+ghost use Rattle.des_columns.specs.Waiting.{AreInTurn};
+ghost use Rattle.des_columns.specs.Writings.{AreEnciphered, IsColumnWritten, IsTextSize, IsWriting, padded_by, size_in_blocks, value_size};
 
 use crate::column::add_up_to;
 use crate::form::{BlockMode, ValueForm};
+use crate::waiting::Waiting;
 use des::cbc::next_vector;
 use des_fast::many::{ManyBlocks, Slice, SpreadKeys, SpreadOnce};
 
@@ -71,14 +73,11 @@ fn write_blocks(form: ValueForm, text: &[u8], place: &mut [u8], blocks: &mut [[u
     blocks.copy_from_slice(padded);
 }
 
-// The texts that were gathered: how many, how many bytes, blocks, and bytes of values they have, and
-// how many blocks the longest has.
+// The texts that were gathered: how many, how many blocks they have, and the longest.
 #[derive(Clone, Copy)]
 struct Gathered {
     count: usize,
-    bytes: usize,
     blocks: usize,
-    span: usize,
     longest: usize,
 }
 
@@ -97,12 +96,12 @@ fn gather(
     requires values { length values.old ≡ sum_by (value_size form) lengths.now }
     ensures count { result.count ≤ length sizes.old }
     ensures end { result.count ≤ length lengths.now }
-    ensures bytes { result.bytes ≡ sum (take result.count lengths.now) }
     ensures blocks { result.blocks ≤ length buffer.old }
-    ensures span { result.span ≡ sum_by (value_size form) (take result.count lengths.now) }
-    ensures gathered { AreGathered form (take result.count lengths.now)
-        (take result.count (pieces lengths.now texts.now)) (take result.count sizes.new)
-        (take result.blocks buffer.new) }
+    ensures sizes { take result.count sizes.new
+        ≡ map (λ text. size_in_blocks form text) (take result.count (pieces lengths.now texts.now)) }
+    ensures whole { result.blocks ≡ sum (take result.count sizes.new) }
+    ensures padded { AreInTurn (size_in_blocks form) (λ text blocks. joined blocks ≡ padded_by form text)
+        (take result.count (pieces lengths.now texts.now)) (take result.blocks buffer.new) }
 {
     let mut count = 0;
     let mut bytes = 0;
@@ -128,9 +127,7 @@ fn gather(
     }
     Gathered {
         count,
-        bytes,
         blocks,
-        span,
         longest,
     }
 }
@@ -193,7 +190,7 @@ impl<C: ManyBlocks + Drop> Writer<C> {
         head.fill(128 + self.number);
     }
 
-    /// Writes the value of a text.
+    /// Writes the value of a text, however long it is.
     pub(crate) fn write_value<S: Slice>(
         &self,
         text: &[u8],
@@ -251,38 +248,73 @@ impl<C: SpreadOnce + Drop> Writer<C> {
         bytes.copy_from_slice(blocks.as_flattened());
     }
 
-    // Writes the values of texts that were gathered.
-    fn write_group<S: Slice>(
+    // Encrypts texts in step, from the first on, as long as they fit the buffer, if this is worth it;
+    // unless some wait there. What was in the places of their values is written over.
+    fn refill<S: Slice>(
         &self,
         keys: &SpreadKeys<S>,
+        texts: &[u8],
         lengths: &[usize],
-        sizes: &[usize],
-        blocks: &mut [[u8; 8]],
         values: &mut [u8],
+        waiting: &mut Waiting,
+        buffer: &mut [[u8; 8]],
     )
-        requires number { self.now.number < 128 }
         requires keys { AreSpreadKeys S.BATCH S.bit keys.now (C.encrypted self.now.cipher)
             (C.decrypted self.now.cipher) }
-        requires count { length sizes.now ≤ 256 }
-        requires small { sum lengths.now < 2 ^ 63 }
-        requires gathered { (texts : List (List ℕ))
-            × AreGathered self.now.form lengths.now texts sizes.now blocks.old }
+        requires whole { sum lengths.now ≡ length texts.now }
+        requires fit { All (IsTextSize self.now.form) lengths.now }
         requires values { length values.old ≡ sum_by (value_size self.now.form) lengths.now }
-        ensures { (key : List ℕ) (texts : List (List ℕ)) → C.is_made_from self.now.cipher key
-            → AreGathered self.now.form lengths.now texts sizes.now blocks.old
-            → IsColumnWritten (value_size self.now.form) (IsWriting self.now.form self.now.number
-            self.now.mode (C.relation key)) texts values.new }
+        requires waiting { AreEnciphered self.now.form self.now.mode (C.is_made_from self.now.cipher)
+            C.relation (pieces lengths.now texts.now) waiting.old buffer.old }
+        ensures { AreEnciphered self.now.form self.now.mode (C.is_made_from self.now.cipher)
+            C.relation (pieces lengths.now texts.now) waiting.new buffer.new }
     {
-        self.encrypt_records::<S>(keys, sizes, blocks);
-        let mut first = 0;
-        let mut start = 0;
-        'values: for k in 0..lengths.len() {
-            let size = self.form.value_size(lengths[k]);
-            let value = &mut values[start..start + size];
-            self.join_value(&blocks[first..first + sizes[k]], value);
-            first += sizes[k];
-            start += size;
+        if waiting.count > 0 {
+            return;
         }
+        let mut sizes = [0; TEXTS];
+        let taken = gather(self.form, texts, lengths, values, &mut sizes, buffer);
+        if taken.blocks / FEW <= taken.longest {
+            return;
+        }
+        let blocks = &mut buffer[..taken.blocks];
+        self.encrypt_records::<S>(keys, &sizes[..taken.count], blocks);
+        *waiting = Waiting {
+            count: taken.count,
+            first: 0,
+        };
+    }
+
+    // Writes the value of the next text, from the buffer if it waits there.
+    fn write_next<S: Slice>(
+        &self,
+        text: &[u8],
+        waiting: &mut Waiting,
+        buffer: &mut [[u8; 8]],
+        value: &mut [u8],
+    )
+        requires number { self.now.number < 128 }
+        requires size { IsTextSize self.now.form (length text.now) }
+        requires value { length value.old ≡ value_size self.now.form (length text.now) }
+        requires buffer { 1 ≤ length buffer.old }
+        requires waiting { (others : List (List ℕ)) × AreEnciphered self.now.form self.now.mode
+            (C.is_made_from self.now.cipher) C.relation (text.now ∷ others) waiting.old buffer.old }
+        ensures written { (key : List ℕ) → C.is_made_from self.now.cipher key
+            → IsWriting self.now.form self.now.number self.now.mode (C.relation key) text.now value.new }
+        ensures waiting { (others : List (List ℕ)) → AreEnciphered self.now.form self.now.mode
+            (C.is_made_from self.now.cipher) C.relation (text.now ∷ others) waiting.old buffer.old
+            → AreEnciphered self.now.form self.now.mode (C.is_made_from self.now.cipher) C.relation
+            others waiting.new buffer.new }
+    {
+        if waiting.count == 0 {
+            self.write_value::<S>(text, value, buffer);
+            return;
+        }
+        let first = waiting.first;
+        let end = first + value.len() / 8;
+        waiting.count -= 1;
+        waiting.first = end;
+        self.join_value(&buffer[first..end], value);
     }
 }
 
@@ -317,36 +349,19 @@ pub fn write_values<C: SpreadOnce + Drop, S: Slice>(
         mode,
     };
     let mut buffer = [[0; 8]; BLOCKS];
-    let mut sizes = [0; TEXTS];
-    let mut k = 0;
+    let mut waiting = Waiting { count: 0, first: 0 };
     let mut from = 0;
     let mut start = 0;
-    'groups: while k < lengths.len() {
-        let rest = &mut values[start..];
-        let taken = gather(
-            form,
-            &texts[from..],
-            &lengths[k..],
-            rest,
-            &mut sizes,
-            &mut buffer,
-        );
-        if taken.blocks / FEW > taken.longest {
-            let value = &mut values[start..start + taken.span];
-            let blocks = &mut buffer[..taken.blocks];
-            let some = &lengths[k..k + taken.count];
-            writer.write_group::<S>(&keys, some, &sizes[..taken.count], blocks, value);
-            k += taken.count;
-            from += taken.bytes;
-            start += taken.span;
-        } else {
-            let text = &texts[from..from + lengths[k]];
-            let size = form.value_size(text.len());
-            writer.write_value::<S>(text, &mut values[start..start + size], &mut buffer);
-            k += 1;
-            from += text.len();
-            start += size;
-        }
+    'texts: for k in 0..lengths.len() {
+        let places = &mut values[start..];
+        let (left, lengths_left) = (&texts[from..], &lengths[k..]);
+        writer.refill::<S>(&keys, left, lengths_left, places, &mut waiting, &mut buffer);
+        let text = &texts[from..from + lengths[k]];
+        let size = form.value_size(text.len());
+        let value = &mut values[start..start + size];
+        writer.write_next::<S>(text, &mut waiting, &mut buffer, value);
+        from += text.len();
+        start += size;
     }
 }
 

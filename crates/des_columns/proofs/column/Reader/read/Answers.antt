@@ -1,66 +1,81 @@
--- A value that is longer than the buffer, or some that fit together.
-use Rattle.std.proofs.Common.{rules, w32, SFits, Bool, ℕ, ◌+◌, ◌-◌, List, take, drop, get_or, refl, ap, sym, ◌∙◌, arith}
-use Rattle.std.specs.List.{flat_map}
+-- A value more.
+use Rattle.std.proofs.Common.{rules, w32, SFits, ◌≡◌, ℕ, Bool, ◌+◌, ◌-◌, List, ◌∷◌, length, take, drop, get_or, refl, sum, ◌≤◌, sym, ◌∙◌, subst, arith}
 use Rattle.std.proofs.lemmas.Int.{to_z-of_z}
-use Rattle.des_columns.specs.Forms.{blocks_of}
-use Rattle.des_columns.specs.Columns.{ReadsAs, decrypted, text_as}
-use Rattle.des_columns.specs.declared.form.ValueForm.{ValueForm}
-use Rattle.des_columns.proofs.Pieces.{pieces-between}
+use Rattle.std.proofs.lemmas.List.Sums.{sum_by_more_le}
+use Rattle.des_columns.specs.Columns.{AreDecrypted, ReadsAs, pieces}
+use Rattle.des_columns.proofs.Pieces.{next-left, pieces-left, sum-left}
 use Rattle.des_columns.proofs.ReadColumns.{column-end, column-next, column-none}
 use Rattle.des_columns.proofs.column.Reader.read.Goals as goal
 
-pub groups-init : goal.groups-init
-groups-init g c = record {
-  within = omega arith;
+pub values-init : goal.values-init
+values-init g c = record {
   start = refl;
+  waiting = record { fit = omega arith; within = omega arith; in_turn = tt };
   read = column-none (ReadsAs c.args.self.now.form c.args.self.now.mode (g.K.ValueKeys.has_key c.args.self.now.keys)
       (g.K.ValueKeys.decryption c.args.self.now.keys));
 }
 
-pub groups-preserved-then-taken-from : goal.groups-preserved-then-taken-from
-groups-preserved-then-taken-from g c =
-    let form : ValueForm = c.args.self.now.form in
+pub refill-requires-clause-whole : goal.refill-requires-clause-whole
+refill-requires-clause-whole g c =
+    sum-left (λ n. n) c.args.lengths.now c.args.values.now c.values.k c.values.start c.requires.whole c.values.invariant.start
+
+pub refill-requires-clause-waiting : goal.refill-requires-clause-waiting
+refill-requires-clause-waiting g c =
+    subst (λ (vs : List (List ℕ)). AreDecrypted c.args.self.now.form (g.K.ValueKeys.decryption c.args.self.now.keys) vs
+    c.values.waiting c.values.buffer)
+    (sym (pieces-left c.args.lengths.now c.args.values.now c.values.k c.values.start (omega (arith, c.values-test.true))
+    c.values.invariant.start)) c.values.invariant.waiting
+
+pub slice_bounds-place-end : goal.slice_bounds-place-end
+slice_bounds-place-end g c =
+    let bound : c.values.start + get_or c.args.lengths.now c.values.k 0 ≤ length c.values.texts =
+    omega (
+      arith,
+      sum_by_more_le (λ n. n) c.args.lengths.now c.values.k 0 c.values-test.true,
+      c.requires.whole,
+      c.values.invariant.start,
+      c.values.auto.texts ∙ c.requires.texts,
+    ) in
+    search (rules, bound)
+
+pub read_next-reading-requires-clause-waiting : goal.read_next-reading-requires-clause-waiting
+read_next-reading-requires-clause-waiting g c = (
+  drop (c.values.k + 1) (pieces c.args.lengths.now c.args.values.now),
+  subst (λ (vs : List (List ℕ)). AreDecrypted c.args.self.now.form (g.K.ValueKeys.decryption c.args.self.now.keys) vs
+      c.refill.new.waiting c.refill.new.buffer)
+      (next-left c.args.lengths.now c.args.values.now c.values.k c.values.start _ c.values-test.true
+      c.values.invariant.start (omega arith)) c.refill.ensures,
+)
+
+pub values-preserved : goal.values-preserved
+values-preserved g c =
+    let k : ℕ = c.values.k in
+    let start : ℕ = c.values.start in
+    let size : ℕ = start + get_or c.args.lengths.now k 0 - start in
+    let reading = c.read_next-reading.result in
     let f : List ℕ → List ℕ → List ℕ = g.K.ValueKeys.decryption c.args.self.now.keys in
-    let has : List ℕ → Bool = g.K.ValueKeys.has_key c.args.self.now.keys in
-    let start : ℕ = c.groups.start in
-    let end : ℕ = start + get_or c.args.lengths.now c.groups.from 0 in
-    let fits : SFits w32 c.read_long-reading.result.status = search rules in
+    let fits : SFits w32 reading.status = search rules in
     let next =
-    column-next (ReadsAs form c.args.self.now.mode has f) c.args.lengths.now c.args.values.now c.groups.texts
-    c.groups.text_lengths c.groups.statuses c.groups.from start c.requires.whole (c.groups.auto.texts ∙ c.requires.texts)
-    (c.groups.auto.text_lengths ∙ c.requires.text_lengths) (c.groups.auto.statuses ∙ c.requires.statuses)
-    c.groups.invariant.start c.groups.invariant.read (end - start) end c.read_long-reading.result.length _
-    c.read_long-reading.new.place
-    (text_as form c.args.self.now.mode has f (take (end - start) (drop start c.args.values.now))) c.groups-test.true
-    (omega arith) (omega arith) c.read_long-reading.auto.place c.read_long-reading.ensures.length
-    c.read_long-reading.ensures.text
-    (to_z-of_z w32 c.read_long-reading.result.status fits ∙ c.read_long-reading.ensures.status, refl) in
+    column-next (ReadsAs c.args.self.now.form c.args.self.now.mode (g.K.ValueKeys.has_key c.args.self.now.keys) f)
+    c.args.lengths.now c.args.values.now c.values.texts c.values.text_lengths c.values.statuses k start c.requires.whole
+    (c.values.auto.texts ∙ c.requires.texts) (c.values.auto.text_lengths ∙ c.requires.text_lengths)
+    (c.values.auto.statuses ∙ c.requires.statuses) c.values.invariant.start c.values.invariant.read size reading _
+    c.read_next-reading.new.place c.values-test.true (omega arith) c.read_next-reading.auto.place
+    (to_z-of_z w32 reading.status fits) c.read_next-reading.ensures.read in
     record {
-      within = omega (arith, c.groups-test.true);
       start = next.0;
+      waiting =
+          c.read_next-reading.ensures.waiting (drop (k + 1) (pieces c.args.lengths.now c.args.values.now))
+          (subst (λ (vs : List (List ℕ)). AreDecrypted c.args.self.now.form f vs c.refill.new.waiting c.refill.new.buffer)
+          (next-left c.args.lengths.now c.args.values.now k start size c.values-test.true c.values.invariant.start (omega arith))
+          c.refill.ensures);
       read = next.1;
     }
-
-pub decrypt_values-requires-clause-blocks : goal.decrypt_values-requires-clause-blocks
-decrypt_values-requires-clause-blocks g c =
-    c.gather-taken.ensures.gathered
-    ∙ ap (flat_map (blocks_of c.args.self.now.form))
-    (sym (pieces-between c.args.lengths.now c.args.values.now c.groups.from c.gather-taken.result.end c.groups.start
-    c.gather-taken.result.bytes c.gather-taken.ensures.from c.gather-taken.ensures.end c.groups.invariant.start
-    c.gather-taken.ensures.bytes))
-
-pub write_texts-requires-clause-answers : goal.write_texts-requires-clause-answers
-write_texts-requires-clause-answers g c =
-    c.decrypt_values.ensures
-    ∙ ap (flat_map (decrypted c.args.self.now.form (g.K.ValueKeys.decryption c.args.self.now.keys)))
-    (pieces-between c.args.lengths.now c.args.values.now c.groups.from c.gather-taken.result.end c.groups.start
-    c.gather-taken.result.bytes c.gather-taken.ensures.from c.gather-taken.ensures.end c.groups.invariant.start
-    c.gather-taken.ensures.bytes)
 
 pub returns-clause-read : goal.returns-clause-read
 returns-clause-read g c =
     column-end (ReadsAs c.args.self.now.form c.args.self.now.mode (g.K.ValueKeys.has_key c.args.self.now.keys)
-    (g.K.ValueKeys.decryption c.args.self.now.keys)) c.args.lengths.now c.args.values.now c.groups.texts c.groups.text_lengths
-    c.groups.statuses c.groups.from c.groups.start c.requires.whole (c.groups.auto.texts ∙ c.requires.texts)
-    (c.groups.auto.text_lengths ∙ c.requires.text_lengths) (c.groups.auto.statuses ∙ c.requires.statuses)
-    c.groups.invariant.start c.groups.invariant.read c.groups-test.false
+    (g.K.ValueKeys.decryption c.args.self.now.keys)) c.args.lengths.now c.args.values.now c.values.texts c.values.text_lengths
+    c.values.statuses c.values.k c.values.start c.requires.whole (c.values.auto.texts ∙ c.requires.texts)
+    (c.values.auto.text_lengths ∙ c.requires.text_lengths) (c.values.auto.statuses ∙ c.requires.statuses)
+    c.values.invariant.start c.values.invariant.read c.values-test.false

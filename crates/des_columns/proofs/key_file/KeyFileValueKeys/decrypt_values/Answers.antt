@@ -87,12 +87,12 @@ values-preserved g c =
       filled =
           ap₂ ◌+◌ c.values.invariant.filled more.2
           ∙ sym (length-append (flat_map (blocks_of form) (take k vs)) _)
-          ∙ sym (ap length (flat_map-more (blocks_of form) vs 0 k (omega arith) inside));
+          ∙ sym (ap length (flat_map-more (blocks_of form) vs k inside));
       keys =
           take-put_mid filled size c.values.keys new (filled + count) (omega (arith, new_long))
           (omega (arith, more.3))
           ∙ ap₂ ◌++◌ c.values.invariant.keys made
-          ∙ sym (flat_map-more (λ value. replicate (length (blocks_of form value)) (key_for keys value)) vs 0 k (omega arith) inside);
+          ∙ sym (flat_map-more (λ value. replicate (length (blocks_of form value)) (key_for keys value)) vs k inside);
     }
 
 module _ (form : ValueForm) (lengths bytes : List ℕ) (blocks : List (List ℕ)) (k filled : ℕ) (all : length lengths ≤ k)

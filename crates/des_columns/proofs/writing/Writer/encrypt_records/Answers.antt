@@ -8,7 +8,7 @@ use Rattle.des_fast.proofs.RelatedCbc.{CbcUnder-related}
 use Rattle.des_columns.specs.EncryptedBytes.{AreEncrypted}
 use Rattle.des_columns.specs.declared.form.BlockMode.{BlockMode}
 use Rattle.des_columns.proofs.Results.{on-ok}
-use Rattle.des_columns.proofs.GatheredTexts.{each-record}
+use Rattle.des_columns.proofs.RelatedRecords.{each-record}
 use Rattle.des_columns.proofs.writing.Writer.encrypt_records.Goals as goal
 
 pub returns-in-Ecb : goal.returns-in-Ecb
