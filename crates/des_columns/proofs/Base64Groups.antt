@@ -37,21 +37,7 @@ drop-groups bytes g within =
     drop_encoded symbols bytes (replicate (padding_len (length bytes)) 61) g within
     ∙ ap (λ n. encode_symbols symbols (drop (3 * g) bytes) ++ replicate n 61) same
 
--- the first group, and those behind it
-pub group-first : (bytes : List ℕ)
-    → encode_of standard bytes ≡ encode_of standard (take 3 bytes) ++ encode_of standard (drop 3 bytes)
-group-first bytes = elim (cases_lt (length bytes) 3) [
-  | inl short ↦
-      let rest : encode_of standard (drop 3 bytes) ≡ [] =
-      ap (encode_of standard) (drop_all 3 bytes (omega (arith, short))) ∙ encode_of-nil standard in
-      ap (encode_of standard) (sym (take_all 3 bytes (omega (arith, short))))
-      ∙ sym (append-nil (encode_of standard (take 3 bytes)))
-      ∙ ap (λ l. encode_of standard (take 3 bytes) ++ l) (sym rest)
-  | inr long ↦
-      ap (encode_of standard) (sym (take-append-drop 3 bytes))
-      ∙ encode_of-append standard (take 3 bytes) (drop 3 bytes) (omega (arith, length-take-le 3 bytes long))
-]
-
+-- the first group
 take-group : (bytes : List ℕ) → take 4 (encode_of standard bytes) ≡ encode_of standard (take 3 bytes)
 take-group bytes = elim (cases_lt (length bytes) 3) [
   | inl short ↦
@@ -75,60 +61,6 @@ are-IsBytes bytes are i = elim (cases_lt i (length bytes)) [
   | inl within ↦ are i 0 within
   | inr beyond ↦ rw (get_or-eq_default bytes 0 beyond) (omega arith)
 ]
-
--- ---- what is encoded in place, from the last group to the first
-
-take-least : (k n : ℕ) (xs : List ℕ) → take k (take n xs) ≡ take (min n k) xs
-take-least k n xs = elim (cases_lt n k) [
-  | inl less ↦
-      let all : min n k ≡ n = omega (arith, less) in
-      take_all k (take n xs) (omega (arith, less, length-take n xs)) ∙ ap (λ m. take m xs) (sym all)
-  | inr more ↦
-      let all : min n k ≡ k = omega (arith, more) in
-      take-take k n xs more ∙ ap (λ m. take m xs) (sym all)
-]
-
--- the bytes of a group are as they were
-group-kept : (initial place : List ℕ) (g size count : ℕ) → 3 * g ≤ size → count ≡ min (size - 3 * g) 3
-    → take (3 * (g + 1)) place ≡ take (3 * (g + 1)) initial
-    → take count (drop (3 * g) place) ≡ take 3 (drop (3 * g) (take size initial))
-group-kept initial place g size count before least same =
-    let few : count ≤ 3 = omega (arith, least) in
-    let next : 3 * g + 3 ≡ 3 * (g + 1) = omega arith in
-    let whole : 3 * g + (size - 3 * g) ≡ size = omega (arith, before) in
-    sym (take-take count 3 (drop (3 * g) place) few)
-    ∙ ap (take count) (sym (drop-take (3 * g) 3 place) ∙ ap (λ n. drop (3 * g) (take n place)) next
-    ∙ ap (drop (3 * g)) same ∙ sym (ap (λ n. drop (3 * g) (take n initial)) next) ∙ drop-take (3 * g) 3 initial)
-    ∙ take-take count 3 (drop (3 * g) initial) few
-    ∙ ap (λ n. take n (drop (3 * g) initial)) least
-    ∙ sym (take-least 3 (size - 3 * g) (drop (3 * g) initial))
-    ∙ ap (take 3) (sym (drop-take (3 * g) (size - 3 * g) initial))
-    ∙ ap (λ n. take 3 (drop (3 * g) (take n initial))) whole
-
--- a group more
-pub group-before : (initial place written : List ℕ) (g size count span : ℕ) → g + 1 ≤ length initial / 4
-    → length initial ≡ (size + 2) / 3 * 4 → length place ≡ length initial → count ≡ min (size - 3 * g) 3 → span ≡ 4
-    → take (3 * (g + 1)) place ≡ take (3 * (g + 1)) initial
-    → drop (4 * (g + 1)) place ≡ encode_of standard (drop (3 * (g + 1)) (take size initial))
-    → written ≡ encode_of standard (take count (drop (3 * g) place))
-    → (take (3 * g) (put_mid (4 * g) span place written) ≡ take (3 * g) initial)
-    × (drop (4 * g) (put_mid (4 * g) span place written) ≡ encode_of standard (drop (3 * g) (take size initial)))
-group-before initial place written g size count span within room long least four front behind is =
-    let bytes : List ℕ = take size initial in
-    let inside : 4 * g ≤ length place = omega (arith, within, long) in
-    let next : 3 * g + 3 ≡ 3 * (g + 1) = omega arith in
-    let rest : 4 * g + span ≡ 4 * (g + 1) = omega (arith, four) in (
-      take-put_mid_below (4 * g) span place written (3 * g) (omega arith) inside
-          ∙ sym (take-take (3 * g) (3 * (g + 1)) place (omega arith)) ∙ ap (take (3 * g)) front
-          ∙ take-take (3 * g) (3 * (g + 1)) initial (omega arith),
-      drop_at (take (4 * g) place) (written ++ drop span (drop (4 * g) place)) (4 * g) (length-take-le (4 * g) place inside)
-          ∙ ap₂ ◌++◌ (is ∙ ap (encode_of standard) (group-kept initial place g size count (omega (arith, within, room)) least front))
-          (drop-drop span (4 * g) place ∙ ap (λ n. drop n place) rest ∙ behind
-          ∙ ap (encode_of standard) (ap (λ n. drop n bytes) (sym next) ∙ sym (drop-drop 3 (3 * g) bytes)))
-          ∙ sym (group-first (drop (3 * g) bytes)),
-    )
-
--- ---- what is decoded
 
 -- a group more
 pub group-more : (characters before more group : List ℕ) (g : ℕ) → encode_of standard before ≡ take (4 * g) characters

@@ -1,6 +1,6 @@
 //! Base64 (RFC 4648, section 4) in the place of what it encodes, since there is no other buffer.
 
-ghost use Rattle.std.specs.Prelude.{◌≡◌, ◌≤◌, ◌+◌, ◌*◌, ◌/◌, ℕ, List, None, length, take, IfSome};
+ghost use Rattle.std.specs.Prelude.{◌≡◌, ◌≤◌, ◌+◌, ◌*◌, ◌-◌, ◌/◌, ℕ, List, None, length, take, drop, IfSome};
 ghost use Rattle.std.specs.List.{filter};
 ghost use Rattle.base64.specs.Engines.{standard};
 ghost use Rattle.base64.specs.GeneralPurpose.{encode_of};
@@ -58,18 +58,18 @@ pub(crate) fn decode(characters: &mut [u8]) -> Option<usize>
     Some(size)
 }
 
-/// Makes of the bytes at the front of a place the characters that encode them, and fill it.
-pub(crate) fn encode(size: usize, place: &mut [u8])
-    requires { length place.old ≡ (size + 2) / 3 * 4 }
-    ensures { place.new ≡ encode_of standard (take size place.old) }
+/// Makes of the bytes from `start` on, at the end of a place, the characters that encode them, and fill
+/// it.
+pub(crate) fn encode(start: usize, place: &mut [u8])
+    requires start { start ≤ length place.old }
+    requires size { length place.old ≡ (length place.old - start + 2) / 3 * 4 }
+    ensures { place.new ≡ encode_of standard (drop start place.old) }
 {
-    // The last group first, since its characters stand behind the bytes of those before it.
-    let mut group = place.len() / 4;
-    'groups: while group > 0 {
-        group -= 1;
-        let count = (size - 3 * group).min(3);
+    'groups: for group in 0..place.len() / 4 {
+        let from = start + 3 * group;
+        let count = (place.len() - from).min(3);
         let mut bytes = [0; 3];
-        bytes[..count].copy_from_slice(&place[3 * group..3 * group + count]);
+        bytes[..count].copy_from_slice(&place[from..from + count]);
         let _ = STANDARD.encode_slice(&bytes[..count], &mut place[4 * group..4 * group + 4]);
     }
 }

@@ -278,10 +278,11 @@ fn write_value(
     let mut both = [0; 32];
     let both = &mut both[..by.key_size() + 8];
     derive(by, iterations, password, salt, both);
-    let count = (text.len() / 8 + 1) * 8;
-    value[..8].copy_from_slice(salt);
-    encrypt_by(by, both, text, &mut value[8..8 + count], buffer);
-    encode(8 + count, value);
+    // The characters are as many as the place has bytes, what they encode are fewer.
+    let start = value.len() - (text.len() / 8 + 2) * 8;
+    value[start..start + 8].copy_from_slice(salt);
+    encrypt_by(by, both, text, &mut value[start + 8..], buffer);
+    encode(start, value);
 }
 
 /// How many characters the value of a text of `size` bytes has.

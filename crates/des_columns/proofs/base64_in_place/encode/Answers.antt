@@ -1,11 +1,11 @@
 -- A group more.
-use Rattle.std.proofs.Common.{◌≡◌, ◌≤◌, ◌+◌, ◌-◌, ◌*◌, ◌/◌, ◌++◌, ℕ, List, [], ◌∷◌, length, take, drop, Ok, Result, refl, ap, ap₂, sym, ◌∙◌, arith}
+use Rattle.std.proofs.Common.{◌≡◌, ◌≤◌, ◌+◌, ◌-◌, ◌*◌, ◌/◌, ◌++◌, min, ℕ, List, [], ◌∷◌, length, take, drop, Ok, Result, refl, ap, ap₂, sym, ◌∙◌, arith, take-add}
 use Rattle.std.specs.Result.{OnOk}
-use Rattle.std.proofs.lemmas.List.{append-nil, drop_all, length-drop, length-take, length-take-le, take_at}
+use Rattle.std.proofs.lemmas.List.{append-nil, drop-drop, drop_all, length-drop, length-take-le, take_all, take_at, take_min}
+use Rattle.std.proofs.lemmas.Slice.{drop-put_mid, take-put_mid}
 use Rattle.base64.specs.Engines.{standard}
 use Rattle.base64.specs.GeneralPurpose.{IsEncodedOver, encode_of, encoded_size_of}
-use Rattle.base64.proofs.EngineFacts.{encode_of-nil}
-use Rattle.des_columns.proofs.Base64Groups.{group-before}
+use Rattle.base64.proofs.EngineFacts.{encode_of-append, encode_of-nil}
 use Rattle.des_columns.proofs.base64_in_place.encode.Goals as goal
 
 on-ok : {T E : Type 0} (result : Result T E) (x : T) (P : Type 0) → result ≡ Ok x → OnOk result P → P
@@ -24,55 +24,68 @@ encoded-group part given output old count result is long some few four fits writ
     ∙ append-nil (encode_of standard part)
 
 pub groups-init : goal.groups-init
-groups-init c =
-    let place : List ℕ = c.args.place.now in
-    let all : ℕ = length place / 4 in
-    let bytes : List ℕ = take c.args.size place in
-    record {
-      long = refl;
-      within = omega arith;
-      front = refl;
-      behind =
-          drop_all (4 * all) place (omega (arith, c.requires))
-          ∙ sym (ap (encode_of standard) (drop_all (3 * all) bytes (omega (arith, c.requires, length-take c.args.size place)))
-          ∙ encode_of-nil standard);
-    }
+groups-init c = record {
+  long = refl;
+  front = sym (encode_of-nil standard);
+  rest = refl;
+}
 
 pub groups-preserved : goal.groups-preserved
 groups-preserved c =
-    let g : ℕ = c.groups.group - 1 in
-    let size : ℕ = c.args.size in
+    let g : ℕ = c.groups.group in
+    let start : ℕ = c.args.start in
+    let from : ℕ = start + 3 * g in
     let count : ℕ = c.min-count.result in
-    let more : g + 1 ≡ c.groups.group = omega (arith, c.groups-test.true) in
-    let within : c.groups.group ≤ length c.args.place.now / 4 = c.groups.invariant.within in
-    let some : 3 * g + 1 ≤ size = omega (arith, within, c.requires, more) in
+    let initial : List ℕ = c.args.place.now in
+    let place : List ℕ = c.groups.place in
+    let bytes : List ℕ = drop start initial in
+    let new : List ℕ = c.encode_slice.new.output in
     let part : List ℕ = c.copy_from_slice.new.self in
+    let size : length bytes ≡ length initial - start = length-drop start initial in
+    let within : g + 1 ≤ length initial / 4 = omega (arith, c.groups-test.true, c.groups.invariant.long) in
+    let some : 3 * g + 1 ≤ length bytes = omega (arith, within, size, c.requires.size) in
+    let least : count ≡ min 3 (length (drop from initial)) =
+    omega (arith, c.min-count.ensures, length-drop from initial, c.groups.invariant.long) in
     let few : count ≤ 3 = omega (arith, c.min-count.ensures) in
     let long : length part ≡ count = c.copy_from_slice.ensures.len ∙ length-take-le count (0 ∷ 0 ∷ 0 ∷ []) few in
-    let inside : 4 * g + 4 ≤ length c.groups.place = omega (arith, within, c.groups.invariant.long, more) in
-    let four : length (take (4 * g + 4 - 4 * g) (drop (4 * g) c.groups.place)) ≡ 4 =
-    length-take-le (4 * g + 4 - 4 * g) (drop (4 * g) c.groups.place) (omega (arith, length-drop (4 * g) c.groups.place, inside))
-    ∙ omega arith in
-    let is : 3 * g + count - 3 * g ≡ count = omega arith in
-    let written : c.encode_slice.new.output ≡ encode_of standard part =
-    encoded-group part _ c.encode_slice.new.output _ count c.encode_slice.result
-    (take_at part (drop count (0 ∷ 0 ∷ 0 ∷ [])) count long) long (omega (arith, c.min-count.ensures, some)) few four
-    c.encode_slice.ensures.fits c.encode_slice.ensures.written in
-    let next =
-    group-before c.args.place.now c.groups.place c.encode_slice.new.output g size count (4 * g + 4 - 4 * g)
-    (omega (arith, within, more)) c.requires c.groups.invariant.long c.min-count.ensures (omega arith)
-    (ap (λ n. take (3 * n) c.groups.place) more ∙ c.groups.invariant.front ∙ sym (ap (λ n. take (3 * n) c.args.place.now) more))
-    (ap (λ n. drop (4 * n) c.groups.place) more ∙ c.groups.invariant.behind
-    ∙ sym (ap (λ n. encode_of standard (drop (3 * n) (take size c.args.place.now))) more))
-    (written
-    ∙ ap (encode_of standard)
-    (c.copy_from_slice.ensures.after ∙ ap (λ n. take n (drop (3 * g) c.groups.place)) is)) in
+    let inside : 4 * g + 4 ≤ length place = omega (arith, within, c.groups.invariant.long) in
+    let four : length (take (4 * g + 4 - 4 * g) (drop (4 * g) place)) ≡ 4 =
+    length-take-le (4 * g + 4 - 4 * g) (drop (4 * g) place) (omega (arith, length-drop (4 * g) place, inside)) ∙ omega arith in
+    let as_long : length new ≡ 4 = c.encode_slice.auto.output ∙ four in
+    let is : from + count - from ≡ count = omega arith in
+    let written : new ≡ encode_of standard part =
+    encoded-group part _ new _ count c.encode_slice.result (take_at part (drop count (0 ∷ 0 ∷ 0 ∷ [])) count long) long
+    (omega (arith, c.min-count.ensures, some, size, c.groups.invariant.long)) few four c.encode_slice.ensures.fits
+    c.encode_slice.ensures.written in
+    let group : part ≡ take 3 (drop (3 * g) bytes) =
+    c.copy_from_slice.ensures.after ∙ ap₂ take (is ∙ least) c.groups.invariant.rest ∙ take_min 3 (drop from initial)
+    ∙ ap (take 3) (sym (drop-drop (3 * g) start initial)) in
+    let next : 3 * g + 3 ≡ 3 * (g + 1) = omega arith in
+    let behind : from + 3 ≡ start + 3 * (g + 1) = omega arith in
     record {
       long = omega (arith, c.groups.invariant.long, inside, c.encode_slice.auto.output, four);
-      within = omega (arith, within);
-      front = next.0;
-      behind = next.1;
+      front =
+          take-put_mid (4 * g) (4 * g + 4 - 4 * g) place new (4 * (g + 1)) (omega (arith, as_long)) (omega (arith, inside))
+          ∙ ap₂ ◌++◌ c.groups.invariant.front (written ∙ ap (encode_of standard) group)
+          ∙ sym (encode_of-append standard (take (3 * g) bytes) (take 3 (drop (3 * g) bytes))
+          (omega (arith, length-take-le (3 * g) bytes (omega (arith, some)))))
+          ∙ ap (encode_of standard) (sym (take-add (3 * g) 3 bytes) ∙ ap (λ n. take n bytes) next);
+      rest =
+          drop-put_mid (4 * g) (4 * g + 4 - 4 * g) place new (start + 3 * (g + 1))
+          (omega (arith, within, c.requires.size, c.requires.start)) (omega (arith, inside)) (omega (arith, as_long))
+          ∙ ap (λ n. drop n place) (sym behind) ∙ sym (drop-drop 3 from place) ∙ ap (drop 3) c.groups.invariant.rest
+          ∙ drop-drop 3 from initial ∙ ap (λ n. drop n initial) behind;
     }
 
 pub shape_of-place : goal.shape_of-place
 shape_of-place c = c.groups.invariant.long
+
+pub returns : goal.returns
+returns c =
+    let initial : List ℕ = c.args.place.now in
+    let bytes : List ℕ = drop c.args.start initial in
+    let g : ℕ = c.groups.group in
+    let all : length initial / 4 ≤ g = omega (arith, c.groups-test.false, c.groups.invariant.long) in
+    sym (take_all (4 * g) c.groups.place (omega (arith, all, c.groups.invariant.long, c.requires.size)))
+    ∙ c.groups.invariant.front
+    ∙ ap (encode_of standard) (take_all (3 * g) bytes (omega (arith, all, length-drop c.args.start initial, c.requires.size)))
