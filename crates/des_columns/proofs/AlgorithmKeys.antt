@@ -25,8 +25,7 @@ module _ (By : BlockMode → (List ℕ → List ℕ → Type 0) → Type 0) (bot
       let is : both ≡ key ++ vector = sym (are ∙ take_all (size + 8) both (omega (arith, whole))) in
       let front : take size both ≡ key = ap (take size) is ∙ take_at key vector size long in
       let back : drop size both ≡ vector = ap (drop size) is ∙ drop_at key vector size long in
-      subst (λ (v : List ℕ). By (Cbc v) (λ x y. Relates (take size both) x y)) (sym back)
-      (subst (λ (k : List ℕ). By (Cbc vector) (λ x y. Relates k x y)) (sym front) said)
+      rw (front, back) said
 
   module _ (by : Algorithm) (whole : length both ≡ key_size by + 8) where
     pub by-des : (by ≡ Md5Des) ⊎ (by ≡ Sha1Des) → length key ≡ 8 → key ++ vector ≡ take 16 both

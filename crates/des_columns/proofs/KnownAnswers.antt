@@ -16,18 +16,26 @@ use Rattle.des_columns.specs.KeyFile.{lines_after, string_in}
 use Rattle.des_columns.specs.Mysql.{key_of, padded}
 use Rattle.des_columns.specs.PgcryptoColumns.{filled}
 
+-- what a JDK 17 makes of the password `secret` by PBEWithMD5AndTripleDES, where the halves of the salt are equal, in 20 iterations
+java_derived : List ℕ
+java_derived = derived (codes "secret") (1 ∷ 2 ∷ 3 ∷ 4 ∷ 1 ∷ 2 ∷ 3 ∷ 4 ∷ []) 20
+
 -- what MariaDB 10.11 answers, behind the first byte, one block, chained from zeros: to `des_encrypt('abcdefg', 'k')`; to
 -- `des_encrypt('abc', 1)`, where the key file has `1 another key`; and to `des_encrypt('abc')`, whose key is the first of the file,
--- `0 key_zero`
-mysql-blocks : ede3_encryption (key_of (codes "k")) (padded (codes "abcdefg"))
+-- `0 key_zero`. What the JDK makes of `abc`. The first block of what pgcrypto makes of `hello world` by `des` under `1234`, and under
+-- `123456789`
+known-blocks : ede3_encryption (key_of (codes "k")) (padded (codes "abcdefg"))
     ++ ede3_encryption (key_of (codes "another key")) (padded (codes "abc"))
     ++ ede3_encryption (key_of (codes "key_zero")) (padded (codes "abc"))
+    ++ ede3_encryption (take 24 java_derived) (xor_blocks (codes "abc" ++ replicate 5 5) (drop 24 java_derived))
+    ++ encryption (filled 8 (codes "1234")) (codes "hello wo") ++ encryption (filled 8 (codes "123456789")) (codes "hello wo")
     ≡ 0xF0 ∷ 0xF1 ∷ 0x9F ∷ 0xAD ∷ 0x28 ∷ 0x3C ∷ 0x97 ∷ 0x14 ∷ 0xFD ∷ 0xBF ∷ 0xE0 ∷ 0x45 ∷ 0xC3 ∷ 0x27 ∷ 0xA5 ∷ 0xF2
-    ∷ 0x93 ∷ 0x70 ∷ 0xF9 ∷ 0x10 ∷ 0x0E ∷ 0x6C ∷ 0xAB ∷ 0xCA ∷ []
+    ∷ 0x93 ∷ 0x70 ∷ 0xF9 ∷ 0x10 ∷ 0x0E ∷ 0x6C ∷ 0xAB ∷ 0xCA ∷ 0x0A ∷ 0x6D ∷ 0xDE ∷ 0xC3 ∷ 0x22 ∷ 0xC9 ∷ 0x9C ∷ 0x34
+    ∷ 0xA1 ∷ 0x58 ∷ 0xA3 ∷ 0x74 ∷ 0x95 ∷ 0xC5 ∷ 0x7F ∷ 0xA5 ∷ 0x28 ∷ 0xDB ∷ 0xA0 ∷ 0x2E ∷ 0xB5 ∷ 0xF6 ∷ 0xDD ∷ 0x47 ∷ []
 unfolding block_words rounds compress hash_after digest_bytes md5 repeated d ds bits_of bits_of_bytes select substitute_by
     box_entry number_of cipher_function xor_bits round_key c_half d_half rotate shifts_through key_schedule after_rounds
-    through_rounds block_of_bits
-mysql-blocks = refl
+    through_rounds block_of_bits digested xor_blocks java_derived
+known-blocks = refl
 
 -- the strings that MariaDB takes of a file of keys: the last of 1, none of a line without its end or before a digit
 strings_of : List ℕ → List (Option (List ℕ))
@@ -41,23 +49,3 @@ mysql-strings : strings_of (codes "# keys" ++ 10 ∷ codes "3 three" ++ 10 ∷ c
     ∷ Some (233 ∷ 116 ∷ 233 ∷ 255 ∷ []) ∷ None ∷ Some (codes "seven") ∷ None ∷ Some (codes "tab and blanks") ∷ []
 unfolding strings_of
 mysql-strings = refl
-
--- what a JDK 17 makes of `abc` by PBEWithMD5AndTripleDES under `secret`: equal halves of the salt, 20 iterations
-java_derived : List ℕ
-java_derived = derived (codes "secret") (1 ∷ 2 ∷ 3 ∷ 4 ∷ 1 ∷ 2 ∷ 3 ∷ 4 ∷ []) 20
-
-java-equal_halves : ede3_encryption (take 24 java_derived) (xor_blocks (codes "abc" ++ replicate 5 5) (drop 24 java_derived))
-    ≡ 0x0A ∷ 0x6D ∷ 0xDE ∷ 0xC3 ∷ 0x22 ∷ 0xC9 ∷ 0x9C ∷ 0x34 ∷ []
-unfolding block_words rounds compress hash_after digest_bytes md5 repeated d ds bits_of bits_of_bytes select substitute_by
-    box_entry number_of cipher_function xor_bits round_key c_half d_half rotate shifts_through key_schedule after_rounds
-    through_rounds block_of_bits
-    digested xor_blocks java_derived
-java-equal_halves = refl
-
--- the first block of what pgcrypto makes of `hello world` by `des` under `1234`, and under `123456789`
-pgcrypto-keys : encryption (filled 8 (codes "1234")) (codes "hello wo") ++ encryption (filled 8 (codes "123456789")) (codes "hello wo")
-    ≡ 0xA1 ∷ 0x58 ∷ 0xA3 ∷ 0x74 ∷ 0x95 ∷ 0xC5 ∷ 0x7F ∷ 0xA5 ∷ 0x28 ∷ 0xDB ∷ 0xA0 ∷ 0x2E ∷ 0xB5 ∷ 0xF6 ∷ 0xDD ∷ 0x47 ∷ []
-unfolding block_words rounds compress hash_after digest_bytes md5 repeated d ds bits_of bits_of_bytes select substitute_by
-    box_entry number_of cipher_function xor_bits round_key c_half d_half rotate shifts_through key_schedule after_rounds
-    through_rounds block_of_bits
-pgcrypto-keys = refl

@@ -31,52 +31,38 @@ first_encrypted : List ℕ
 first_encrypted =
     0x94 ∷ 0xAD ∷ 0xE1 ∷ 0xCF ∷ 0x64 ∷ 0xB0 ∷ 0x05 ∷ 0x9F ∷ 0xEC ∷ 0xF1 ∷ 0xF3 ∷ 0x5F ∷ 0xA9 ∷ 0x13 ∷ 0xE8 ∷ 0xCD ∷ []
 
-string-encoded : encode_of standard (first_salt ++ first_encrypted) ≡ characters_of (codes "XFI3GkOHuvaUreHPZLAFn+zx81+pE+jN")
-unfolding base64_on_literals trimmed first_salt first_encrypted
-string-encoded = refl
-
--- the same in settings: Jasypt passes over white space in any place
-string-enclosed : encode_of standard (first_salt ++ first_encrypted)
-    ≡ characters_of (codes " \tENC( XFI3GkOHuvaUreHPZLAF\r\n n+zx8 1+pE+jN\t)\n")
-unfolding base64_on_literals trimmed first_salt first_encrypted
-string-enclosed = refl
-
-both : List ℕ
-both = derived_by Md5Des (codes "secret") first_salt 1000
-
-first-block : encryption (take 8 both) (xor_blocks (codes "jdbc pas") (drop 8 both)) ≡ take 8 first_encrypted
-unfolding block_words rounds compress hash_after digest_bytes md5 repeated bits_of bits_of_bytes select substitute_by
-    box_entry number_of cipher_function xor_bits round_key c_half d_half rotate shifts_through key_schedule after_rounds
-    through_rounds block_of_bits xor_blocks first_salt first_encrypted both
-first-block = refl
-
--- `abc` by three iterations: by PBEWithMD5AndTripleDES, and by PBEWithSHA1AndDESede, with padding in Base64
-second_both : List ℕ
-second_both = derived_by Md5TripleDes (codes "secret") (0x7C ∷ 0x44 ∷ 0xC4 ∷ 0x88 ∷ 0x09 ∷ 0x99 ∷ 0x09 ∷ 0xDB ∷ []) 3
-
-second-block : ede3_encryption (take 24 second_both) (xor_blocks (codes "abc" ++ replicate 5 5) (drop 24 second_both))
-    ≡ 0x52 ∷ 0x03 ∷ 0xFA ∷ 0x9F ∷ 0x8A ∷ 0xA8 ∷ 0xE5 ∷ 0x54 ∷ []
-unfolding block_words rounds compress hash_after digest_bytes md5 digested bits_of bits_of_bytes select substitute_by
-    box_entry number_of cipher_function xor_bits round_key c_half d_half rotate shifts_through key_schedule after_rounds
-    through_rounds block_of_bits xor_blocks second_both
-second-block = refl
-
+-- by PBEWithSHA1AndDESede and three iterations: the salt, and `abc`, with padding in Base64
 third_salt : List ℕ
 third_salt = 0x52 ∷ 0x85 ∷ 0x70 ∷ 0x9A ∷ 0x90 ∷ 0x58 ∷ 0x55 ∷ 0x58 ∷ []
 
 third_encrypted : List ℕ
 third_encrypted = 0xFA ∷ 0xF7 ∷ 0xF8 ∷ 0xA8 ∷ 0x78 ∷ 0x04 ∷ 0x63 ∷ 0x9D ∷ []
 
-third-encoded : encode_of standard (third_salt ++ third_encrypted) ≡ characters_of (codes "UoVwmpBYVVj69/ioeARjnQ==")
-unfolding base64_on_literals trimmed third_salt third_encrypted
-third-encoded = refl
+-- the first string, by itself and as settings have it, since Jasypt passes over white space in any place; and the other
+strings-encoded : (encode_of standard (first_salt ++ first_encrypted) ≡ characters_of (codes "XFI3GkOHuvaUreHPZLAFn+zx81+pE+jN"))
+    × (encode_of standard (first_salt ++ first_encrypted)
+    ≡ characters_of (codes " \tENC( XFI3GkOHuvaUreHPZLAF\r\n n+zx8 1+pE+jN\t)\n"))
+    × (encode_of standard (third_salt ++ third_encrypted) ≡ characters_of (codes "UoVwmpBYVVj69/ioeARjnQ=="))
+unfolding base64_on_literals trimmed first_salt first_encrypted third_salt third_encrypted
+strings-encoded = (refl, refl, refl)
+
+-- the keys and the vectors of those two, and of a string by PBEWithMD5AndTripleDES
+first_both : List ℕ
+first_both = derived_by Md5Des (codes "secret") first_salt 1000
+
+second_both : List ℕ
+second_both = derived_by Md5TripleDes (codes "secret") (0x7C ∷ 0x44 ∷ 0xC4 ∷ 0x88 ∷ 0x09 ∷ 0x99 ∷ 0x09 ∷ 0xDB ∷ []) 3
 
 third_both : List ℕ
 third_both = derived_by Sha1TripleDes (codes "secret") third_salt 3
 
-third-block : ede3_encryption (take 24 third_both) (xor_blocks (codes "abc" ++ replicate 5 5) (drop 24 third_both)) ≡ third_encrypted
-unfolding first_words schedule rounds_1 compress_1 hash_after_1 digest_bytes_1 sha1 repeated characters_in chars is_utf8
-    encode_utf8 copies digests number_of_bytes bytes_of bits_of bits_of_bytes select substitute_by box_entry number_of
-    cipher_function xor_bits round_key c_half d_half rotate shifts_through key_schedule after_rounds through_rounds
-    block_of_bits xor_blocks third_salt third_encrypted third_both
-third-block = refl
+first-blocks : (encryption (take 8 first_both) (xor_blocks (codes "jdbc pas") (drop 8 first_both)) ≡ take 8 first_encrypted)
+    × (ede3_encryption (take 24 second_both) (xor_blocks (codes "abc" ++ replicate 5 5) (drop 24 second_both))
+    ≡ 0x52 ∷ 0x03 ∷ 0xFA ∷ 0x9F ∷ 0x8A ∷ 0xA8 ∷ 0xE5 ∷ 0x54 ∷ [])
+    × (ede3_encryption (take 24 third_both) (xor_blocks (codes "abc" ++ replicate 5 5) (drop 24 third_both)) ≡ third_encrypted)
+unfolding block_words rounds compress hash_after digest_bytes md5 digested first_words schedule rounds_1 compress_1 hash_after_1
+    digest_bytes_1 sha1 repeated characters_in chars is_utf8 encode_utf8 copies digests number_of_bytes bytes_of bits_of
+    bits_of_bytes select substitute_by box_entry number_of cipher_function xor_bits round_key c_half d_half rotate
+    shifts_through key_schedule after_rounds through_rounds block_of_bits xor_blocks first_salt first_encrypted first_both
+    second_both third_salt third_encrypted third_both
+first-blocks = (refl, refl, refl)

@@ -9,9 +9,7 @@ use Rattle.des_columns.proofs.jasypt.open.Goals as goal
 read-same : (by : Algorithm) (both derived encrypted behind text front : List ℕ) (status : ℤ) → both ≡ derived
     → encrypted ≡ behind → text ≡ front → ReadsBy by both encrypted status text → ReadsBy by derived behind status front
 read-same by both derived encrypted behind text front status b e t read =
-    let by_both = subst (λ (l : List ℕ). ReadsBy by l encrypted status text) b read in
-    let by_value = subst (λ (l : List ℕ). ReadsBy by derived l status text) e by_both in
-    subst (λ (l : List ℕ). ReadsBy by derived behind status l) t by_value
+    rw (← b, ← e, ← t) read
 
 pub returns-clause-read : goal.returns-clause-read
 returns-clause-read c =

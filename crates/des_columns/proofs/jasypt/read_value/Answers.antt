@@ -32,14 +32,7 @@ module _ (by : Algorithm) (count : ℕ) (password value characters : List ℕ) (
       → ReadsBy by (derived_by by password (take 8 opened) count) (drop 8 opened) read front
       → Reads by count password value status text
   long-read bytes opened status read text front encodes long o s t reads =
-      let by_bytes =
-      subst (λ (l : List ℕ). ReadsBy by (derived_by by password (take 8 l) count) (drop 8 l) read front) o reads in
-      let by_status =
-      subst (λ (it : ℤ). ReadsBy by (derived_by by password (take 8 bytes) count) (drop 8 bytes) it front) (sym s) by_bytes in
-      let by_text =
-      subst (λ (l : List ℕ). ReadsBy by (derived_by by password (take 8 bytes) count) (drop 8 bytes) status l) (sym t)
-      by_status in
-      inr (bytes, subst (Encodes bytes) are encodes, inr (long, by_text))
+      inr (bytes, subst (Encodes bytes) are encodes, inr (long, rw (← o, s, t) reads))
 
 pub returns-clause-read : goal.returns-clause-read
 returns-clause-read c =

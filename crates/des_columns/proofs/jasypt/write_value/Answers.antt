@@ -18,11 +18,7 @@ written-of by count password salt text both encrypted value eight is writes enco
     let front : take 8 (salt ++ text) ≡ salt = take_at salt text 8 eight in
     record {
       encrypted = encrypted;
-      writes =
-          subst (λ (l : List ℕ). WritesBy by (derived_by by password (take 8 (salt ++ text)) count) l encrypted)
-          (sym (drop_at salt text 8 eight))
-          (subst (λ (l : List ℕ). WritesBy by l text encrypted)
-          (is ∙ ap (λ l. derived_by by password l count) (sym front)) writes);
+      writes = rw (front, drop_at salt text 8 eight, ← is) writes;
       value_is = encoded ∙ ap (λ l. encode_of standard (l ++ encrypted)) (sym front);
     }
 
