@@ -1,19 +1,17 @@
 -- Base64 a group of four characters at a time.
-use Rattle.std.proofs.Common.{◌≡◌, ℕ, ◌+◌, ◌-◌, ◌*◌, ◌/◌, ◌%◌, ◌<◌, ◌≤◌, min, List, [], ◌++◌, length, take, drop, replicate, Ok, Err, refl, ap, ap₂, sym, ◌∙◌, arith, inl, inr, take-add, take-append-drop}
+use Rattle.std.proofs.Common.{◌≡◌, ℕ, ◌+◌, ◌*◌, ◌/◌, ◌%◌, ◌<◌, ◌≤◌, List, ◌++◌, length, take, drop, replicate, Ok, Err, refl, ap, ap₂, sym, ◌∙◌, arith, inl, inr, take-add, take-append-drop}
 use Rattle.std.proofs.lemmas.Bool.{cases_lt}
-use Rattle.std.proofs.lemmas.List.{append-nil, drop-drop, drop-take, drop_all, drop_at, length-append, length-drop, length-replicate, length-take, length-take-le, take-take, take_all, take_at}
+use Rattle.std.proofs.lemmas.List.{length-append, length-drop, length-replicate, length-take-le, take_all, take_at}
 use Rattle.std.proofs.lemmas.List.Elements.{All-drop, All-take}
-use Rattle.std.proofs.lemmas.Slice.{take-put_mid_below}
 use Rattle.std.proofs.Math.ListN.{get_or-eq_default}
 use Rattle.base64.specs.Engines.{standard}
 use Rattle.base64.specs.GeneralPurpose.{IsBytes, decode_of, encode_of}
 use Rattle.base64.specs.Rfc4648.{encode_symbols, padding_len}
 use Rattle.base64.specs.declared.decode.DecodeError.{DecodeError}
-use Rattle.base64.proofs.EngineFacts.{decode_of-encode_of, decode_of_strict, encode_of-append, encode_of-nil}
+use Rattle.base64.proofs.EngineFacts.{decode_of-encode_of, decode_of_strict, encode_of-append}
 use Rattle.base64.proofs.RoundTrip.{drop_encoded, length-encode_symbols}
 use Rattle.des.specs.Blocks.{AreBytes}
 use Rattle.des_columns.specs.Jasypt.{Encodes}
-use borrow.Rule.Slice.PartMut.{put_mid}
 
 abbrev symbols : List ℕ
 symbols = standard.encode_table

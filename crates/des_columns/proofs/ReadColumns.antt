@@ -1,5 +1,5 @@
 -- Columns that are read: of one value, of some and others behind them, and of the first values.
-use Rattle.std.proofs.Common.{◌≡◌, ℕ, ℤ, ◌+◌, ◌≤◌, ◌<◌, List, [], ◌∷◌, ◌++◌, length, take, drop, get_or, refl, ap, ap₂, sym, ◌∙◌, arith, sum, below_more}
+use Rattle.std.proofs.Common.{◌≡◌, ℕ, ℤ, ◌+◌, ◌≤◌, ◌<◌, List, [], ◌∷◌, ◌++◌, length, take, drop, get_or, refl, ap, ap₂, sym, ◌∙◌, subst, arith, sum, below_more}
 use Rattle.std.specs.Simd.Lanes.{zip2}
 use Rattle.std.proofs.Math.ListN.{set}
 use Rattle.std.proofs.lemmas.List.{append-nil, get_or_append_left, get_or_push, length_push, length-append, map-append, length-drop, length-take-le, take_all, take_more, take_more_set}
@@ -7,26 +7,32 @@ use Rattle.std.proofs.lemmas.List.Concat.{flat_map-append}
 use Rattle.std.proofs.lemmas.List.Sums.{sum_by_more, sum_by_more_le}
 use Rattle.std.proofs.lemmas.Slice.{take-put_mid}
 use Rattle.des_fast.proofs.SliceBits.{zip2-append}
+use Rattle.std.proofs.lemmas.List.Elements.{All-drop, All-take}
+use Rattle.des.specs.Blocks.{AreBytes}
 use Rattle.des_columns.specs.EncryptedBytes.{joined}
 use Rattle.des_columns.specs.Forms.{filled_to}
 use Rattle.des_columns.specs.Readings.{IsColumnRead, IsRead}
 use Rattle.des_columns.specs.declared.form.Reading.{Reading}
 use Rattle.des_columns.specs.declared.status.TheConstants.{OK}
 use Rattle.des_columns.specs.Columns.{pieces}
-use Rattle.des_columns.proofs.Pieces.{length-pieces, value-at}
+use Rattle.des_columns.proofs.Pieces.{length-pieces, pieces-at, value-at}
 use borrow.Rule.Slice.PartMut.{put_mid}
 
--- by what follows for each value
-pub IsColumnRead-weaker : (P Q : List ℕ → ℤ → List ℕ → Type 0) (values : List (List ℕ)) (texts text_lengths : List ℕ)
-    (statuses : List ℤ)
-    → ((k : ℕ) (status : ℤ) (text : List ℕ) → k < length values → P (get_or values k []) status text
-    → Q (get_or values k []) status text)
-    → IsColumnRead P values texts text_lengths statuses → IsColumnRead Q values texts text_lengths statuses
-IsColumnRead-weaker P Q values texts text_lengths statuses weaker column = record {
+-- by what follows for each value, if they are bytes
+pub column-weaker : (P Q : List ℕ → ℤ → List ℕ → Type 0) (lengths bytes texts text_lengths : List ℕ) (statuses : List ℤ)
+    → AreBytes bytes
+    → ((value : List ℕ) (status : ℤ) (text : List ℕ) → AreBytes value → P value status text → Q value status text)
+    → IsColumnRead P (pieces lengths bytes) texts text_lengths statuses
+    → IsColumnRead Q (pieces lengths bytes) texts text_lengths statuses
+column-weaker P Q lengths bytes texts text_lengths statuses are weaker column = record {
   read = column.read;
   count = column.count;
   statuses_count = column.statuses_count;
-  reads = λ k below. weaker k _ _ below (column.reads k below);
+  reads = λ k below.
+      let start : ℕ = sum (take k lengths) in
+      weaker _ _ _ (subst AreBytes (sym (pieces-at lengths bytes k (omega (arith, below, length-pieces lengths bytes))))
+      (All-take (λ byte. byte < 256) (get_or lengths k 0) (drop start bytes) (All-drop (λ byte. byte < 256) start bytes are)))
+      (column.reads k below);
   lengths = column.lengths;
   places = column.places;
 }

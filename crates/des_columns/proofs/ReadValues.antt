@@ -1,5 +1,5 @@
 -- What is decrypted of values is what was encrypted to them.
-use Rattle.std.proofs.Common.{◌≡◌, ℕ, ℤ, zero, suc, ◌-◌, ◌*◌, ◌/◌, ◌%◌, ◌<◌, ◌≤◌, ◌==◌, ◌&&◌, nat_le, Bool, true, false, if◌then◌else◌, Option, Some, None, List, [], ◌∷◌, length, take, drop, map, get_or, sum, refl, ap, sym, ◌∙◌, subst, arith}
+use Rattle.std.proofs.Common.{◌≡◌, ℕ, ℤ, zero, suc, ◌-◌, ◌*◌, ◌/◌, ◌%◌, ◌<◌, ◌≤◌, ◌==◌, ◌&&◌, nat_le, Bool, true, false, if◌then◌else◌, Option, Some, None, List, [], ◌∷◌, length, take, drop, map, get_or, refl, ap, ◌∙◌, arith}
 use Rattle.std.specs.List.{All}
 use Rattle.std.specs.Simd.{first_chunks}
 use Rattle.std.specs.Simd.Lanes.{zip2}
@@ -12,19 +12,16 @@ use Rattle.des.specs.Blocks.{AreBytes, IsBlock, AnswersEach}
 use Rattle.des.specs.Cbc.{xor_blocks}
 use Rattle.des.specs.Relations.{IsGraphOf}
 use Rattle.des_fast.proofs.RelatedCbc.{CbcUnder-related_back}
-use Rattle.des_columns.specs.Columns.{ReadsAs, pieces, plain_of}
+use Rattle.des_columns.specs.Columns.{plain_of}
 use Rattle.des_columns.specs.EncryptedBytes.{AreEncrypted, IsEncrypted}
 use Rattle.des_columns.specs.Mysql.{has_form}
 use Rattle.des_columns.specs.Forms.{HasVector, blocks_of, fault_before, part_after, part_of, xored}
-use Rattle.des_columns.specs.Readings.{IsColumnRead, IsReading}
 use Rattle.des_columns.specs.declared.form.BlockMode.{BlockMode}
 use Rattle.des_columns.specs.declared.form.BlockMode.TheVariants.{Ecb, Cbc}
 use Rattle.des_columns.specs.declared.form.ValueForm.{ValueForm}
 use Rattle.des_columns.specs.declared.form.ValueForm.TheVariants.{Mysql, Pkcs7, Unpadded}
 use Rattle.des_columns.specs.declared.status.TheConstants.{ERR_NOT_ENCRYPTED, ERR_BLOCKS}
 use Rattle.des_columns.proofs.JoinedBlocks.{joined_chunks}
-use Rattle.des_columns.proofs.Pieces.{length-pieces, pieces-at}
-use Rattle.des_columns.proofs.ReadColumns.{IsColumnRead-weaker}
 
 -- ---- the blocks of a value
 
@@ -118,35 +115,3 @@ module _ (Relates : List ℕ → List ℕ → Type 0) (encryption decryption : L
         (chunks-are_blocks (length (part_of form value) / 8) (part_of form value)
         (part-bytes (fault_before form value) form value are) (omega arith));
   }
-
--- ---- the values of a column
-
--- a value is bytes
-pub piece-bytes : (lengths bytes : List ℕ) (k : ℕ) → k < length lengths → AreBytes bytes
-    → AreBytes (get_or (pieces lengths bytes) k [])
-piece-bytes lengths bytes k below are =
-    subst AreBytes (sym (pieces-at lengths bytes k below))
-    (All-take (λ byte. byte < 256) (get_or lengths k 0) (drop (sum (take k lengths)) bytes)
-    (All-drop (λ byte. byte < 256) (sum (take k lengths)) bytes are))
-
--- a column is read under one key as what was encrypted to its values
-pub column-decrypted : (form : ValueForm) (mode : BlockMode) (Relates : List ℕ → List ℕ → Type 0)
-    (encryption decryption : List ℕ → List ℕ) (lengths bytes texts text_lengths : List ℕ) (statuses : List ℤ)
-    → IsGraphOf encryption Relates → ((block : List ℕ) → IsBlock block → IsBlock (decryption block))
-    → ((block : List ℕ) → IsBlock block → encryption (decryption block) ≡ block) → HasVector mode → AreBytes bytes
-    → IsColumnRead (ReadsAs form mode (λ value. true) (λ value. decryption)) (pieces lengths bytes) texts text_lengths statuses
-    → IsColumnRead (IsReading form mode Relates) (pieces lengths bytes) texts text_lengths statuses
-column-decrypted form mode Relates encryption decryption lengths bytes texts text_lengths statuses graph makes_blocks undoes
-    vector are =
-    IsColumnRead-weaker (ReadsAs form mode (λ value. true) (λ value. decryption)) (IsReading form mode Relates)
-    (pieces lengths bytes) texts text_lengths statuses
-    (λ k status text below reads.
-    let value : List ℕ = get_or (pieces lengths bytes) k [] in
-    record {
-      plain = plain_of form mode (λ value. decryption) value;
-      encrypted =
-          plain-encrypted Relates encryption decryption graph makes_blocks undoes form mode value vector
-          (piece-bytes lengths bytes k (omega (arith, below, length-pieces lengths bytes)) are);
-      status_is = reads.0;
-      text_is = reads.1;
-    })

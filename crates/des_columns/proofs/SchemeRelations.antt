@@ -12,8 +12,7 @@ module _ (By : BlockMode → (List ℕ → List ℕ → Type 0) → Type 0) (cip
   pub by-single : made ≡ filled 8 key → (cipher ≡ Des) ⊎ (cipher ≡ DesEcb) → By mode (λ x y. Enciphers made x y)
       → By (mode_by cipher iv) (relation_by cipher key)
   by-single is kind said =
-      let filled_key = subst (λ (k : List ℕ). By (mode_by cipher iv) (λ x y. Enciphers k x y)) is
-      (subst (λ (m : BlockMode). By m (λ x y. Enciphers made x y)) is_mode said) in
+      let filled_key : By (mode_by cipher iv) (λ x y. Enciphers (filled 8 key) x y) = rw (← is_mode, ← is) said in
       elim kind [
         | inl same ↦ subst (λ (c : Cipher). By (mode_by cipher iv) (relation_by c key)) (sym same) filled_key
         | inr same ↦ subst (λ (c : Cipher). By (mode_by cipher iv) (relation_by c key)) (sym same) filled_key
@@ -22,8 +21,7 @@ module _ (By : BlockMode → (List ℕ → List ℕ → Type 0) → Type 0) (cip
   pub by-triple : made ≡ filled 24 key → (cipher ≡ TripleDes) ⊎ (cipher ≡ TripleDesEcb)
       → By mode (λ x y. EnciphersEde3 made x y) → By (mode_by cipher iv) (relation_by cipher key)
   by-triple is kind said =
-      let filled_key = subst (λ (k : List ℕ). By (mode_by cipher iv) (λ x y. EnciphersEde3 k x y)) is
-      (subst (λ (m : BlockMode). By m (λ x y. EnciphersEde3 made x y)) is_mode said) in
+      let filled_key : By (mode_by cipher iv) (λ x y. EnciphersEde3 (filled 24 key) x y) = rw (← is_mode, ← is) said in
       elim kind [
         | inl same ↦ subst (λ (c : Cipher). By (mode_by cipher iv) (relation_by c key)) (sym same) filled_key
         | inr same ↦ subst (λ (c : Cipher). By (mode_by cipher iv) (relation_by c key)) (sym same) filled_key

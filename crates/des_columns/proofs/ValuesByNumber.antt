@@ -1,5 +1,5 @@
 -- What is read of values under keys by their numbers.
-use Rattle.std.proofs.Common.{◌≡◌, ℕ, ℤ, ◌<◌, Bool, true, false, if◌then◌else◌, Option, Some, None, List, [], ◌∷◌, get_or, is_some, replicate, refl, ap, sym, ◌∙◌, subst, arith}
+use Rattle.std.proofs.Common.{◌≡◌, ℕ, ℤ, ◌<◌, Bool, true, false, if◌then◌else◌, Option, Some, None, List, [], ◌∷◌, get_or, is_some, replicate, refl, ap, ◌∙◌, arith}
 use Rattle.std.specs.Option.{option_or, unwrap_or}
 use Rattle.std.proofs.lemmas.List.Elements.{All-replicate}
 use Rattle.des.specs.Blocks.{AreBytes, IsBlock, IsKey, part}
@@ -8,20 +8,16 @@ use Rattle.des.specs.TripleCiphers.{ede3_decryption, ede3_encryption}
 use Rattle.des.specs.Laws.Passes.{IsPass-through, IsPass-turned}
 use Rattle.des.specs.Laws.DesLaws.{IsPass-key}
 use Rattle.des.proofs.TripleGraphs.{HasGraphs-Triple}
-use Rattle.des_columns.specs.Columns.{ReadsAs, fault_under, pieces, plain_of}
-use Rattle.des_columns.specs.EncryptedBytes.{IsEncrypted}
-use Rattle.des_columns.specs.Forms.{part_of, size_in, status_after, text_after}
+use Rattle.des_columns.specs.Columns.{ReadsAs, fault_under, plain_of}
+use Rattle.des_columns.specs.Forms.{size_in, status_after, text_after}
 use Rattle.des_columns.specs.KeyFile.{has_key}
 use Rattle.des_columns.specs.Mysql.{has_form, number_of}
-use Rattle.des_columns.specs.MysqlColumns.{ReadsByNumber, ReadsUnder}
-use Rattle.des_columns.specs.Readings.{IsColumnRead}
+use Rattle.des_columns.specs.MysqlColumns.{ReadsUnder}
 use Rattle.des_columns.specs.declared.form.BlockMode.{BlockMode}
 use Rattle.des_columns.specs.declared.form.BlockMode.TheVariants.{Cbc}
 use Rattle.des_columns.specs.declared.form.ValueForm.TheVariants.{Mysql}
 use Rattle.des_columns.specs.declared.status.TheConstants.{ERR_KEY_NUMBER, ERR_NOT_ENCRYPTED}
-use Rattle.des_columns.proofs.Pieces.{length-pieces}
-use Rattle.des_columns.proofs.ReadColumns.{IsColumnRead-weaker}
-use Rattle.des_columns.proofs.ReadValues.{piece-bytes, plain-encrypted}
+use Rattle.des_columns.proofs.ReadValues.{plain-encrypted}
 
 zeros-block : IsBlock (replicate 8 0)
 zeros-block = (refl, All-replicate (λ byte. byte < 256) 8 0 (omega arith))
@@ -30,7 +26,7 @@ zeros-block = (refl, All-replicate (λ byte. byte < 256) 8 0 (omega arith))
 abbrev pub key_for : List (Option (List ℕ)) → List ℕ → List ℕ
 key_for keys value = unwrap_or (get_or keys (number_of value) None) (replicate 24 0)
 
-abbrev zeros : BlockMode
+abbrev pub zeros : BlockMode
 zeros = Cbc (replicate 8 0)
 
 abbrev plain_by : List (Option (List ℕ)) → List ℕ → List ℕ
@@ -49,7 +45,7 @@ faulty : (form : Bool) (size : Option ℕ) (plain : List ℕ)
 faulty true size plain = (refl, refl)
 faulty false size plain = (refl, refl)
 
-reads-by-number : (keys : List (Option (List ℕ))) (value : List ℕ) (key : Option (List ℕ)) (status : ℤ) (text : List ℕ)
+pub reads-by-number : (keys : List (Option (List ℕ))) (value : List ℕ) (key : Option (List ℕ)) (status : ℤ) (text : List ℕ)
     → get_or keys (number_of value) None ≡ key
     → ((k : List ℕ) → get_or keys (number_of value) None ≡ Some k → IsKey 24 k) → AreBytes value
     → ReadsAs Mysql zeros (has_key keys) (λ value. ede3_decryption (key_for keys value)) value status text
@@ -71,24 +67,8 @@ reads-by-number keys value (Some key) status text some are_keys are reads =
     record {
       plain = plain;
       encrypted =
-          subst (λ (k : List ℕ). IsEncrypted zeros (EnciphersEde3 key) (plain_of Mysql zeros (λ value. ede3_decryption k) value)
-          (part_of Mysql value)) (sym key_is)
-          (plain-encrypted (EnciphersEde3 key) (ede3_encryption key) (ede3_decryption key)
+          rw key_is (plain-encrypted (EnciphersEde3 key) (ede3_encryption key) (ede3_decryption key)
           (HasGraphs-Triple true true key is_key).encryption pass.back_is_block pass.forth_back Mysql zeros value zeros-block are);
       status_is = reads.0 ∙ ap (λ (b : Bool). status_after (fault_under b Mysql value) (size_in Mysql plain)) has;
       text_is = reads.1 ∙ ap (λ (b : Bool). text_after (fault_under b Mysql value) (size_in Mysql plain) plain) has;
     }
-
--- a column of values
-pub column-by-number : (keys : List (Option (List ℕ))) (lengths bytes texts text_lengths : List ℕ) (statuses : List ℤ)
-    → ((n : ℕ) (key : List ℕ) → get_or keys n None ≡ Some key → IsKey 24 key) → AreBytes bytes
-    → IsColumnRead (ReadsAs Mysql zeros (has_key keys) (λ value. ede3_decryption (key_for keys value))) (pieces lengths bytes)
-    texts text_lengths statuses
-    → IsColumnRead (ReadsByNumber keys) (pieces lengths bytes) texts text_lengths statuses
-column-by-number keys lengths bytes texts text_lengths statuses are_keys are =
-    IsColumnRead-weaker (ReadsAs Mysql zeros (has_key keys) (λ value. ede3_decryption (key_for keys value)))
-    (ReadsByNumber keys) (pieces lengths bytes) texts text_lengths statuses
-    (λ k status text below.
-    let value : List ℕ = get_or (pieces lengths bytes) k [] in
-    reads-by-number keys value (get_or keys (number_of value) None) status text refl (are_keys (number_of value))
-    (piece-bytes lengths bytes k (omega (arith, below, length-pieces lengths bytes)) are))

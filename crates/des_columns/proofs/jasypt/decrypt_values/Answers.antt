@@ -1,5 +1,5 @@
 -- A value more.
-use Rattle.std.proofs.Common.{rules, w32, SFits, ℕ, ◌+◌, ◌-◌, List, length, take, drop, get_or, sym, ◌∙◌, arith}
+use Rattle.std.proofs.Common.{rules, w32, SFits, ℕ, ◌+◌, ◌-◌, List, take, get_or, sym, ◌∙◌, arith}
 use Rattle.std.proofs.lemmas.List.{length-take-le}
 use Rattle.std.proofs.lemmas.Int.{to_z-of_z}
 use Rattle.des_columns.specs.Jasypt.{Reads}

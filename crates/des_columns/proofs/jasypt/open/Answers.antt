@@ -1,4 +1,4 @@
-use Rattle.std.proofs.Common.{◌≡◌, ℕ, ℤ, ◌-◌, List, length, take, drop, ap, sym, ◌∙◌, subst}
+use Rattle.std.proofs.Common.{◌≡◌, ℕ, ℤ, ◌-◌, List, length, take, drop, ap, sym, ◌∙◌}
 use Rattle.std.proofs.lemmas.List.{drop_at, length-drop, length-take-le, take-append-le, take_at}
 use Rattle.des_columns.specs.Jasypt.{ReadsBy}
 use Rattle.des_columns.specs.Pbe.{derived_by}

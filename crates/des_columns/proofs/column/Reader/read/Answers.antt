@@ -1,5 +1,5 @@
 -- A value more.
-use Rattle.std.proofs.Common.{rules, w32, SFits, ◌≡◌, ℕ, Bool, ◌+◌, ◌-◌, List, ◌∷◌, length, take, drop, get_or, refl, sum, ◌≤◌, sym, ◌∙◌, subst, arith}
+use Rattle.std.proofs.Common.{rules, w32, SFits, ℕ, ◌+◌, ◌-◌, List, length, drop, get_or, refl, ◌≤◌, sym, ◌∙◌, subst, arith}
 use Rattle.std.proofs.lemmas.Int.{to_z-of_z}
 use Rattle.std.proofs.lemmas.List.Sums.{sum_by_more_le}
 use Rattle.des_columns.specs.Columns.{AreDecrypted, ReadsAs, pieces}

@@ -1,10 +1,10 @@
 -- A value that is too long for the buffer, or one that waits there.
-use Rattle.std.proofs.Common.{rules, ◌≡◌, ℕ, ℤ, Option, ◌+◌, ◌-◌, ◌/◌, ◌≤◌, List, ◌∷◌, length, take, drop, refl, ap, ap₂, sym, ◌∙◌, subst, arith}
+use Rattle.std.proofs.Common.{◌≡◌, ℕ, ℤ, Option, ◌+◌, ◌-◌, ◌/◌, ◌≤◌, List, ◌∷◌, length, take, drop, refl, ap, ap₂, sym, ◌∙◌, subst, arith}
 use Rattle.std.proofs.lemmas.List.{length-drop, length-take-le}
 use Rattle.std.proofs.lemmas.Slice.{drop-put_mid}
 use Rattle.des_columns.specs.EncryptedBytes.{joined}
 use Rattle.des_columns.specs.Forms.{blocks_of, filled_to, part_of, size_in, status_after, text_after, xored}
-use Rattle.des_columns.specs.Columns.{decrypted, plain_of, text_as}
+use Rattle.des_columns.specs.Columns.{decrypted, text_as}
 use Rattle.des_columns.specs.Waiting.{AreWaiting}
 use Rattle.des_columns.specs.declared.form.BlockMode.{BlockMode}
 use Rattle.des_columns.specs.declared.form.ValueForm.{ValueForm}
