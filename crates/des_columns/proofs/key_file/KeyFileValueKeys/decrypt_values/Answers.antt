@@ -13,49 +13,47 @@ use Rattle.des_columns.specs.declared.form.ValueForm.{ValueForm}
 use Rattle.des_columns.proofs.KeysOfBlocks.{keys_of, zip2-keys}
 use Rattle.des_columns.proofs.Pieces.{flat_map-more, length-blocks, length-pieces, pieces-next}
 use Rattle.des_columns.proofs.ValuesByNumber.{key_for}
+use Rattle.des_columns.proofs.key_file.KeyFileValueKeys.decrypt_values.Given.{Over}
+use Rattle.des_columns.proofs.key_file.KeyFileValueKeys.decrypt_values.Goals.{After-part_of}
 use Rattle.des_columns.proofs.key_file.KeyFileValueKeys.decrypt_values.Goals as goal
 
 -- the next value, its blocks, and that their keys fit
-next : (form : ValueForm) (lengths bytes rest value part : List ℕ) (k mid filled : ℕ) → k < length lengths
-    → mid ≡ min (get_or lengths k 0) (length rest) → pieces (drop k lengths) rest ≡ drop k (pieces lengths bytes)
-    → value ≡ take mid rest → part ≡ part_of form value
-    → filled ≡ length (flat_map (blocks_of form) (take k (pieces lengths bytes)))
-    → length (flat_map (blocks_of form) (pieces lengths bytes)) ≤ 256
-    → (value ≡ get_or (pieces lengths bytes) k [])
-    × (pieces (drop (k + 1) lengths) (drop mid rest) ≡ drop (k + 1) (pieces lengths bytes))
-    × (length part / 8 ≡ length (blocks_of form (get_or (pieces lengths bytes) k []))) × (filled + length part / 8 ≤ 256)
-next form lengths bytes rest value part k mid filled below least are front of at few =
-    let vs : List (List ℕ) = pieces lengths bytes in
-    let both = pieces-next lengths bytes rest k mid below least are in
-    let same : value ≡ get_or vs k [] = front ∙ both.0 in
-    let count = length-blocks form value (get_or vs k []) part same of in
-    let bound = length-flat_map-take (blocks_of form) vs k [] (omega (arith, length-pieces lengths bytes, below)) in
-    (same, both.1, count, omega (arith, at, count, bound, few))
+next : (g : Over) (c : After-part_of g)
+    → let vs = pieces c.args.lengths.now c.args.values.now in
+    let value = get_or vs c.values.k [] in
+    let count = length c.part_of.result.now / 8 in
+    (c.split_at.result.0.now ≡ value)
+    × (pieces (drop (c.values.k + 1) c.args.lengths.now) (drop c.min.result c.values.rest.now) ≡ drop (c.values.k + 1) vs)
+    × (count ≡ length (blocks_of c.args.form value)) × (c.values.filled + count ≤ 256)
+next g c =
+    let form : ValueForm = c.args.form in
+    let k : ℕ = c.values.k in
+    let lengths : List ℕ = c.args.lengths.now in
+    let vs : List (List ℕ) = pieces lengths c.args.values.now in
+    let both =
+    pieces-next lengths c.args.values.now c.values.rest.now k c.min.result c.values-test.true c.min.ensures
+    c.values.invariant.rest in
+    let same : c.split_at.result.0.now ≡ get_or vs k [] = c.split_at.ensures.front ∙ both.0 in
+    let count = length-blocks form c.split_at.result.0.now (get_or vs k []) c.part_of.result.now same c.part_of.ensures.part in
+    let bound =
+    length-flat_map-take (blocks_of form) vs k []
+    (omega (arith, length-pieces lengths c.args.values.now, c.values-test.true)) in (
+      same,
+      both.1,
+      count,
+      omega (arith, c.values.invariant.filled, count, bound, c.requires.few, ap length c.requires.blocks),
+    )
 
 pub overflow_add-filled : goal.overflow_add-filled
-overflow_add-filled g c =
-    let more =
-    next c.args.form c.args.lengths.now c.args.values.now c.values.rest.now _ _ c.values.k c.min.result c.values.filled
-    c.values-test.true c.min.ensures c.values.invariant.rest c.split_at.ensures.front c.part_of.ensures.part
-    c.values.invariant.filled (omega (arith, c.requires.few, ap length c.requires.blocks)) in
-    omega (arith, more.3)
+overflow_add-filled g c = omega (arith, (next g (goal.at.overflow_add-filled g c).After-part_of).3)
 
 pub offset_bounds-keys-filled : goal.offset_bounds-keys-filled
-offset_bounds-keys-filled g c =
-    let more =
-    next c.args.form c.args.lengths.now c.args.values.now c.values.rest.now _ _ c.values.k c.min.result c.values.filled
-    c.values-test.true c.min.ensures c.values.invariant.rest c.split_at.ensures.front c.part_of.ensures.part
-    c.values.invariant.filled (omega (arith, c.requires.few, ap length c.requires.blocks)) in
-    omega (arith, more.3)
+offset_bounds-keys-filled g c = omega (arith, (next g (goal.at.offset_bounds-keys-filled g c).After-part_of).3)
 
 pub slice_bounds-keys-end : goal.slice_bounds-keys-end
 slice_bounds-keys-end g c =
-    let more =
-    next c.args.form c.args.lengths.now c.args.values.now c.values.rest.now _ _ c.values.k c.min.result c.values.filled
-    c.values-test.true c.min.ensures c.values.invariant.rest c.split_at.ensures.front c.part_of.ensures.part
-    c.values.invariant.filled (omega (arith, c.requires.few, ap length c.requires.blocks)) in
     let bound : c.values.filled + length c.part_of.result.now / 8 ≤ length c.values.keys =
-    omega (arith, more.3) in
+    omega (arith, (next g (goal.at.slice_bounds-keys-end g c).After-part_of).3) in
     search (rules, bound)
 
 pub values-preserved : goal.values-preserved
@@ -64,14 +62,10 @@ values-preserved g c =
     let keys = c.args.self.now.keys in
     let k : ℕ = c.values.k in
     let filled : ℕ = c.values.filled in
-    let lengths : List ℕ = c.args.lengths.now in
-    let vs : List (List ℕ) = pieces lengths c.args.values.now in
-    let inside : k < length vs = omega (arith, length-pieces lengths c.args.values.now, c.values-test.true) in
+    let vs : List (List ℕ) = pieces c.args.lengths.now c.args.values.now in
+    let inside : k < length vs = omega (arith, length-pieces c.args.lengths.now c.args.values.now, c.values-test.true) in
     let count : ℕ = length c.part_of.result.now / 8 in
-    let more =
-    next form lengths c.args.values.now c.values.rest.now _ _ k c.min.result filled c.values-test.true c.min.ensures
-    c.values.invariant.rest c.split_at.ensures.front c.part_of.ensures.part c.values.invariant.filled
-    (omega (arith, c.requires.few, ap length c.requires.blocks)) in
+    let more = next g (goal.at.values-preserved g c).After-part_of in
     let size : ℕ = filled + count - filled in
     let long : length (take size (drop filled c.values.keys)) ≡ count =
     length-take-le size (drop filled c.values.keys)
@@ -83,7 +77,7 @@ values-preserved g c =
     ∙ ap₂ (λ (n : ℕ) (key : List ℕ). replicate n key) (long ∙ more.2)
     (c.unwrap_or-key.ensures ∙ ap (λ key. unwrap_or key (replicate 24 0)) c.key_for.ensures ∙ ap (key_for keys) more.0) in
     record {
-      rest = ap (pieces (drop (k + 1) lengths)) c.split_at.ensures.back ∙ more.1;
+      rest = ap (pieces (drop (k + 1) c.args.lengths.now)) c.split_at.ensures.back ∙ more.1;
       filled =
           ap₂ ◌+◌ c.values.invariant.filled more.2
           ∙ sym (length-append (flat_map (blocks_of form) (take k vs)) _)
