@@ -1,18 +1,19 @@
 -- A group more.
-use Rattle.std.proofs.Common.{◌≡◌, ℕ, ◌+◌, ◌*◌, ◌/◌, ◌<◌, ◌≤◌, ◌++◌, List, length, take, drop, refl, ap, ap₂, sym, ◌∙◌, arith}
+use Rattle.std.proofs.Common.{◌≡◌, ℕ, ◌+◌, ◌-◌, ◌*◌, ◌/◌, ◌<◌, ◌≤◌, ◌++◌, List, length, take, drop, refl, ap, ap₂, sym, ◌∙◌, arith}
 use Rattle.std.proofs.lemmas.List.{drop-drop, length-take-le, take_all}
 use Rattle.std.proofs.lemmas.Slice.{drop-put_mid, take-put_mid}
 use Rattle.base64.specs.Engines.{standard}
 use Rattle.base64.specs.GeneralPurpose.{encode_of}
 use Rattle.base64.proofs.EngineFacts.{encode_of-nil}
 use Rattle.des_columns.proofs.Base64Groups.{group-more, group-whole, length-encoded, no-failure}
-use Rattle.des_columns.proofs.base64_in_place.decode.Goals.{else-count-lt3-via-then-count-lt3+else-group-groups, else-count-lt3-via-else-count-lt3}
+use Rattle.des_columns.proofs.base64_in_place.decode.Goals.{After-copy_from_slice, else-count-lt3-via-then-count-lt3+else-group-groups, else-count-lt3-via-else-count-lt3}
 use Rattle.des_columns.proofs.base64_in_place.decode.Goals as goal
 
--- a group is as it was
-group-at : (g size : ℕ) (characters initial : List ℕ) → size ≡ 4 → drop (4 * g) characters ≡ drop (4 * g) initial
-    → take size (drop (4 * g) characters) ≡ take 4 (drop (4 * g) initial)
-group-at g size characters initial is rest = ap₂ take is rest
+-- the group is as it was
+same : (c : After-copy_from_slice) → c.copy_from_slice.new.self ≡ take 4 (drop (4 * c.groups.group) c.args.characters.now)
+same c =
+    let four : 4 * c.groups.group + 4 - 4 * c.groups.group ≡ 4 = omega arith in
+    c.copy_from_slice.ensures.after ∙ ap₂ take four c.groups.invariant.rest
 
 pub returns-then-characters-ne0-clause-none : goal.returns-then-characters-ne0-clause-none
 returns-then-characters-ne0-clause-none c = λ _ bytes encodes.
@@ -31,9 +32,7 @@ pub returns-in_default-clause-none : goal.returns-in_default-clause-none
 returns-in_default-clause-none c = λ _ bytes encodes.
     no-failure bytes c.args.characters.now c.copy_from_slice.new.self c.in_default.field-0 c.groups.group encodes
     (omega (arith, c.groups-test.true))
-    (c.copy_from_slice.ensures.after
-    ∙ group-at c.groups.group _ c.groups.characters c.args.characters.now (omega arith) c.groups.invariant.rest)
-    c.in_default.ensures.err
+    (same (goal.at.returns-in_default-clause-none c).After-copy_from_slice) c.in_default.ensures.err
 
 pub returns-then-group-groups-clause-none : goal.returns-then-group-groups-clause-none
 returns-then-group-groups-clause-none c = λ _ bytes encodes.
@@ -41,9 +40,7 @@ returns-then-group-groups-clause-none c = λ _ bytes encodes.
     let three : length (take c.in-Ok.count output) ≡ 3 =
     group-whole bytes c.args.characters.now c.copy_from_slice.new.self _ c.groups.group encodes
     (omega (arith, c.if-group-groups.true))
-    (c.copy_from_slice.ensures.after
-    ∙ group-at c.groups.group _ c.groups.characters c.args.characters.now (omega arith) c.groups.invariant.rest)
-    c.in-Ok.ensures.ok.0 in
+    (same (goal.at.returns-then-group-groups-clause-none c).After-copy_from_slice) c.in-Ok.ensures.ok.0 in
     let long : length (take c.in-Ok.count output) ≡ c.in-Ok.count =
     length-take-le c.in-Ok.count output (omega (arith, c.in-Ok.ensures.ok.2, c.decode_slice_unchecked.auto.output)) in
     absurd (omega (arith, three, long, c.if-count-lt3.true))
@@ -68,7 +65,6 @@ groups-preserved c =
     let inside : size ≤ length characters = omega (arith, full, c.groups.invariant.long, c.groups-test.true) in
     let inside_all : size + count ≤ length characters =
     omega (arith, full, few, c.groups.invariant.long, c.groups-test.true) in
-    let same = c.copy_from_slice.ensures.after ∙ group-at g _ characters initial (omega arith) c.groups.invariant.rest in
     let next : 4 * (g + 1) ≡ 4 * g + 4 = omega arith in
     let written : List ℕ = take count output in
     let long : length new ≡ count =
@@ -83,7 +79,8 @@ groups-preserved c =
           (take-put_mid size _ characters new (size + count) (omega (arith, long)) inside
           ∙ ap (λ l. take size characters ++ l) c.copy_from_slice-in-groups.ensures.after)
           ∙ group-more initial (take size characters) written group g c.groups.invariant.encoded
-          (omega (arith, length-take-le size characters inside, full)) same c.are_bytes.ensures c.in-Ok.ensures.ok.0
+          (omega (arith, length-take-le size characters inside, full))
+          (same (goal.at.groups-preserved c).After-copy_from_slice) c.are_bytes.ensures c.in-Ok.ensures.ok.0
           ∙ ap (λ n. take n initial) (sym next);
       rest =
           drop-put_mid size _ characters new (4 * (g + 1)) (omega (arith, full, few)) inside (omega (arith, long))

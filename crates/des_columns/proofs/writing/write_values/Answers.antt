@@ -1,5 +1,5 @@
 -- A value more.
-use Rattle.std.proofs.Common.{rules, ℕ, ◌+◌, ◌-◌, ◌<◌, ◌≤◌, List, length, take, drop, get_or, refl, ap, sym, ◌∙◌, subst, arith}
+use Rattle.std.proofs.Common.{rules, ◌≡◌, sum, ℕ, ◌+◌, ◌-◌, ◌<◌, ◌≤◌, List, ◌∷◌, length, take, drop, get_or, refl, ap, sym, ◌∙◌, subst, arith}
 use Rattle.std.proofs.lemmas.List.{length-drop, take_rest}
 use Rattle.std.proofs.lemmas.List.Elements.{All-drop, All-take}
 use Rattle.std.proofs.lemmas.List.Sums.{sum_by-take-le, sum_by_more_le}
@@ -11,6 +11,8 @@ use Rattle.des_columns.proofs.Pieces.{length-pieces, next-left, pieces-left, sum
 use Rattle.des_columns.proofs.SpreadKeySizes.{spread_keys-le}
 use Rattle.des_columns.proofs.Turns.{length-put}
 use Rattle.des_columns.proofs.WrittenColumns.{text-next, written-end, written-next, written-none}
+use Rattle.des_columns.proofs.writing.write_values.Given.{Over}
+use Rattle.des_columns.proofs.writing.write_values.Goals.{After-refill}
 use Rattle.des_columns.proofs.writing.write_values.Goals as goal
 use borrow.Rule.Slice.PartMut.{put_mid}
 
@@ -50,6 +52,25 @@ refill-requires g c =
       ),
     )
 
+-- the next text: how long it is, where it ends, and whether it waits
+next : (g : Over) (c : After-refill g)
+    → let n = get_or c.args.lengths.now c.texts.k 0 in
+    let text = take (c.texts.from + n - c.texts.from) (drop c.texts.from c.args.texts.now) in
+    (length text ≡ n) × (c.texts.from + length text ≡ sum (take (c.texts.k + 1) c.args.lengths.now))
+    × AreEnciphered c.args.form c.args.mode (g.C.KeyInit.is_made_from c.new-cipher.result) g.C.Relating.relation
+    (text ∷ drop (c.texts.k + 1) (pieces c.args.lengths.now c.args.texts.now)) c.refill.new.waiting c.refill.new.buffer
+next g c =
+    let at =
+    text-next c.args.lengths.now c.args.texts.now c.texts.k c.texts.from _ c.requires.whole c.texts.invariant.from
+    c.texts-test.true (omega arith) in (
+      at.0,
+      at.1,
+      subst (λ (vs : List (List ℕ)). AreEnciphered c.args.form c.args.mode (g.C.KeyInit.is_made_from c.new-cipher.result)
+          g.C.Relating.relation vs c.refill.new.waiting c.refill.new.buffer)
+          (next-left c.args.lengths.now c.args.texts.now c.texts.k c.texts.from _ c.texts-test.true c.texts.invariant.from
+          (omega arith)) c.refill.ensures,
+    )
+
 pub slice_bounds-text-end : goal.slice_bounds-text-end
 slice_bounds-text-end g c =
     let bound : c.texts.from + get_or c.args.lengths.now c.texts.k 0 ≤ length c.args.texts.now =
@@ -63,17 +84,12 @@ slice_bounds-text-end g c =
 
 pub slice_bounds-value-end : goal.slice_bounds-value-end
 slice_bounds-value-end g c =
-    let form : ValueForm = c.args.form in
-    let lengths : List ℕ = c.args.lengths.now in
-    let k : ℕ = c.texts.k in
-    let size : ℕ = c.texts.from + get_or lengths k 0 - c.texts.from in
-    let at = text-next lengths c.args.texts.now k c.texts.from size c.requires.whole c.texts.invariant.from c.texts-test.true (omega arith) in
     let bound : c.texts.start + c.value_size-size.result ≤ length c.args.values.now =
     omega (
       arith,
-      sum_by_more_le (value_size form) lengths k 0 c.texts-test.true,
+      sum_by_more_le (value_size c.args.form) c.args.lengths.now c.texts.k 0 c.texts-test.true,
       c.value_size-size.ensures,
-      ap (value_size form) at.0,
+      ap (value_size c.args.form) (next g (goal.at.slice_bounds-value-end g c).After-refill).0,
       c.requires.values,
       c.texts.invariant.start,
     ) in
@@ -82,10 +98,7 @@ slice_bounds-value-end g c =
 pub write_next-requires-clause-waiting : goal.write_next-requires-clause-waiting
 write_next-requires-clause-waiting g c = (
   drop (c.texts.k + 1) (pieces c.args.lengths.now c.args.texts.now),
-  subst (λ (vs : List (List ℕ)). AreEnciphered c.args.form c.args.mode (g.C.KeyInit.is_made_from c.new-cipher.result)
-      g.C.Relating.relation vs c.refill.new.waiting c.refill.new.buffer)
-      (next-left c.args.lengths.now c.args.texts.now c.texts.k c.texts.from _ c.texts-test.true c.texts.invariant.from (omega arith))
-      c.refill.ensures,
+  (next g (goal.at.write_next-requires-clause-waiting g c).After-refill).2,
 )
 
 pub texts-preserved : goal.texts-preserved
@@ -105,8 +118,8 @@ texts-preserved g c =
     let room = c.texts.auto.values ∙ c.requires.values in
     let within : start ≤ length values = omega (arith, c.texts.invariant.start, sum_by-take-le (value_size form) lengths k, room) in
     let over : List ℕ = put_mid start (length values - start) values c.refill.new.values in
-    let at = text-next lengths bytes k from size c.requires.whole c.texts.invariant.from below (omega arith) in
-    let next =
+    let at = next g (goal.at.texts-preserved g c).After-refill in
+    let more =
     written-next (value_size form) (value_size form) W vs lengths over k start
     (length-put start (length values - start) values c.refill.new.values (omega (arith, within))
     (c.refill.auto.values ∙ ap length (take_rest values start) ∙ length-drop start values) ∙ room)
@@ -119,13 +132,9 @@ texts-preserved g c =
     (c.write_next.ensures.written key c.new-cipher.ensures) in
     record {
       from = at.1;
-      start = next.0;
-      waiting =
-          c.write_next.ensures.waiting (drop (k + 1) vs)
-          (subst (λ (l : List (List ℕ)). AreEnciphered form c.args.mode (g.C.KeyInit.is_made_from c.new-cipher.result)
-          g.C.Relating.relation l c.refill.new.waiting c.refill.new.buffer)
-          (next-left lengths bytes k from size below c.texts.invariant.from (omega arith)) c.refill.ensures);
-      written = next.1;
+      start = more.0;
+      waiting = c.write_next.ensures.waiting (drop (k + 1) vs) at.2;
+      written = more.1;
     }
 
 pub returns : goal.returns
