@@ -65,3 +65,10 @@ chunks-at m count total size bytes part within is of long =
     ap₂ (first_chunks 8) number of
     ∙ take-chunks count (total - m) size (drop (m * 8) bytes) (omega (arith, within)) is
     ∙ ap (take count) (sym (drop-chunks m (total - m) total bytes (omega (arith, within))))
+
+-- lists that end alike from one place on do so from a later one
+pub drop-further : (n m : ℕ) (xs ys : List ℕ) → m ≤ n → drop m xs ≡ drop m ys → drop n xs ≡ drop n ys
+drop-further n m xs ys within same =
+    let whole : m + (n - m) ≡ n = omega (arith, within) in
+    ap (λ k. drop k xs) (sym whole) ∙ sym (drop-drop (n - m) m xs) ∙ ap (drop (n - m)) same ∙ drop-drop (n - m) m ys
+    ∙ ap (λ k. drop k ys) whole

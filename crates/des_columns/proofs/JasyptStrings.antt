@@ -94,17 +94,9 @@ and-false false = refl
 not-begun : (xs : List ℕ) → list_all is_symbol xs ≡ true → starts_with nat_eq xs (codes "ENC(") ≡ false
 not-begun [] all = refl
 not-begun (a ∷ []) all = and-false (nat_eq 69 a)
-not-begun (a ∷ b ∷ []) all = ap (λ t. nat_eq 69 a && t) (and-false (nat_eq 78 b)) ∙ and-false (nat_eq 69 a)
-not-begun (a ∷ b ∷ c ∷ []) all =
-    ap (λ t. nat_eq 69 a && (nat_eq 78 b && t)) (and-false (nat_eq 67 c))
-    ∙ ap (λ t. nat_eq 69 a && t) (and-false (nat_eq 78 b))
-    ∙ and-false (nat_eq 69 a)
-not-begun (a ∷ b ∷ c ∷ d ∷ xs) all =
-    ap (λ t. nat_eq 69 a && (nat_eq 78 b && (nat_eq 67 c && (t && true))))
-    (no-bracket d (symbol-at (a ∷ b ∷ c ∷ d ∷ xs) 3 all))
-    ∙ ap (λ t. nat_eq 69 a && (nat_eq 78 b && t)) (and-false (nat_eq 67 c))
-    ∙ ap (λ t. nat_eq 69 a && t) (and-false (nat_eq 78 b))
-    ∙ and-false (nat_eq 69 a)
+not-begun (a ∷ b ∷ []) all = simp and-false
+not-begun (a ∷ b ∷ c ∷ []) all = simp and-false
+not-begun (a ∷ b ∷ c ∷ d ∷ xs) all = simp (no-bracket d (symbol-at (a ∷ b ∷ c ∷ d ∷ xs) 3 all), and-false)
 
 not-enclosed : (xs : List ℕ) → list_all is_symbol xs ≡ true → inside xs ≡ xs
 not-enclosed xs all =
@@ -125,10 +117,7 @@ jasypt-read by count password salt text value eight written bytes size =
     ∙ ap (filter is_character) (not-enclosed string all)
     ∙ kept string all in
     let writes : WritesBy by (derived_by by password (take 8 (salt ++ encrypted)) count) text encrypted =
-    subst (λ (l : List ℕ). WritesBy by (derived_by by password l count) text encrypted)
-    (front ∙ sym (take_at salt encrypted 8 eight))
-    (subst (λ (l : List ℕ). WritesBy by (derived_by by password (take 8 (salt ++ text)) count) l encrypted)
-    (drop_at salt text 8 eight) written.writes) in
+    rw take_at salt encrypted 8 eight (rw (front, drop_at salt text 8 eight) at written.writes) in
     let both : List ℕ = derived_by by password (take 8 (salt ++ encrypted)) count in
     inr (
       salt ++ encrypted,

@@ -51,8 +51,7 @@ size-starred text =
     let last : last_of (padded text) ≡ 8 - length text % 8 = last-starred text in
     let few : nat_le (last_of (padded text)) 8 ≡ true = le-leb (last_of (padded text)) 8 (omega (arith, last)) in
     let size : length (padded text) - last_of (padded text) ≡ length text = omega (arith, last, length-starred text) in
-    let P : Bool → Option ℕ = λ t. if t then Some (length (padded text) - last_of (padded text)) else None in
-    ap P few ∙ ap Some size
+    rw few (ap Some size)
 
 all-equal : (n count : ℕ) → list_all (λ byte. byte == n) (replicate count n) ≡ true
 all-equal n zero = refl
@@ -69,19 +68,19 @@ size-counted text n some few =
     ap (λ k. list_all (λ byte. byte == n) (drop k plain)) front
     ∙ ap (list_all (λ byte. byte == n)) (drop_at text (replicate n n) (length text) refl)
     ∙ all-equal n n in
-    let tested = and_from _ _ (and_from _ _ (and_from _ _ (le-leb 1 n some) (le-leb n 8 few)) within) equal in
-    let P : Bool → Option ℕ = λ t. if t then Some (length plain - n) else None in
-    ap (λ k. pkcs7_size k plain) (last-counted text n some) ∙ ap P tested ∙ ap Some front
+    ap (λ k. pkcs7_size k plain) (last-counted text n some)
+    ∙ rw (le-leb 1 n some, le-leb n 8 few, within, equal) (ap Some front)
 
 -- ---- a value is none that can't be decrypted
 
 no_fault-mysql : (byte : ℕ) (blocks : List ℕ) → 128 ≤ byte → 8 ≤ length blocks → length blocks % 8 ≡ 0
     → fault_before Mysql (byte ∷ blocks) ≡ None
 no_fault-mysql byte blocks high some whole =
-    let P : Bool → Option ℤ = λ t. if t then None else Some ERR_NOT_ENCRYPTED in
-    ap P (and_from _ _
-    (and_from _ _ (le-leb 9 (length (byte ∷ blocks)) (omega arith)) (eq-eqb (length (byte ∷ blocks) % 8) 1 (omega arith)))
-    (le-leb 128 byte high))
+    rw (
+      le-leb 9 (length (byte ∷ blocks)) (omega arith),
+      eq-eqb (length (byte ∷ blocks) % 8) 1 (omega arith),
+      le-leb 128 byte high,
+    ) refl
 
 no_fault-whole : (value : List ℕ) → length value % 8 ≡ 0 → fault_before Unpadded value ≡ None
 no_fault-whole value whole =

@@ -6,6 +6,7 @@ use Rattle.base64.specs.Engines.{standard}
 use Rattle.base64.specs.GeneralPurpose.{encode_of}
 use Rattle.base64.proofs.EngineFacts.{encode_of-nil}
 use Rattle.des_columns.proofs.Base64Groups.{group-more, group-whole, length-encoded, no-failure}
+use Rattle.des_columns.proofs.DecryptedBlocks.{drop-further}
 use Rattle.des_columns.proofs.base64_in_place.decode.Goals.{After-copy_from_slice, else-count-lt3-via-then-count-lt3+else-group-groups, else-count-lt3-via-else-count-lt3}
 use Rattle.des_columns.proofs.base64_in_place.decode.Goals as goal
 
@@ -84,8 +85,7 @@ groups-preserved c =
           ∙ ap (λ n. take n initial) (sym next);
       rest =
           drop-put_mid size _ characters new (4 * (g + 1)) (omega (arith, full, few)) inside (omega (arith, long))
-          ∙ ap (λ n. drop n characters) next ∙ sym (drop-drop 4 (4 * g) characters)
-          ∙ ap (drop 4) c.groups.invariant.rest ∙ drop-drop 4 (4 * g) initial ∙ ap (λ n. drop n initial) (sym next);
+          ∙ drop-further (4 * (g + 1)) (4 * g) characters initial (omega arith) c.groups.invariant.rest;
     }
 
 pub shape_of-characters : goal.shape_of-characters

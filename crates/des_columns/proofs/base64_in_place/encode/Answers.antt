@@ -6,6 +6,7 @@ use Rattle.std.proofs.lemmas.Slice.{drop-put_mid, take-put_mid}
 use Rattle.base64.specs.Engines.{standard}
 use Rattle.base64.specs.GeneralPurpose.{IsEncodedOver, encode_of, encoded_size_of}
 use Rattle.base64.proofs.EngineFacts.{encode_of-append, encode_of-nil}
+use Rattle.des_columns.proofs.DecryptedBlocks.{drop-further}
 use Rattle.des_columns.proofs.base64_in_place.encode.Goals as goal
 
 on-ok : {T E : Type 0} (result : Result T E) (x : T) (P : Type 0) → result ≡ Ok x → OnOk result P → P
@@ -61,7 +62,6 @@ groups-preserved c =
     c.copy_from_slice.ensures.after ∙ ap₂ take (is ∙ least) c.groups.invariant.rest ∙ take_min 3 (drop from initial)
     ∙ ap (take 3) (sym (drop-drop (3 * g) start initial)) in
     let next : 3 * g + 3 ≡ 3 * (g + 1) = omega arith in
-    let behind : from + 3 ≡ start + 3 * (g + 1) = omega arith in
     record {
       long = omega (arith, c.groups.invariant.long, inside, c.encode_slice.auto.output, four);
       front =
@@ -73,8 +73,7 @@ groups-preserved c =
       rest =
           drop-put_mid (4 * g) (4 * g + 4 - 4 * g) place new (start + 3 * (g + 1))
           (omega (arith, within, c.requires.size, c.requires.start)) (omega (arith, inside)) (omega (arith, as_long))
-          ∙ ap (λ n. drop n place) (sym behind) ∙ sym (drop-drop 3 from place) ∙ ap (drop 3) c.groups.invariant.rest
-          ∙ drop-drop 3 from initial ∙ ap (λ n. drop n initial) behind;
+          ∙ drop-further (start + 3 * (g + 1)) from place initial (omega arith) c.groups.invariant.rest;
     }
 
 pub shape_of-place : goal.shape_of-place

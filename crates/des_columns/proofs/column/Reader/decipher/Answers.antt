@@ -7,7 +7,7 @@ use Rattle.std.proofs.lemmas.Slice.{drop-put_mid, take-put_mid}
 use Rattle.des_columns.specs.EncryptedBytes.{joined}
 use Rattle.des_columns.specs.Forms.{mode_after, xored}
 use Rattle.des_columns.specs.declared.form.BlockMode.{BlockMode}
-use Rattle.des_columns.proofs.DecryptedBlocks.{chunks-at, mode_after-append, xored-append}
+use Rattle.des_columns.proofs.DecryptedBlocks.{chunks-at, drop-further, mode_after-append, xored-append}
 use Rattle.des_columns.proofs.Pieces.{length-first_chunks}
 use Rattle.des_columns.proofs.column.Reader.decipher.Goals as goal
 
@@ -56,13 +56,8 @@ parts-preserved g c =
           ∙ ap joined (sym (xored-append f mode before more))
           ∙ ap (λ (l : List (List ℕ)). joined (xored mode l (map f l))) (sym front);
       rest =
-          let whole : m * 8 + count * 8 ≡ (m + count) * 8 = omega arith in
           drop-put_mid (m * 8) size c.parts.bytes new ((m + count) * 8) (omega (arith, is)) inside new_long
-          ∙ ap (λ n. drop n c.parts.bytes) (sym whole)
-          ∙ sym (drop-drop (count * 8) (m * 8) c.parts.bytes)
-          ∙ ap (drop (count * 8)) c.parts.invariant.rest
-          ∙ drop-drop (count * 8) (m * 8) bytes
-          ∙ ap (λ n. drop n bytes) whole;
+          ∙ drop-further ((m + count) * 8) (m * 8) c.parts.bytes bytes (omega arith) c.parts.invariant.rest;
     }
 
 pub returns : goal.returns
