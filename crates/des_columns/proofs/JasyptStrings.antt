@@ -117,7 +117,7 @@ jasypt-read by count password salt text value eight written bytes size =
     ∙ ap (filter is_character) (not-enclosed string all)
     ∙ kept string all in
     let writes : WritesBy by (derived_by by password (take 8 (salt ++ encrypted)) count) text encrypted =
-    rw take_at salt encrypted 8 eight (rw (front, drop_at salt text 8 eight) at written.writes) in
+    rw (take_at salt encrypted 8 eight) (rw (front, drop_at salt text 8 eight) at written.writes) in
     let both : List ℕ = derived_by by password (take 8 (salt ++ encrypted)) count in
     inr (
       salt ++ encrypted,

@@ -11,7 +11,7 @@ use Rattle.std.proofs.lemmas.List.Elements.{All-drop, All-take}
 use Rattle.des.specs.Blocks.{AreBytes}
 use Rattle.des_columns.specs.EncryptedBytes.{joined}
 use Rattle.des_columns.specs.Forms.{filled_to}
-use Rattle.des_columns.specs.Readings.{IsColumnRead, IsRead}
+use Rattle.des_columns.specs.Readings.{IsColumnRead}
 use Rattle.des_columns.specs.declared.form.Reading.{Reading}
 use Rattle.des_columns.specs.declared.status.TheConstants.{OK}
 use Rattle.des_columns.specs.Columns.{pieces}
@@ -36,6 +36,13 @@ column-weaker P Q lengths bytes texts text_lengths statuses are weaker column = 
   lengths = column.lengths;
   places = column.places;
 }
+
+-- a value is read: its status, and its text in its place, before zeros
+pub record IsRead (Reads : List ℕ → ℤ → List ℕ → Type 0) (value : List ℕ) (reading : Reading) (place : List ℕ) : Type 0 where
+  pub text : List ℕ
+  pub reads : Reads value reading.status text
+  pub length_is : reading.length ≡ length text
+  pub placed : place ≡ filled_to (length value) text
 
 module _ (Reads : List ℕ → ℤ → List ℕ → Type 0) where
   pub column-none : IsColumnRead Reads [] [] [] []

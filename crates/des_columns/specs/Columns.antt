@@ -32,8 +32,7 @@ deciphered mode decryption bytes =
 
 -- what a value is, decrypted
 abbrev pub plain_of : ValueForm → BlockMode → (List ℕ → List ℕ → List ℕ) → List ℕ → List ℕ
-plain_of form mode decryption value =
-    joined (xored mode (blocks_of form value) (decrypted form decryption value))
+plain_of form mode decryption value = deciphered mode (decryption value) (part_of form value)
 
 -- why a value has no text, by whether there is a key for it
 abbrev pub fault_under : Bool → ValueForm → List ℕ → Option ℤ
@@ -41,15 +40,8 @@ fault_under true form value = fault_before form value
 fault_under false form value = option_or (fault_before form value) (Some ERR_KEY_NUMBER)
 
 -- status and text of a value, by whether there is a key for it, and what this decrypts each block to
-abbrev pub status_as : ValueForm → BlockMode → (List ℕ → Bool) → (List ℕ → List ℕ → List ℕ) → List ℕ → ℤ
-status_as form mode has_key decryption value =
-    status_after (fault_under (has_key value) form value) (size_in form (plain_of form mode decryption value))
-
-abbrev pub text_as : ValueForm → BlockMode → (List ℕ → Bool) → (List ℕ → List ℕ → List ℕ) → List ℕ → List ℕ
-text_as form mode has_key decryption value =
-    let plain = plain_of form mode decryption value in
-    text_after (fault_under (has_key value) form value) (size_in form plain) plain
-
 abbrev pub ReadsAs : ValueForm → BlockMode → (List ℕ → Bool) → (List ℕ → List ℕ → List ℕ) → List ℕ → ℤ → List ℕ → Type 0
 ReadsAs form mode has_key decryption value status text =
-    (status ≡ status_as form mode has_key decryption value) × (text ≡ text_as form mode has_key decryption value)
+    let plain = plain_of form mode decryption value in
+    let fault = fault_under (has_key value) form value in
+    (status ≡ status_after fault (size_in form plain)) × (text ≡ text_after fault (size_in form plain) plain)

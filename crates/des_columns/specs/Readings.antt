@@ -4,7 +4,6 @@ use Rattle.std.specs.Simd.Lanes.{zip2}
 use Rattle.des_columns.specs.EncryptedBytes.{joined, IsEncrypted}
 use Rattle.des_columns.specs.Forms.{part_of, status_of, text_of, filled_to}
 use Rattle.des_columns.specs.declared.form.BlockMode.{BlockMode}
-use Rattle.des_columns.specs.declared.form.Reading.{Reading}
 use Rattle.des_columns.specs.declared.form.ValueForm.{ValueForm}
 use Rattle.des_columns.specs.declared.status.TheConstants.{OK}
 
@@ -15,13 +14,6 @@ pub record IsReading (form : ValueForm) (mode : BlockMode) (Relates : List ℕ �
   pub encrypted : IsEncrypted mode Relates plain (part_of form value)
   pub status_is : status ≡ status_of form value plain
   pub text_is : text ≡ text_of form value plain
-
--- a value is read: its status, and its text in its place, before zeros
-pub record IsRead (Reads : List ℕ → ℤ → List ℕ → Type 0) (value : List ℕ) (reading : Reading) (place : List ℕ) : Type 0 where
-  pub text : List ℕ
-  pub reads : Reads value reading.status text
-  pub length_is : reading.length ≡ length text
-  pub placed : place ≡ filled_to (length value) text
 
 -- each value of a column is read: its status, and its text in the value's place, before zeros
 pub record IsColumnRead (Reads : List ℕ → ℤ → List ℕ → Type 0) (values : List (List ℕ)) (texts text_lengths : List ℕ)

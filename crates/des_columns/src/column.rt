@@ -3,11 +3,11 @@
 
 ghost use Rattle.std.specs.Prelude.{◌≡◌, ◌≤◌, ◌%◌, ◌↔◌, ◌∷◌, ℕ, IsTrue, List, length, sum};
 ghost use Rattle.std.specs.List.{All};
-ghost use Rattle.des_columns.specs.Forms.{filled_to};
-ghost use Rattle.des_columns.specs.Columns.{AreDecrypted, ReadsAs, deciphered, fault_under, pieces, status_as, text_as};
-ghost use Rattle.des_columns.specs.Readings.{IsColumnRead, IsRead};
+ghost use Rattle.des_columns.specs.Forms.{part_of};
+ghost use Rattle.des_columns.specs.Columns.{AreDecrypted, ReadsAs, deciphered, fault_under, pieces, plain_of};
+ghost use Rattle.des_columns.specs.Readings.{IsColumnRead};
 
-use crate::form::{BlockMode, Reading, ValueForm, finish, write_text};
+use crate::form::{BlockMode, ValueForm, finish};
 use crate::status::{ERR_KEY_NUMBER, OK};
 use crate::value_keys::ValueKeys;
 use crate::waiting::Waiting;
@@ -100,52 +100,38 @@ impl<K: ValueKeys> Reader<K> {
         }
     }
 
-    // Reads a value, however long it is.
-    fn read_long<S: Slice>(&self, value: &[u8], buffer: &mut [[u8; 8]], place: &mut [u8]) -> Reading
-        requires buffer { 1 ≤ length buffer.old }
-        requires place { length place.old ≡ length value.now }
-        ensures status { result.status ≡ status_as self.now.form self.now.mode
-            (K.has_key self.now.keys) (K.decryption self.now.keys) value.now }
-        ensures length { result.length ≡ length (text_as self.now.form self.now.mode
-            (K.has_key self.now.keys) (K.decryption self.now.keys) value.now) }
-        ensures text { place.new ≡ filled_to (length value.now) (text_as self.now.form self.now.mode
-            (K.has_key self.now.keys) (K.decryption self.now.keys) value.now) }
-    {
-        let part = self.form.part_of(value);
-        let bytes = &mut place[..part.len()];
-        bytes.copy_from_slice(part);
-        self.decipher::<S>(value, bytes, buffer);
-        finish(self.form, self.fault_of(value), part.len(), place)
-    }
-
-    // Reads the next value, from the buffer if it waits there.
-    fn read_next<S: Slice>(
+    // Writes what the next value is, decrypted: by its blocks in the buffer, if it waits there.
+    fn decrypt_next<S: Slice>(
         &self,
         value: &[u8],
         waiting: &mut Waiting,
         buffer: &mut [[u8; 8]],
-        place: &mut [u8],
-    ) -> Reading
+        plain: &mut [u8],
+    )
         requires buffer { 1 ≤ length buffer.old }
         requires waiting { (others : List (List ℕ)) × AreDecrypted self.now.form
             (K.decryption self.now.keys) (value.now ∷ others) waiting.old buffer.old }
-        requires place { length place.old ≡ length value.now }
-        ensures read { IsRead (ReadsAs self.now.form self.now.mode (K.has_key self.now.keys)
-            (K.decryption self.now.keys)) value.now result place.new }
+        requires plain { length plain.old ≡ length (part_of self.now.form value.now) }
+        ensures plain { plain.new
+            ≡ plain_of self.now.form self.now.mode (K.decryption self.now.keys) value.now }
         ensures waiting { (others : List (List ℕ)) → AreDecrypted self.now.form
             (K.decryption self.now.keys) (value.now ∷ others) waiting.old buffer.old
             → AreDecrypted self.now.form (K.decryption self.now.keys) others waiting.new buffer.new }
     {
+        let part = self.form.part_of(value);
         if waiting.count == 0 {
-            return self.read_long::<S>(value, buffer, place);
+            plain.copy_from_slice(part);
+            self.decipher::<S>(value, plain, buffer);
+            return;
         }
+        let (blocks, _) = part.as_chunks::<8>();
         let first = waiting.first;
-        let end = first + self.form.part_of(value).len() / 8;
+        let end = first + blocks.len();
         waiting.count -= 1;
         waiting.first = end;
         let answers = &mut buffer[first..end];
-        let fault = self.fault_of(value);
-        write_text(self.form, self.mode, fault, value, answers, place)
+        self.mode.xor_previous(blocks, answers);
+        plain.copy_from_slice(answers.as_flattened());
     }
 
     /// Reads the values of a column, one after another, of these lengths. Text k is written where
@@ -175,8 +161,11 @@ impl<K: ValueKeys> Reader<K> {
         'values: for k in 0..lengths.len() {
             self.refill::<S>(&values[start..], &lengths[k..], &mut waiting, buffer);
             let end = start + lengths[k];
+            let value = &values[start..end];
+            let count = self.form.part_of(value).len();
             let place = &mut texts[start..end];
-            let reading = self.read_next::<S>(&values[start..end], &mut waiting, buffer, place);
+            self.decrypt_next::<S>(value, &mut waiting, buffer, &mut place[..count]);
+            let reading = finish(self.form, self.fault_of(value), count, place);
             text_lengths[k] = reading.length;
             statuses[k] = reading.status;
             start = end;

@@ -4,8 +4,7 @@ ghost use Rattle.std.specs.Prelude.{◌≡◌, ◌==◌, ◌≤◌, ◌*◌, ◌
 ghost use Rattle.std.specs.List.{list_all};
 ghost use Rattle.std.specs.Simd.Lanes.{zip2};
 ghost use Rattle.des.specs.Cbc.{xor_blocks};
-ghost use Rattle.des_columns.specs.EncryptedBytes.{joined};
-ghost use Rattle.des_columns.specs.Forms.{HasVector, blocks_of, fault_before, filled_to, mode_after, part_of, pkcs7_size, size_in, status_after, text_after, xored};
+ghost use Rattle.des_columns.specs.Forms.{HasVector, fault_before, filled_to, mode_after, part_of, pkcs7_size, size_in, status_after, text_after, xored};
 ghost use Rattle.des_columns.specs.Mysql.{has_form, last_of};
 
 use crate::status::{ERR_BLOCKS, ERR_NOT_ENCRYPTED, ERR_PADDING, OK};
@@ -177,33 +176,4 @@ pub(crate) fn finish(form: ValueForm, fault: Option<i32>, count: usize, place: &
     };
     place[reading.length..].fill(0);
     reading
-}
-
-/// Writes the text of a value into its place, before zeros, where the answers are its blocks, each
-/// decrypted; or zeros alone, if there is a fault.
-pub(crate) fn write_text(
-    form: ValueForm,
-    mode: BlockMode,
-    fault: Option<i32>,
-    value: &[u8],
-    answers: &mut [[u8; 8]],
-    place: &mut [u8],
-) -> Reading
-    requires answers { length answers.old * 8 ≡ length (part_of form value.now) }
-    requires place { length place.old ≡ length value.now }
-    ensures status { result.status ≡ status_after fault (size_in form
-        (joined (xored mode (blocks_of form value.now) answers.old))) }
-    ensures length { result.length ≡ length (text_after fault (size_in form
-        (joined (xored mode (blocks_of form value.now) answers.old)))
-        (joined (xored mode (blocks_of form value.now) answers.old))) }
-    ensures text { place.new ≡ filled_to (length value.now) (text_after fault (size_in form
-        (joined (xored mode (blocks_of form value.now) answers.old)))
-        (joined (xored mode (blocks_of form value.now) answers.old))) }
-{
-    let part = form.part_of(value);
-    let (blocks, _) = part.as_chunks::<8>();
-    mode.xor_previous(blocks, answers);
-    let plain = answers.as_flattened();
-    place[..plain.len()].copy_from_slice(plain);
-    finish(form, fault, plain.len(), place)
 }

@@ -1,5 +1,5 @@
 -- What is encrypted behind the salt, and the characters that encode both.
-use Rattle.std.proofs.Common.{◌≡◌, ◌+◌, ◌-◌, ◌*◌, ◌/◌, ◌≤◌, ℕ, List, [], ◌++◌, length, take, drop, ap, ap₂, sym, ◌∙◌, subst, arith}
+use Rattle.std.proofs.Common.{◌≡◌, ◌+◌, ◌-◌, ◌*◌, ◌/◌, ◌≤◌, ℕ, List, [], ◌++◌, length, take, drop, ap, ap₂, sym, ◌∙◌, arith}
 use Rattle.std.proofs.lemmas.List.{append-nil, drop-append-le, drop_all, drop_at, length-drop, length-take-le, take_at}
 use Rattle.std.proofs.lemmas.Slice.{take-put_mid}
 use Rattle.base64.specs.Engines.{standard}

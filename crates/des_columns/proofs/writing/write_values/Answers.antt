@@ -60,15 +60,16 @@ next : (g : Over) (c : After-refill g)
     × AreEnciphered c.args.form c.args.mode (g.C.KeyInit.is_made_from c.new-cipher.result) g.C.Relating.relation
     (text ∷ drop (c.texts.k + 1) (pieces c.args.lengths.now c.args.texts.now)) c.refill.new.waiting c.refill.new.buffer
 next g c =
+    let size : ℕ = c.texts.from + get_or c.args.lengths.now c.texts.k 0 - c.texts.from in
     let at =
-    text-next c.args.lengths.now c.args.texts.now c.texts.k c.texts.from _ c.requires.whole c.texts.invariant.from
+    text-next c.args.lengths.now c.args.texts.now c.texts.k c.texts.from size c.requires.whole c.texts.invariant.from
     c.texts-test.true (omega arith) in (
       at.0,
       at.1,
       subst (λ (vs : List (List ℕ)). AreEnciphered c.args.form c.args.mode (g.C.KeyInit.is_made_from c.new-cipher.result)
           g.C.Relating.relation vs c.refill.new.waiting c.refill.new.buffer)
-          (next-left c.args.lengths.now c.args.texts.now c.texts.k c.texts.from _ c.texts-test.true c.texts.invariant.from
-          (omega arith)) c.refill.ensures,
+          (next-left c.args.lengths.now c.args.texts.now c.texts.k c.texts.from size c.texts-test.true
+          c.texts.invariant.from (omega arith)) c.refill.ensures,
     )
 
 pub slice_bounds-text-end : goal.slice_bounds-text-end

@@ -1,5 +1,5 @@
 -- The keys of a value more.
-use Rattle.std.proofs.Common.{rules, ◌≡◌, ℕ, ◌+◌, ◌-◌, ◌≤◌, ◌<◌, ◌/◌, min, List, [], ◌++◌, length, take, drop, get_or, replicate, ap, ap₂, sym, ◌∙◌, arith}
+use Rattle.std.proofs.Common.{rules, ◌≡◌, ℕ, ◌+◌, ◌-◌, ◌≤◌, ◌<◌, ◌/◌, List, [], ◌++◌, length, take, drop, get_or, replicate, ap, ap₂, sym, ◌∙◌, arith}
 use Rattle.std.specs.List.{flat_map}
 use Rattle.std.specs.Option.{unwrap_or}
 use Rattle.std.proofs.lemmas.List.{length-append, length-drop, length-take-le, take_all}
@@ -7,7 +7,7 @@ use Rattle.std.proofs.lemmas.List.Folds.{length-flat_map-take}
 use Rattle.std.proofs.lemmas.Slice.{take-put_mid}
 use Rattle.std.specs.Simd.Lanes.{zip2}
 use Rattle.des.specs.TripleCiphers.{ede3_decryption}
-use Rattle.des_columns.specs.Forms.{blocks_of, part_of}
+use Rattle.des_columns.specs.Forms.{blocks_of}
 use Rattle.des_columns.specs.Columns.{pieces}
 use Rattle.des_columns.specs.declared.form.ValueForm.{ValueForm}
 use Rattle.des_columns.proofs.KeysOfBlocks.{keys_of, zip2-keys}
@@ -89,30 +89,22 @@ values-preserved g c =
           ∙ sym (flat_map-more (λ value. replicate (length (blocks_of form value)) (key_for keys value)) vs k inside);
     }
 
-module _ (form : ValueForm) (lengths bytes : List ℕ) (blocks : List (List ℕ)) (k filled : ℕ) (all : length lengths ≤ k)
-    (are : blocks ≡ flat_map (blocks_of form) (pieces lengths bytes))
-    (at : filled ≡ length (flat_map (blocks_of form) (take k (pieces lengths bytes)))) where
-  whole : take k (pieces lengths bytes) ≡ pieces lengths bytes
-  whole = take_all k (pieces lengths bytes) (omega (arith, length-pieces lengths bytes, all))
-
-  end : filled ≡ length blocks
-  end = at ∙ ap (λ l. length (flat_map (blocks_of form) l)) whole ∙ sym (ap length are)
+-- all values are before the index
+whole : (lengths bytes : List ℕ) (k : ℕ) → length lengths ≤ k → take k (pieces lengths bytes) ≡ pieces lengths bytes
+whole lengths bytes k all = take_all k (pieces lengths bytes) (omega (arith, length-pieces lengths bytes, all))
 
 pub decrypt_each-requires : goal.decrypt_each-requires
 decrypt_each-requires g c =
-    let is =
-    end c.args.form c.args.lengths.now c.args.values.now c.args.blocks.now c.values.k c.values.filled c.values-test.false
-    c.requires.blocks c.values.invariant.filled in
+    let is : c.values.filled ≡ length c.args.blocks.now =
+    c.values.invariant.filled
+    ∙ ap (λ l. length (flat_map (blocks_of c.args.form) l)) (whole c.args.lengths.now c.args.values.now c.values.k c.values-test.false)
+    ∙ sym (ap length c.requires.blocks) in
     length-take-le c.values.filled c.values.keys (omega (arith, is, c.requires.few)) ∙ is
 
 pub returns : goal.returns
 returns g c =
-    let form : ValueForm = c.args.form in
     let key : List ℕ → List ℕ = key_for c.args.self.now.keys in
-    let vs : List (List ℕ) = pieces c.args.lengths.now c.args.values.now in
-    let all =
-    whole form c.args.lengths.now c.args.values.now c.args.blocks.now c.values.k c.values.filled c.values-test.false
-    c.requires.blocks c.values.invariant.filled in
     c.decrypt_each.ensures
-    ∙ ap₂ (zip2 ede3_decryption) (c.values.invariant.keys ∙ ap (keys_of key (blocks_of form)) all) c.requires.blocks
-    ∙ zip2-keys ede3_decryption key (blocks_of form) vs
+    ∙ ap₂ (zip2 ede3_decryption) (c.values.invariant.keys ∙ ap (keys_of key (blocks_of c.args.form))
+    (whole c.args.lengths.now c.args.values.now c.values.k c.values-test.false)) c.requires.blocks
+    ∙ zip2-keys ede3_decryption key (blocks_of c.args.form) (pieces c.args.lengths.now c.args.values.now)
