@@ -21,8 +21,8 @@ export const BLOCK_SIZE = 8;
 export const TAG_SIZE = 8;
 
 // The SHA-256 of the modules that this file was built with: the one of a 64-bit memory, and the same of a 32-bit memory.
-const MODULE_SUM = "a68433480130cd64866f3c0411d4b878f230dac60210c0e615b05503ad0f8a66";
-const NARROW_SUM = "6a1af9beb241b37608ec44b01e0bfedb9b8697d4e453cf07c75a81f848eba07a";
+const MODULE_SUM = "a2bab8257bcd6c154d21d5307383896dd9e89104eb9610b02149664fe6a3f76e";
+const NARROW_SUM = "82de1a93c9b7131547a398727615489626404c485fb2875c3327081c25fe16a1";
 
 // The bytes of the module's stack, which lies at its address 0. `build` links it so.
 const STACK_SIZE = 131072;
