@@ -28,7 +28,7 @@ pub block_by_keys-one : (keys : List (List Bool)) (block answer : List ℕ) (hal
 block_by_keys-one keys block answer halves makes ends = ends ∙ ap last_block makes ∙ sym (block_by_keys-halves keys block)
 
 -- the halves of the block that two halves make are those, each in the place of the other
-first_halves-last_block : (halves : List Bool × List Bool) → AreHalves halves
+pub first_halves-last_block : (halves : List Bool × List Bool) → AreHalves halves
     → first_halves (last_block halves) ≡ turned halves
 first_halves-last_block halves widths =
     let bits : List Bool = swapped halves in

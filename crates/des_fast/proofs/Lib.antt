@@ -21,7 +21,6 @@ pub mod AnsweredBatches
 pub mod ThreePasses
 pub mod CipherFunctionByGroups
 pub mod XoredLists
-pub mod XoredWords
 pub mod GroupWords
 pub mod Columns
 pub mod GroupBytes
@@ -61,3 +60,4 @@ pub mod ExpandedEntries
 pub mod PassDirections
 pub mod RelatedCbc
 mod RelatedTriples
+pub mod XoredHalves

@@ -1,8 +1,12 @@
 //! How S-boxes are looked up: by tables, or without.
 
 ghost use Rattle.std.specs.Prelude.{◌≡◌, ◌≤◌, ℕ, length, map};
+ghost use Rattle.std.specs.List.{All};
+ghost use Rattle.des.specs.Blocks.{IsBlock};
+ghost use Rattle.des.specs.Cbc.{Cbc};
 
 use crate::beside::Beside;
+use crate::chained_halves;
 use crate::side_by_side::{BlockTransform, process_one, process_padded, process_side_by_side};
 use crate::table_blocks::{OneBlock, ThreeBlocks, TwoBlocks};
 
@@ -29,7 +33,12 @@ pub trait BoxLookup: Copy {
         requires few { length blocks.old ≤ MOST }
         ensures { blocks.new ≡ map (A.output passes.now) blocks.old };
 
-    // So many vectors of a chain are kept at once.
+    /// Encrypts blocks by CBC from `iv`, each through passes (FIPS 81, cipher block chaining mode).
+    fn cbc_encrypt<A: BlockTransform>(blocks: &mut [[u8; 8]], iv: &[u8; 8], passes: &A)
+        ensures blocks { All IsBlock blocks.old }
+        ensures chained { Cbc (A.output passes.now) iv.now blocks.old blocks.new };
+
+    // `lists::decrypt_cbc_part` keeps the blocks before six ciphertext blocks.
     ghost at_most: { MOST ≤ 6 };
 }
 
@@ -80,6 +89,10 @@ impl BoxLookup for Tables {
         }
     }
 
+    fn cbc_encrypt<A: BlockTransform>(blocks: &mut [[u8; 8]], iv: &[u8; 8], passes: &A) {
+        chained_halves::cbc_encrypt::<OneBlock, A>(blocks, iv, passes);
+    }
+
     ghost at_most = { lit≤ tt };
 }
 
@@ -112,6 +125,10 @@ impl BoxLookup for NoTables {
         } else {
             process_padded(blocks, passes);
         }
+    }
+
+    fn cbc_encrypt<A: BlockTransform>(blocks: &mut [[u8; 8]], iv: &[u8; 8], passes: &A) {
+        chained_halves::cbc_encrypt::<u64, A>(blocks, iv, passes);
     }
 
     ghost at_most = { lit≤ tt };

@@ -16,6 +16,7 @@
 
 mod beside;
 pub mod box_lookup;
+mod chained_halves;
 mod halves;
 mod lists;
 pub mod many;

@@ -2,6 +2,7 @@
 
 ghost use Rattle.des_fast.specs.TableBlocks.{word_of_one, word_of_two, word_of_three};
 
+use crate::chained_halves::OneWord;
 use crate::halves::RoundKey;
 use crate::one_block::{block_of_halves, halves_of_block};
 use crate::permutations::{blocks_of, halves_of};
@@ -61,6 +62,19 @@ impl SixteenRounds for OneBlock {
     ) -> (OneBlock, OneBlock) {
         after_keyed_rounds(left, right, round_keys, deciphers)
     }
+}
+
+impl OneWord for OneBlock {
+    ghost use Rattle.std.specs.Prelude.{refl};
+
+    #[inline(always)]
+    fn xor(self, other: OneBlock) -> OneBlock {
+        OneBlock {
+            word: self.word ^ other.word,
+        }
+    }
+
+    ghost is_one = { refl };
 }
 
 /// A word of groups of each of two blocks.

@@ -13,6 +13,7 @@ ghost use Rattle.des.specs.CipherFunction.{box_entry, substitute};
 ghost use Rattle.des_fast.specs.Groups.{IsOfGroups, IsExpansion, bits_of_groups, half_of, positions_in_word};
 ghost use Rattle.des_fast.specs.GroupBytes.{box_of_byte, in_order};
 
+use crate::chained_halves::OneWord;
 use crate::halves::{RoundKey, word_of};
 use crate::one_block::{block_of_halves, halves_of_block};
 use crate::rounds::{Groups, SixteenRounds, after_keyed_rounds};
@@ -169,6 +170,17 @@ impl SixteenRounds for u64 {
     ) -> (u64, u64) {
         after_keyed_rounds(left, right, round_keys, deciphers)
     }
+}
+
+impl OneWord for u64 {
+    ghost use Rattle.std.specs.Prelude.{refl};
+
+    #[inline(always)]
+    fn xor(self, other: u64) -> u64 {
+        self ^ other
+    }
+
+    ghost is_one = { refl };
 }
 
 /// The substitution by S1 to S8 of the 48 bits in a word of groups, and P after it, as the word of

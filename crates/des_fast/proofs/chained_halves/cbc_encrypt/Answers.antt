@@ -1,0 +1,34 @@
+use Rattle.std.proofs.Common.{rules, ◌≡◌, ℕ, ◌+◌, ◌<◌, ◌≤◌, List, [], refl, length, get_or, set}
+use Rattle.des.specs.Cbc.{xor_blocks, block_at, block_before}
+use Rattle.des_fast.specs.SideBySide.{AreHalvesOf}
+use Rattle.des_fast.proofs.chained_halves.cbc_encrypt.Goals as goal
+
+-- a block more
+chained-next : (f : List ℕ → List ℕ) (iv previous answer : List ℕ) (old now : List (List ℕ)) (k : ℕ) → k < length now
+    → previous ≡ block_before iv now (k + 1) → answer ≡ f (xor_blocks (get_or now k []) previous)
+    → get_or now k [] ≡ get_or old k []
+    → ((n : ℕ) → 1 ≤ n → n ≤ k → block_at now n ≡ f (xor_blocks (block_at old n) (block_before iv now n)))
+    → (n : ℕ) → 1 ≤ n → n ≤ k + 1
+    → block_at (set now k answer) n ≡ f (xor_blocks (block_at old n) (block_before iv (set now k answer) n))
+chained-next f iv previous answer old now k below before made same chained = search rules
+
+pub loop-block-preserved : goal.loop-block-preserved
+loop-block-preserved g c =
+    let iv : List ℕ = c.args.iv.now in
+    let blocks : List (List ℕ) = c.loop-block.blocks in
+    let k : ℕ = c.loop-block.block-index in
+    let answer : List ℕ = c.encrypt_next-halves.new.block in
+    let f : List ℕ → List ℕ = g.A.BlockTransform.output c.args.passes.now in
+    let previous : List ℕ = block_before iv blocks (k + 1) in
+    let made : answer ≡ f (xor_blocks (get_or blocks k []) previous) =
+    c.encrypt_next-halves.ensures.encrypted previous c.loop-block.invariant.halves in
+    let last : answer ≡ block_before iv (set blocks k answer) (k + 1 + 1) = search rules in
+    let halves : AreHalvesOf g.G.Groups.word (block_before iv (set blocks k answer) (k + 1 + 1)) c.encrypt_next-halves.result =
+    rw last at c.encrypt_next-halves.ensures.halves in record {
+      left = c.encrypt_next-halves.ensures.left;
+      right = c.encrypt_next-halves.ensures.right;
+      halves = halves;
+      chained = chained-next f iv previous answer c.args.blocks.now blocks k (search rules) refl made (search rules)
+          c.loop-block.invariant.chained;
+      rest = search rules;
+    }
