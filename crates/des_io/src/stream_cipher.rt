@@ -40,12 +40,8 @@ pub fn apply_piece<C: ManyBlocks>(
         stream.old bytes.old bytes.new stream.new }
 {
     let mode = stream.mode().unwrap();
-    if waits(mode, direction) {
-        stream.apply(direction, mode, cipher, bytes);
-    } else {
-        let cipher = ByLists::<C, u64x2>::new(cipher, true);
-        stream.apply(direction, mode, &cipher, bytes);
-    }
+    let cipher = ByLists::<C, u64x2>::new(cipher, !waits(mode, direction));
+    stream.apply(direction, mode, &cipher, bytes);
 }
 
 /// Encrypts or decrypts by a stream what the reader gives, up to its end or to a limit in bytes, and writes

@@ -8,3 +8,4 @@ pub mod StreamPlaces
 pub mod OnePlaintext
 pub mod StreamsAlike
 pub mod KnownAnswers
+pub mod ChainedOutputs

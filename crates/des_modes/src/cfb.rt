@@ -6,10 +6,11 @@ ghost use Rattle.des_modes.specs.Streams.{Xors};
 ghost use Rattle.des_modes.specs.Cfb.{cfb_stream, input_block};
 ghost use Rattle.des_modes.specs.Directions.{plaintext, ciphertext};
 
+use crate::cbc_encrypt::{CHAINED, CbcEncrypt};
 use crate::direction::Direction;
 use crate::parts::TakesParts;
-use crate::xored::{xor_from, xor_segments};
-use des::cipher::BlockCipherEncrypt;
+use crate::xored::{xor_blocks_from, xor_from, xor_segments};
+use des::cipher::{BlockCipherEncrypt, are_blocks};
 
 // The segments that are decrypted together: a cipher may treat some of their blocks side by side.
 const TOGETHER: usize = 256;
@@ -35,6 +36,18 @@ fn write_blocks(blocks: &mut [[u8; 8]], bytes: &[u8])
 {
     let (inputs, _) = bytes.as_chunks::<8>();
     blocks.copy_from_slice(&inputs[..blocks.len()]);
+}
+
+// Writes eight bytes into each block but the first, one after another.
+fn write_after_first(blocks: &mut [[u8; 8]], bytes: &[u8])
+    requires some { 1 ≤ length blocks.old }
+    requires few { 8 * length blocks.old ≤ 8 + length bytes.now }
+    ensures first { slice_index_or blocks.new 0 [] ≡ slice_index_or blocks.old 0 [] }
+    ensures others { (j : ℕ) → j + 1 < length blocks.old
+        → slice_index_or blocks.new (j + 1) [] ≡ take 8 (drop (8 * j) bytes.now) }
+{
+    let (_, others) = blocks.split_at_mut(1);
+    write_blocks(others, bytes);
 }
 
 // Writes eight bytes into each block, from the beginning of its segment on.
@@ -197,6 +210,34 @@ impl Register {
         }
     }
 
+    // Encrypts segments of eight bytes together, of which the last may be cut short. With segments
+    // P(0), P(1), .. CBC makes the output blocks O(0), O(1), .. of zeros, P(0), P(1), .. from the shift
+    // register: O(j + 1) = E(C(j)) = E(P(j) ^ O(j)).
+    fn encrypt_segments<C: CbcEncrypt>(&mut self, cipher: &C, bytes: &mut [u8])
+        requires blocks { self.old.segment ≡ 8 }
+        requires between { self.old.used ≡ 0 }
+        requires some { 8 ≤ length bytes.old }
+        requires few { length bytes.old ≤ 256 }
+        ensures segment { self.new.segment ≡ self.old.segment }
+        ensures after { (s : ℕ) (iv c : List ℕ) → IsCfbAt s (C.encrypted cipher.now) iv c self.old
+            → IsCfbAt s (C.encrypted cipher.now) iv (c ++ bytes.new) self.new }
+        ensures encrypted { (s : ℕ) (iv c : List ℕ)
+            → IsCfbAt s (C.encrypted cipher.now) iv c self.old
+            → Xors bit_xor 0 (length c) (cfb_stream s (C.encrypted cipher.now) iv (c ++ bytes.new))
+            bytes.old bytes.new }
+    {
+        let count = bytes.len();
+        let mut outputs = [[0; 8]; CHAINED];
+        let part = &mut outputs[..count_of(count, 8)];
+        write_after_first(part, bytes);
+        cipher.encrypt_cbc(&self.register, part);
+        are_blocks(part);
+        xor_blocks_from(bytes, part, 0);
+        self.register.copy_from_slice(&bytes[count - 8..]);
+        self.used = count % 8;
+        self.output = block_at(part, count / 8);
+    }
+
     // Decrypts segments together, of which the last may be cut short.
     fn decrypt_segments<C: BlockCipherEncrypt>(&mut self, cipher: &C, bytes: &mut [u8])
         requires between { self.old.used ≡ 0 }
@@ -223,7 +264,7 @@ impl Register {
     }
 }
 
-impl<C: BlockCipherEncrypt> TakesParts<C> for Register {
+impl<C: CbcEncrypt> TakesParts<C> for Register {
     ghost use Rattle.des_modes.specs.States.{IsCfbAt};
 
     ghost is_at = { λ encryption s iv c register. IsCfbAt s encryption iv c register };
@@ -232,19 +273,27 @@ impl<C: BlockCipherEncrypt> TakesParts<C> for Register {
 
     ghost segment = { λ register. register.segment };
 
-    // What is left of a segment, or of ciphertext, if none has begun, 256 segments.
-    ghost limit = { λ direction register. plaintext direction (register.segment - register.used)
-        (if nat_eq register.used 0 then register.segment * 256 else register.segment - register.used) };
+    // What is left of a segment. If none has begun, 256 segments of ciphertext, of plaintext one, or 32
+    // of eight bytes.
+    ghost limit = { λ direction register.
+        if nat_eq register.used 0 then
+        (plaintext direction (if nat_eq register.segment 8 then 256 else register.segment)
+        (register.segment * 256)) else register.segment - register.used };
 
     fn most(&self, direction: Direction) -> usize {
+        if self.used != 0 {
+            return self.segment - self.used;
+        }
         match direction {
-            Direction::Decrypt if self.used == 0 => self.segment * TOGETHER,
-            _ => self.segment - self.used,
+            Direction::Encrypt if self.segment == 8 => 8 * CHAINED,
+            Direction::Encrypt => self.segment,
+            Direction::Decrypt => self.segment * TOGETHER,
         }
     }
 
     fn apply_part(&mut self, direction: Direction, cipher: &C, bytes: &mut [u8]) {
         match direction {
+            Direction::Encrypt if bytes.len() > self.segment => self.encrypt_segments(cipher, bytes),
             Direction::Decrypt if self.used == 0 && bytes.len() > self.segment => {
                 self.decrypt_segments(cipher, bytes);
             }

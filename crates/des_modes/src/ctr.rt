@@ -6,6 +6,7 @@ ghost use Rattle.std.specs.Int.{w64, to_be_bytes};
 ghost use Rattle.des_modes.specs.Ctr.{ctr_stream};
 ghost use Rattle.des_modes.specs.States.{IsAtCounter};
 
+use crate::cbc_encrypt::CbcEncrypt;
 use crate::direction::Direction;
 use crate::parts::TakesParts;
 use crate::xored::{xor_blocks_from, xor_from};
@@ -89,7 +90,7 @@ impl Counter {
     }
 }
 
-impl<C: BlockCipherEncrypt> TakesParts<C> for Counter {
+impl<C: CbcEncrypt> TakesParts<C> for Counter {
     ghost is_at = { λ encryption s t c state. IsAtCounter t (length c) state.counter state.used };
 
     ghost key_stream = { λ encryption s t c. ctr_stream encryption t };

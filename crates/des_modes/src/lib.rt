@@ -8,6 +8,7 @@
 #![tactic(auto)]
 
 pub mod by_key;
+pub mod cbc_encrypt;
 mod cfb;
 mod cfb_bits;
 mod checks;
@@ -23,5 +24,6 @@ pub mod tkw;
 pub mod unwrap_error;
 mod xored;
 
+pub use cbc_encrypt::CbcEncrypt;
 pub use direction::Direction;
 pub use unwrap_error::UnwrapError;

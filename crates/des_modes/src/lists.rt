@@ -3,6 +3,7 @@
 
 ghost use Rattle.std.specs.Prelude.{◌≡◌};
 
+use crate::cbc_encrypt::CbcEncrypt;
 use des::cipher::{BlockCipherEncrypt, OneBlockAtATime};
 use des_fast::many::{ManyBlocks, Slice};
 use std::marker::PhantomData;
@@ -44,5 +45,11 @@ impl<'a, C: ManyBlocks, S: Slice> BlockCipherEncrypt for ByLists<'a, C, S> {
 
     fn encrypt_blocks(&self, blocks: &mut [[u8; 8]]) {
         self.cipher.encrypt_list_by::<S>(self.no_tables, blocks);
+    }
+}
+
+impl<'a, C: ManyBlocks, S: Slice> CbcEncrypt for ByLists<'a, C, S> {
+    fn encrypt_cbc(&self, iv: &[u8; 8], blocks: &mut [[u8; 8]]) {
+        self.cipher.encrypt_cbc_list(self.no_tables, iv, blocks);
     }
 }

@@ -1,15 +1,16 @@
 //! Output feedback of 64 bits over any block cipher (FIPS 81, output feedback mode; NIST SP 800-38A,
 //! 6.4).
 
-ghost use Rattle.std.specs.Prelude.{◌≡◌, ◌<◌, ◌≤◌, ◌+◌, ◌-◌, ◌/◌, ℕ, List, length, bit_xor};
+ghost use Rattle.std.specs.Prelude.{◌≡◌, ◌<◌, ◌≤◌, ◌+◌, ◌-◌, ◌/◌, ℕ, List, length, nat_eq, if◌then◌else◌, bit_xor};
 ghost use Rattle.des_modes.specs.Streams.{Xors};
 ghost use Rattle.des_modes.specs.Ofb.{ofb_stream, output_block};
 ghost use Rattle.des_modes.specs.States.{IsAtOutput};
 
+use crate::cbc_encrypt::{CHAINED, CbcEncrypt};
 use crate::direction::Direction;
 use crate::parts::TakesParts;
-use crate::xored::xor_from;
-use des::cipher::BlockCipherEncrypt;
+use crate::xored::{xor_blocks_from, xor_from};
+use des::cipher::{BlockCipherEncrypt, are_blocks};
 
 // A place in a stream of output feedback: the last output block, and the number of its bytes that are
 // used, where 0 stands for all.
@@ -52,22 +53,49 @@ impl Feedback {
         self.block = block;
         self.used = (self.used + bytes.len()) % 8;
     }
+
+    // Encrypts or decrypts bytes from the beginning of an output block on: CBC makes the output blocks of
+    // blocks of zeros.
+    fn apply_blocks<C: CbcEncrypt>(&mut self, cipher: &C, bytes: &mut [u8])
+        requires between { self.old.used ≡ 0 }
+        requires some { 1 ≤ length bytes.old }
+        requires few { length bytes.old ≤ 256 }
+        ensures after { (iv : List ℕ) (n : ℕ)
+            → IsAtOutput (C.encrypted cipher.now) iv n self.old.block self.old.used
+            → IsAtOutput (C.encrypted cipher.now) iv (n + length bytes.old)
+            self.new.block self.new.used }
+        ensures applied { (iv : List ℕ) (n : ℕ)
+            → IsAtOutput (C.encrypted cipher.now) iv n self.old.block self.old.used
+            → Xors bit_xor 0 n (ofb_stream (C.encrypted cipher.now) iv) bytes.old bytes.new }
+    {
+        let mut outputs = [[0; 8]; CHAINED];
+        let part = &mut outputs[..bytes.len().div_ceil(8)];
+        cipher.encrypt_cbc(&self.block, part);
+        are_blocks(part);
+        xor_blocks_from(bytes, part, 0);
+        self.block = part[part.len() - 1];
+        self.used = bytes.len() % 8;
+    }
 }
 
-impl<C: BlockCipherEncrypt> TakesParts<C> for Feedback {
+impl<C: CbcEncrypt> TakesParts<C> for Feedback {
     ghost is_at = { λ encryption s iv c state. IsAtOutput encryption iv (length c) state.block state.used };
 
     ghost key_stream = { λ encryption s iv c. ofb_stream encryption iv };
 
     ghost segment = { λ feedback. 8 };
 
-    ghost limit = { λ direction feedback. 8 - feedback.used };
+    ghost limit = { λ direction feedback. if nat_eq feedback.used 0 then 256 else 8 - feedback.used };
 
     fn most(&self, _direction: Direction) -> usize {
-        8 - self.used
+        if self.used == 0 { 8 * CHAINED } else { 8 - self.used }
     }
 
     fn apply_part(&mut self, _direction: Direction, cipher: &C, bytes: &mut [u8]) {
-        self.apply_block(cipher, bytes);
+        if bytes.len() > 8 {
+            self.apply_blocks(cipher, bytes);
+        } else {
+            self.apply_block(cipher, bytes);
+        }
     }
 }

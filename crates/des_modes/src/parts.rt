@@ -5,11 +5,11 @@ ghost use Rattle.des_modes.specs.Directions.{plaintext, ciphertext};
 ghost use Rattle.des_modes.specs.Streams.{Xors};
 ghost use Rattle.des_modes.specs.declared.direction.Direction.{Direction as DirectionOf};
 
+use crate::cbc_encrypt::CbcEncrypt;
 use crate::direction::Direction;
-use des::cipher::BlockCipherEncrypt;
 
 /// A place in a stream of bytes, which goes on by so many bytes at a time.
-pub(crate) trait TakesParts<C: BlockCipherEncrypt> {
+pub(crate) trait TakesParts<C: CbcEncrypt> {
     // The place behind the ciphertext c, under an encryption, in segments of s bytes.
     ghost is_at: { (List ℕ → List ℕ) → ℕ → List ℕ → List ℕ → Self → Type 0 };
 
@@ -46,7 +46,7 @@ pub(crate) trait TakesParts<C: BlockCipherEncrypt> {
 }
 
 /// Encrypts or decrypts the bytes that come next in place, a part after another.
-pub(crate) fn apply_parts<C: BlockCipherEncrypt, P: TakesParts<C>>(
+pub(crate) fn apply_parts<C: CbcEncrypt, P: TakesParts<C>>(
     state: &mut P,
     direction: Direction,
     cipher: &C,

@@ -11,6 +11,7 @@ ghost use Rattle.des_modes.specs.States.{HasBegun, HoldsLastBits, IsBitStreamAt,
 ghost use Rattle.des_modes.specs.declared.modes.Mode.TheVariants.{BitFeedback};
 ghost use Rattle.des_modes.specs.declared.modes.TheConstants.{CFB1, CTR};
 
+use crate::cbc_encrypt::CbcEncrypt;
 use crate::cfb::Register;
 use crate::cfb_bits;
 use crate::ctr::Counter;
@@ -48,7 +49,7 @@ impl Place {
     }
 
     // Encrypts or decrypts the bytes that come next in a mode.
-    pub(crate) fn apply<C: BlockCipherEncrypt>(
+    pub(crate) fn apply<C: CbcEncrypt>(
         &mut self,
         direction: Direction,
         mode: Mode,
@@ -219,7 +220,7 @@ impl Stream {
     /// Encrypts or decrypts the bytes that come next in place, in the mode of the stream, which
     /// `mode` gave: any number of them. Pieces become what the whole becomes, wherever it is cut. A
     /// ciphertext has one plaintext, so that decryption undoes encryption.
-    pub fn apply<C: BlockCipherEncrypt>(
+    pub fn apply<C: CbcEncrypt>(
         &mut self,
         direction: Direction,
         mode: Mode,

@@ -6,13 +6,13 @@ ghost use Rattle.des.specs.Blocks.{AreBytes};
 ghost use Rattle.des_modes.specs.Ctr.{Ctr};
 ghost use Rattle.des_modes.specs.Modes.{InMode, IsMode, mode_by};
 
-use des::cipher::{BlockCipherEncrypt, are_bytes};
-use des_modes::Direction;
+use des::cipher::are_bytes;
+use des_modes::{CbcEncrypt, Direction};
 use des_modes::stream::Stream;
 
 /// Encrypts a text that comes in two pieces, in the mode of a number: together they become what the text
 /// becomes as one. `false` if no mode has the number; nothing is changed then.
-pub fn encrypt_in_two_pieces<C: BlockCipherEncrypt>(
+pub fn encrypt_in_two_pieces<C: CbcEncrypt>(
     cipher: &C,
     number: u32,
     iv: &[u8; 8],
@@ -35,7 +35,7 @@ pub fn encrypt_in_two_pieces<C: BlockCipherEncrypt>(
 
 /// Encrypts a text in two pieces, the first of `count` bytes, and decrypts what they became as one: the
 /// text comes back. `false` if no mode has the number.
-pub fn text_again<C: BlockCipherEncrypt>(
+pub fn text_again<C: CbcEncrypt>(
     cipher: &C,
     number: u32,
     iv: &[u8; 8],
@@ -67,7 +67,7 @@ pub fn text_again<C: BlockCipherEncrypt>(
 
 /// Decrypts a part of what the counter mode made of a text, with no other part of it: `block` is the
 /// first counter block, and `blocks` blocks stand before the part.
-pub fn decrypt_part_of_ctr<C: BlockCipherEncrypt>(
+pub fn decrypt_part_of_ctr<C: CbcEncrypt>(
     cipher: &C,
     block: &[u8; 8],
     blocks: u64,
