@@ -293,7 +293,9 @@ impl<C: CbcEncrypt> TakesParts<C> for Register {
 
     fn apply_part(&mut self, direction: Direction, cipher: &C, bytes: &mut [u8]) {
         match direction {
-            Direction::Encrypt if bytes.len() > self.segment => self.encrypt_segments(cipher, bytes),
+            Direction::Encrypt if bytes.len() > self.segment => self.encrypt_segments(
+                cipher, bytes,
+            ),
             Direction::Decrypt if self.used == 0 && bytes.len() > self.segment => {
                 self.decrypt_segments(cipher, bytes);
             }

@@ -88,7 +88,11 @@ impl<C: CbcEncrypt> TakesParts<C> for Feedback {
     ghost limit = { λ direction feedback. if nat_eq feedback.used 0 then 256 else 8 - feedback.used };
 
     fn most(&self, _direction: Direction) -> usize {
-        if self.used == 0 { 8 * CHAINED } else { 8 - self.used }
+        if self.used == 0 {
+            8 * CHAINED
+        } else {
+            8 - self.used
+        }
     }
 
     fn apply_part(&mut self, _direction: Direction, cipher: &C, bytes: &mut [u8]) {
