@@ -101,7 +101,9 @@ chunk-xored old new blocks k within same wide xored =
 pub outputs-of_plaintext : (E : List ℕ → List ℕ) (register old new : List ℕ) (p q : List (List ℕ)) → Cbc E register p q
     → length register ≡ 8 → length new ≡ length old → 8 * length p ≤ length old + 8 → get_or p 0 [] ≡ zero_block
     → ((k : ℕ) → k + 1 < length p → get_or p (k + 1) [] ≡ take 8 (drop (8 * k) old))
-    → All IsBlock q → ((i : ℕ) → i < length old → get_or new i 0 ≡ bit_xor (get_or old i 0) (get_or (get_or q ((0 + i) / 8) []) ((0 + i) % 8) 0))
+    → All IsBlock q
+    → ((i : ℕ) → i < length old
+    → get_or new i 0 ≡ bit_xor (get_or old i 0) (get_or (get_or q ((0 + i) / 8) []) ((0 + i) % 8) 0))
     → (j : ℕ) → j < length p → get_or q j [] ≡ E (take 8 (drop (8 * j) (register ++ new)))
 outputs-of_plaintext E register old new p q cbc wide same few first next are_blocks xored zero below =
     chained-at E register p q cbc 0 below
@@ -115,5 +117,7 @@ outputs-of_plaintext E register old new p q cbc wide same few first next are_blo
     ap (λ (block : List ℕ). xor_blocks block (get_or q k []))
     (ap (λ (j : ℕ). get_or p j []) place ∙ next k (omega arith))
     ∙ sym (chunk-xored old new q k (omega arith) same (are_blocks k [] (omega (arith, cbc.count))).0 xored)
-    ∙ ap (take 8) (sym (ap (λ (n : ℕ). drop n (register ++ new)) shifted ∙ sym (drop-drop (8 * k) 8 (register ++ new)) ∙ ap (drop (8 * k)) (drop_at register new 8 wide)))
+    ∙ ap (take 8) (sym (ap (λ (n : ℕ). drop n (register ++ new)) shifted
+    ∙ sym (drop-drop (8 * k) 8 (register ++ new))
+    ∙ ap (drop (8 * k)) (drop_at register new 8 wide)))
     )

@@ -1,9 +1,8 @@
 use Rattle.std.proofs.Common.{◌<◌, sym, ap, ◌∙◌, arith}
-use Rattle.des.specs.Bits.{bits_of_word}
 use Rattle.des.specs.Cbc.{xor_blocks}
 use Rattle.des.specs.Laws.BlockBits.{IsBlock-block_of_bits}
 use Rattle.des.specs.Laws.Selections.{length-select}
-use Rattle.des_fast.specs.Groups.{half_of, half_positions}
+use Rattle.des_fast.specs.Groups.{half_positions}
 use Rattle.des_fast.specs.HalfBlocks.{first_halves}
 use Rattle.des_fast.proofs.HalfExpansions.{IsExpansion-xor}
 use Rattle.des_fast.proofs.HalfPasses.{first_halves-last_block}
