@@ -8,15 +8,13 @@ pub mod KeysOfBlocks
 pub mod KeyFileLines
 pub mod ValuesByNumber
 pub mod KnownAnswers
-pub mod KnownJasypt
 pub mod Base64Groups
 pub mod EncryptedBlocks
 pub mod PaddedTexts
 pub mod WrittenColumns
 pub mod RelatedRecords
 pub mod SpreadKeySizes
-pub mod SchemeRelations
-pub mod AlgorithmKeys
+pub mod Either
 pub mod Results
 pub mod TextsOfValues
 pub mod JasyptStrings

@@ -22,10 +22,9 @@ use crate::pbe::{Algorithm, PbeError};
 use crate::status::{ERR_BASE64, ERR_SALT_LENGTH, OK};
 use crate::value_keys::OneKey;
 use crate::writing::Writer;
-use des::cipher::are_bytes;
+use des::cipher::{KeyInit, are_bytes};
 use des_fast::many::ManyBlocks;
 use des_fast::{Des, TdesEde2, TdesEde3};
-use des_passwords::derivation::split;
 use des_passwords::pbkdf2::DeriveError;
 use std::simd::prelude::*;
 
@@ -52,54 +51,50 @@ fn inside(value: &[u8]) -> &[u8]
     }
 }
 
-// Makes of what is encrypted under a key, from a vector, the text at its front.
-fn decrypt<C: ManyBlocks + Drop>(
-    key: &C::Key,
-    vector: &[u8; 8],
-    encrypted: &mut [u8],
-    buffer: &mut [[u8; 8]],
-) -> Reading
-    requires buffer { 1 ≤ length buffer.old }
+// The cipher of a key, and the mode of the vector behind it.
+fn cipher_of<C: KeyInit>(both: &[u8]) -> (C, BlockMode)
+    requires { length both.now ≡ C.KEY_SIZE + 8 }
+    ensures cipher { C.is_made_from result.0 (take C.KEY_SIZE both.now) }
+    ensures mode { result.1 ≡ Cbc (drop C.KEY_SIZE both.now) }
+{
+    let (key, vector) = both.split_at(C::KEY_SIZE);
+    let mut iv = [0; 8];
+    iv.copy_from_slice(vector);
+    (C::new_from_slice(key).unwrap(), BlockMode::Cbc(iv))
+}
+
+// Makes of what is encrypted under a key, from the vector behind it, the text at its front.
+fn decrypt<C: ManyBlocks + Drop>(both: &[u8], encrypted: &mut [u8]) -> Reading
+    requires { length both.now ≡ C.KEY_SIZE + 8 }
     ensures within { result.length ≤ length encrypted.new }
-    ensures read { IsReading Pkcs7 (Cbc vector.now) (C.relation (C.Key.bytes_of key.now))
+    ensures read { IsReading Pkcs7 (Cbc (drop C.KEY_SIZE both.now)) (C.relation (take C.KEY_SIZE both.now))
         encrypted.old result.status (take result.length encrypted.new) }
 {
-    let mode = BlockMode::Cbc(*vector);
+    let (cipher, mode) = cipher_of::<C>(both);
     mode.has_vector();
     are_bytes(encrypted);
     let reader = Reader {
-        keys: OneKey {
-            cipher: C::new(key),
-        },
+        keys: OneKey { cipher },
         form: ValueForm::Pkcs7,
         mode,
     };
     let fault = ValueForm::Pkcs7.fault_before(encrypted);
     let count = ValueForm::Pkcs7.part_of(encrypted).len();
-    reader.decipher::<u64x2>(&[], &mut encrypted[..count], buffer);
+    let mut buffer = [[0; 8]; BLOCKS];
+    reader.decipher::<u64x2>(&[], &mut encrypted[..count], &mut buffer);
     finish(ValueForm::Pkcs7, fault, count, encrypted)
 }
 
-// The same under the key of an algorithm, and the vector behind it.
-fn decrypt_by(by: Algorithm, both: &[u8], encrypted: &mut [u8], buffer: &mut [[u8; 8]]) -> Reading
-    requires both { length both.now ≡ key_size by + 8 }
-    requires buffer { 1 ≤ length buffer.old }
+// The same by the cipher of an algorithm.
+fn decrypt_by(by: Algorithm, both: &[u8], encrypted: &mut [u8]) -> Reading
+    requires { length both.now ≡ key_size by + 8 }
     ensures within { result.length ≤ length encrypted.new }
     ensures read { ReadsBy by both.now encrypted.old result.status (take result.length encrypted.new) }
 {
     match by {
-        Algorithm::Md5Des | Algorithm::Sha1Des => {
-            let both = split::<8>(both);
-            decrypt::<Des>(&both.key, &both.vector, encrypted, buffer)
-        }
-        Algorithm::Md5TripleDes | Algorithm::Sha1TripleDes => {
-            let both = split::<24>(both);
-            decrypt::<TdesEde3>(&both.key, &both.vector, encrypted, buffer)
-        }
-        Algorithm::Sha1TwoKeys => {
-            let both = split::<16>(both);
-            decrypt::<TdesEde2>(&both.key, &both.vector, encrypted, buffer)
-        }
+        Algorithm::Md5Des | Algorithm::Sha1Des => decrypt::<Des>(both, encrypted),
+        Algorithm::Md5TripleDes | Algorithm::Sha1TripleDes => decrypt::<TdesEde3>(both, encrypted),
+        Algorithm::Sha1TwoKeys => decrypt::<TdesEde2>(both, encrypted),
     }
 }
 
@@ -114,16 +109,9 @@ fn derive(by: Algorithm, iterations: u32, password: &[u8], salt: &[u8], both: &m
 }
 
 // Makes of a salt, and what is encrypted behind it, the text at their front.
-fn open(
-    by: Algorithm,
-    iterations: u32,
-    password: &[u8],
-    bytes: &mut [u8],
-    buffer: &mut [[u8; 8]],
-) -> Reading
+fn open(by: Algorithm, iterations: u32, password: &[u8], bytes: &mut [u8]) -> Reading
     requires iterations { iterations ≢ 0 }
     requires salt { 8 ≤ length bytes.old }
-    requires buffer { 1 ≤ length buffer.old }
     ensures within { result.length ≤ length bytes.new }
     ensures read { ReadsBy by (derived_by by password.now (take 8 bytes.old) iterations)
         (drop 8 bytes.old) result.status (take result.length bytes.new) }
@@ -134,7 +122,7 @@ fn open(
     let mut both = [0; 32];
     let both = &mut both[..by.key_size() + 8];
     derive(by, iterations, password, salt, both);
-    decrypt_by(by, both, encrypted, buffer)
+    decrypt_by(by, both, encrypted)
 }
 
 // Reads a value: the text stands at the front of its place, before zeros.
@@ -144,11 +132,9 @@ fn read_value(
     password: &[u8],
     value: &[u8],
     place: &mut [u8],
-    buffer: &mut [[u8; 8]],
 ) -> Reading
     requires iterations { iterations ≢ 0 }
     requires place { length place.old ≡ length value.now }
-    requires buffer { 1 ≤ length buffer.old }
     ensures within { result.length ≤ length place.new }
     ensures read { Reads by iterations password.now value.now result.status
         (take result.length place.new) }
@@ -164,7 +150,7 @@ fn read_value(
             status: ERR_SALT_LENGTH,
             length: 0,
         },
-        Some(size) => open(by, iterations, password, &mut place[..size], buffer),
+        Some(size) => open(by, iterations, password, &mut place[..size]),
     };
     place[reading.length..].fill(0);
     reading
@@ -201,13 +187,12 @@ pub fn decrypt_values(
     if iterations == 0 {
         return Err(PbeError::Derive(DeriveError::NoIteration));
     }
-    let mut buffer = [[0; 8]; BLOCKS];
     let mut start = 0;
     'values: for k in 0..lengths.len() {
         let end = start + lengths[k];
         let value = &values[start..end];
         let place = &mut texts[start..end];
-        let reading = read_value(by, iterations, password, value, place, &mut buffer);
+        let reading = read_value(by, iterations, password, value, place);
         text_lengths[k] = reading.length;
         statuses[k] = reading.status;
         start = end;
@@ -215,48 +200,36 @@ pub fn decrypt_values(
     Ok(are_ok(statuses))
 }
 
-// Writes what is encrypted of a text under a key, from a vector.
-fn encrypt<C: ManyBlocks + Drop>(
-    key: &C::Key,
-    vector: &[u8; 8],
-    text: &[u8],
-    encrypted: &mut [u8],
-    buffer: &mut [[u8; 8]],
-)
+// Writes what is encrypted of a text under a key, from the vector behind it.
+fn encrypt<C: ManyBlocks + Drop>(both: &[u8], text: &[u8], encrypted: &mut [u8])
+    requires both { length both.now ≡ C.KEY_SIZE + 8 }
     requires encrypted { length encrypted.old ≡ (length text.now / 8 + 1) * 8 }
-    requires buffer { 1 ≤ length buffer.old }
-    ensures { IsWriting Pkcs7 0 (Cbc vector.now) (C.relation (C.Key.bytes_of key.now)) text.now
-        encrypted.new }
+    ensures { IsWriting Pkcs7 0 (Cbc (drop C.KEY_SIZE both.now)) (C.relation (take C.KEY_SIZE both.now))
+        text.now encrypted.new }
 {
+    let (cipher, mode) = cipher_of::<C>(both);
     let writer = Writer {
-        cipher: C::new(key),
+        cipher,
         form: ValueForm::Pkcs7,
         number: 0,
-        mode: BlockMode::Cbc(*vector),
+        mode,
     };
-    writer.write_value::<u64x2>(text, encrypted, buffer);
+    let mut buffer = [[0; 8]; BLOCKS];
+    writer.write_value::<u64x2>(text, encrypted, &mut buffer);
 }
 
-// The same under the key of an algorithm, and the vector behind it.
-fn encrypt_by(by: Algorithm, both: &[u8], text: &[u8], encrypted: &mut [u8], buffer: &mut [[u8; 8]])
+// The same by the cipher of an algorithm.
+fn encrypt_by(by: Algorithm, both: &[u8], text: &[u8], encrypted: &mut [u8])
     requires both { length both.now ≡ key_size by + 8 }
     requires encrypted { length encrypted.old ≡ (length text.now / 8 + 1) * 8 }
-    requires buffer { 1 ≤ length buffer.old }
     ensures { WritesBy by both.now text.now encrypted.new }
 {
     match by {
-        Algorithm::Md5Des | Algorithm::Sha1Des => {
-            let both = split::<8>(both);
-            encrypt::<Des>(&both.key, &both.vector, text, encrypted, buffer);
-        }
+        Algorithm::Md5Des | Algorithm::Sha1Des => encrypt::<Des>(both, text, encrypted),
         Algorithm::Md5TripleDes | Algorithm::Sha1TripleDes => {
-            let both = split::<24>(both);
-            encrypt::<TdesEde3>(&both.key, &both.vector, text, encrypted, buffer);
+            encrypt::<TdesEde3>(both, text, encrypted);
         }
-        Algorithm::Sha1TwoKeys => {
-            let both = split::<16>(both);
-            encrypt::<TdesEde2>(&both.key, &both.vector, text, encrypted, buffer);
-        }
+        Algorithm::Sha1TwoKeys => encrypt::<TdesEde2>(both, text, encrypted),
     }
 }
 
@@ -268,11 +241,9 @@ fn write_value(
     salt: &[u8; 8],
     text: &[u8],
     value: &mut [u8],
-    buffer: &mut [[u8; 8]],
 )
     requires iterations { iterations ≢ 0 }
     requires value { length value.old ≡ value_size (8 + length text.now) }
-    requires buffer { 1 ≤ length buffer.old }
     ensures { IsWritten by iterations password.now (salt.now ++ text.now) value.new }
 {
     let mut both = [0; 32];
@@ -281,7 +252,7 @@ fn write_value(
     // The characters are as many as the place has bytes, what they encode are fewer.
     let start = value.len() - (text.len() / 8 + 2) * 8;
     value[start..start + 8].copy_from_slice(salt);
-    encrypt_by(by, both, text, &mut value[start + 8..], buffer);
+    encrypt_by(by, both, text, &mut value[start + 8..]);
     encode(start, value);
 }
 
@@ -317,22 +288,13 @@ pub fn encrypt_values(
     if iterations == 0 {
         return Err(PbeError::Derive(DeriveError::NoIteration));
     }
-    let mut buffer = [[0; 8]; BLOCKS];
     let mut from = 0;
     let mut start = 0;
     'texts: for k in 0..lengths.len() {
         let text = &texts[from..from + lengths[k]];
         let size = value_size(text.len());
         let value = &mut values[start..start + size];
-        write_value(
-            by,
-            iterations,
-            password,
-            &salts[k],
-            text,
-            value,
-            &mut buffer,
-        );
+        write_value(by, iterations, password, &salts[k], text, value);
         from += text.len();
         start += size;
     }

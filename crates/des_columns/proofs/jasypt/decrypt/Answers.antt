@@ -17,10 +17,9 @@ part-front None value count is = take_all count value (omega (arith, is))
 pub returns-clause-read : goal.returns-clause-read
 returns-clause-read g c =
     let value : List ℕ = c.args.encrypted.now in
-    let cipher = c.new.result in
-    let R : List ℕ → List ℕ → Type 0 = g.C.Relating.relation (g.C.Key.KeyBytes.bytes_of c.args.key.now) in
+    let cipher = c.cipher_of-cipher.result.0 in
     let f : List ℕ → List ℕ = g.C.BlockCipherDecrypt.decrypted cipher in
-    let mode : BlockMode = Cbc c.args.vector.now in
+    let mode : BlockMode = c.cipher_of-cipher.result.1 in
     let count : ℕ = length c.part_of-count.result.now in
     let decrypted : List ℕ = c.decipher.new.bytes in
     let fault : Option ℤ = c.fault_before-fault.result in
@@ -30,11 +29,11 @@ returns-clause-read g c =
     ∙ ap (deciphered mode f) (part-front (fault_before Pkcs7 value) value count (ap length c.part_of-count.ensures.part)) in
     let text : List ℕ = text_after fault (size_in Pkcs7 (take count (decrypted ++ drop count value)))
     (take count (decrypted ++ drop count value)) in
-    record {
+    rw (← c.cipher_of-cipher.ensures.mode) (record {
       plain = plain_of Pkcs7 mode (λ value. f) value;
       encrypted =
-          plain-encrypted R (g.C.BlockCipherEncrypt.encrypted cipher) f
-          (g.met.C.Relating.encrypts_by_relation cipher _ c.new.ensures) (g.met.C.BlockCipher.decrypted_is_block cipher)
+          plain-encrypted _ (g.C.BlockCipherEncrypt.encrypted cipher) f
+          (g.met.C.Relating.encrypts_by_relation cipher _ c.cipher_of-cipher.ensures.cipher) (g.met.C.BlockCipher.decrypted_is_block cipher)
           (g.met.C.BlockCipher.encrypts_decrypted cipher) Pkcs7 mode value c.has_vector.ensures c.are_bytes.ensures;
       status_is =
           c.finish.ensures.status
@@ -43,4 +42,4 @@ returns-clause-read g c =
           ap₂ take c.finish.ensures.length c.finish.ensures.text
           ∙ take_at text (replicate (length (decrypted ++ drop count value) - length text) 0) (length text) refl
           ∙ ap₂ (λ (e : Option ℤ) (p : List ℕ). text_after e (size_in Pkcs7 p) p) c.fault_before-fault.ensures plain;
-    }
+    })
