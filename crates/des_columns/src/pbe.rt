@@ -124,8 +124,8 @@ impl Algorithm {
     }
 }
 
-// Whether two names are one in any case of letters.
-fn is_name(name: &[u8], other: &[u8]) -> bool
+/// Whether two names are one in any case of letters.
+pub(crate) fn is_name(name: &[u8], other: &[u8]) -> bool
     ensures { result ≡ str_eq_ignore_ascii_case name.now other.now }
 {
     name.eq_ignore_ascii_case(other)

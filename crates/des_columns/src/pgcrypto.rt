@@ -11,6 +11,7 @@ ghost use Rattle.des_columns.specs.Writings.{IsColumnWritten, IsTextSize, value_
 
 use crate::form::{BlockMode, ValueForm};
 use crate::one_key::read_values;
+use crate::pbe::is_name;
 use crate::status::OK;
 use crate::writing::write_values;
 use des_fast::TdesEde3;
@@ -52,13 +53,6 @@ impl Scheme {
             None => None,
         }
     }
-}
-
-// Whether two names are one in any case of letters.
-fn is_name(name: &[u8], other: &[u8]) -> bool
-    ensures { result ≡ str_eq_ignore_ascii_case name.now other.now }
-{
-    name.eq_ignore_ascii_case(other)
 }
 
 // Whether a name ends so.
