@@ -1,5 +1,5 @@
 -- A string that is written of a text is read as it.
-use Rattle.std.proofs.Common.{◌≡◌, inr, ℕ, zero, suc, ◌+◌, ◌-◌, ◌*◌, ◌/◌, ◌%◌, ◌==◌, ◌&&◌, not, nat_eq, Bool, true, false, if◌then◌else◌, List, [], ◌∷◌, ◌++◌, codes, length, take, drop, replicate, get_or, refl, ap, sym, ◌∙◌, subst, arith, length-append}
+use Rattle.std.proofs.Common.{◌≡◌, inr, ℕ, zero, suc, ◌+◌, ◌-◌, ◌*◌, ◌/◌, ◌%◌, ◌==◌, ◌&&◌, not, nat_eq, Bool, true, false, if◌then◌else◌, List, [], ◌∷◌, ◌++◌, codes, length, take, drop, replicate, get_or, refl, ap, ◌∙◌, arith, length-append}
 use Rattle.std.specs.Char.{is_ascii_whitespace}
 use Rattle.std.specs.List.{ends_with, filter, list_all, prefix_len, starts_with, suffix_len}
 use Rattle.std.proofs.lemmas.Bool.{and_from, and_parts, ne_eqb, not-true}
@@ -11,7 +11,7 @@ use Rattle.base64.specs.GeneralPurpose.{encode_of}
 use Rattle.base64.specs.Rfc4648.{encode_symbols, padding_len}
 use Rattle.des.specs.Blocks.{AreBytes}
 use Rattle.des_passwords.specs.TextLines.{trimmed, without_blanks_after}
-use Rattle.des_columns.specs.Jasypt.{IsWritten, Reads, ReadsBy, WritesBy, characters_of, inside, is_character, relation_by}
+use Rattle.des_columns.specs.Jasypt.{IsWritten, Reads, WritesBy, characters_of, inside, is_character, relation_by}
 use Rattle.des_columns.specs.Pbe.{derived_by, key_size}
 use Rattle.des_columns.specs.Writings.{value_size}
 use Rattle.des_columns.specs.declared.form.BlockMode.TheVariants.{Cbc}
@@ -124,8 +124,7 @@ jasypt-read by count password salt text value eight written bytes size =
       (bytes, characters),
       inr (
         omega (arith, length-append salt encrypted, eight),
-        subst (λ (l : List ℕ). ReadsBy by both l OK text) (sym (drop_at salt encrypted 8 eight))
-            (writing-read (Cbc (drop (key_size by) both)) (relation_by by (take (key_size by) both)) Pkcs7 0 text encrypted tt size
+        rw (drop_at salt encrypted 8 eight) (writing-read (Cbc (drop (key_size by) both)) (relation_by by (take (key_size by) both)) Pkcs7 0 text encrypted tt size
             writes),
       ),
     )

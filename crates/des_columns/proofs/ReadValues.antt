@@ -65,7 +65,7 @@ part-bytes None Unpadded value are = are
 
 -- ---- what was encrypted
 
-length-zipped : {X Y Z : Type 0} (f : X → Y → Z) (xs : List X) (ys : List Y) → length xs ≤ length ys
+pub length-zipped : {X Y Z : Type 0} (f : X → Y → Z) (xs : List X) (ys : List Y) → length xs ≤ length ys
     → length (zip2 f xs ys) ≡ length xs
 length-zipped f [] ys fits = refl
 length-zipped f (x ∷ xs) [] fits = absurd (omega (arith, fits))

@@ -1,5 +1,5 @@
 -- A value that is written of a text is read as that text.
-use Rattle.std.proofs.Common.{◌≡◌, ℕ, ℤ, zero, suc, ◌+◌, ◌-◌, ◌*◌, ◌/◌, ◌%◌, ◌≤◌, ◌==◌, nat_le, Bool, true, if◌then◌else◌, Option, Some, None, List, [], ◌∷◌, ◌++◌, length, take, drop, replicate, get_or, refl, ap, ap₂, sym, ◌∙◌, subst, arith, length-append, append_assoc, eq-eqb}
+use Rattle.std.proofs.Common.{◌≡◌, ℕ, ℤ, zero, suc, ◌+◌, ◌-◌, ◌*◌, ◌/◌, ◌%◌, ◌≤◌, ◌==◌, nat_le, Bool, true, if◌then◌else◌, Option, Some, None, List, [], ◌∷◌, ◌++◌, length, take, drop, replicate, get_or, refl, ap, ap₂, sym, ◌∙◌, arith, length-append, append_assoc, eq-eqb}
 use Rattle.std.specs.List.{list_all}
 use Rattle.std.specs.Option.{option_map, option_map_or}
 use Rattle.std.proofs.lemmas.Bool.{and_from, le-leb}
@@ -19,7 +19,7 @@ use Rattle.des_columns.specs.declared.form.ValueForm.{ValueForm}
 use Rattle.des_columns.specs.declared.form.ValueForm.TheVariants.{Mysql, Pkcs7, Unpadded}
 use Rattle.des_columns.specs.declared.pgcrypto.Cipher.{Cipher}
 use Rattle.des_columns.specs.declared.pgcrypto.Scheme.{Scheme}
-use Rattle.des_columns.specs.declared.status.TheConstants.{OK, ERR_BLOCKS, ERR_NOT_ENCRYPTED}
+use Rattle.des_columns.specs.declared.status.TheConstants.{OK, ERR_BLOCKS}
 use Rattle.des_columns.proofs.PaddedTexts.{length-starred, value_size-some}
 
 -- ---- the last byte, which counts the padding
@@ -99,9 +99,7 @@ module _ (mode : BlockMode) (Relates : List ℕ → List ℕ → Type 0) where
       → IsEncrypted mode Relates plain blocks → IsReading form mode Relates value OK text
   reading form value blocks plain text none part size front encrypted = record {
     plain = plain;
-    encrypted =
-        subst (λ (l : List ℕ). IsEncrypted mode Relates plain l)
-        (sym (ap (λ (fault : Option ℤ). part_after fault form value) none ∙ part)) encrypted;
+    encrypted = rw (none, part) encrypted;
     status_is = sym (ap₂ status_after none size);
     text_is =
         sym (ap₂ (λ (fault : Option ℤ) (n : Option ℕ). text_after fault n plain) none size ∙ front);

@@ -18,22 +18,21 @@ module _ (size : List ℕ → ℕ) (Answers : List ℕ → List (List ℕ) → T
       let rest : suc count - 1 ≡ count = omega arith in rw rest in_turn
 
   module _ (value : List ℕ) (others : List (List ℕ)) (waiting : Waiting) (buffer : List (List ℕ)) (some : 1 ≤ waiting.count)
-      (are : AreWaiting size Answers (value ∷ others) waiting buffer) where
-    pub next-waits : (waiting.first + size value ≤ length buffer)
-        × Answers value (take (size value) (drop waiting.first buffer))
+      (are : AreWaiting size Answers (value ∷ others) waiting buffer) (n : ℕ) (is : n ≡ size value) where
+    pub next-waits : (waiting.first + n ≤ length buffer) × Answers value (take n (drop waiting.first buffer))
     next-waits =
         let first = in_turn-first waiting.count value others (drop waiting.first buffer) some are.in_turn in
-        (omega (arith, first.0, length-drop waiting.first buffer, are.within), first.1)
+        (omega (arith, first.0, length-drop waiting.first buffer, are.within, is), rw is first.1)
 
     pub others-wait : (after : List (List ℕ)) → length after ≡ length buffer
-        → drop (waiting.first + size value) after ≡ drop (waiting.first + size value) buffer
-        → AreWaiting size Answers others (record { count = waiting.count - 1; first = waiting.first + size value }) after
+        → drop (waiting.first + n) after ≡ drop (waiting.first + n) buffer
+        → AreWaiting size Answers others (record { count = waiting.count - 1; first = waiting.first + n }) after
     others-wait after long same = record {
       fit = omega (arith, are.fit, some);
       within = omega (arith, next-waits.0, long);
       in_turn =
           subst (λ (l : List (List ℕ)). AreInTurn size Answers (take (waiting.count - 1) others) l)
-          (drop-drop (size value) waiting.first buffer ∙ sym same)
+          (ap (λ m. drop m (drop waiting.first buffer)) (sym is) ∙ drop-drop n waiting.first buffer ∙ sym same)
           (in_turn-first waiting.count value others (drop waiting.first buffer) some are.in_turn).2;
     }
 

@@ -98,10 +98,8 @@ text-next lengths bytes k from size whole at below is =
 pub length-piece : (lengths bytes : List ℕ) (k : ℕ) → k < length lengths → sum lengths ≡ length bytes
     → length (get_or (pieces lengths bytes) k []) ≡ get_or lengths k 0
 length-piece lengths bytes k below whole =
-    let start : ℕ = sum (take k lengths) in
     ap length (pieces-at lengths bytes k below)
-    ∙ length-take-le (get_or lengths k 0) (drop start bytes)
-    (omega (arith, length-drop start bytes, sum_by_more_le (λ n. n) lengths k 0 below, whole))
+    ∙ (text-next lengths bytes k (sum (take k lengths)) (get_or lengths k 0) whole refl below refl).0
 
 pub texts-sized : (form : ValueForm) (lengths bytes : List ℕ) → sum lengths ≡ length bytes → All (IsTextSize form) lengths
     → (k : ℕ) → k < length (pieces lengths bytes) → IsTextSize form (length (get_or (pieces lengths bytes) k []))

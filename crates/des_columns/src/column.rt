@@ -40,6 +40,7 @@ impl<K: ValueKeys> Reader<K> {
 
     // Decrypts the blocks of values together, from the first on, as long as they fit the buffer; unless
     // some wait there.
+    #[tactic(auto, using(std::proofs::lemmas::List::Sums::sum_by_more_le))]
     fn refill<S: Slice>(
         &self,
         values: &[u8],
@@ -137,6 +138,7 @@ impl<K: ValueKeys> Reader<K> {
     /// Reads the values of a column, one after another, of these lengths. Text k is written where
     /// value k begins, before zeros, and its length; and status k, which is `OK` or why value k has
     /// no text. Returns whether all of them are `OK`.
+    #[tactic(auto, using(std::proofs::lemmas::List::Sums::sum_by_more_le))]
     pub(crate) fn read<S: Slice>(
         &self,
         values: &[u8],

@@ -323,6 +323,7 @@ impl<C: SpreadOnce + Drop> Writer<C> {
 /// fit the buffer are encrypted in step, a block of each at a time. It is not inlined: else a call that
 /// takes several ciphers would take the stack of all.
 #[inline(never)]
+#[tactic(auto, using(std::proofs::lemmas::List::Sums::sum_by_more_le))]
 pub fn write_values<C: SpreadOnce + Drop, S: Slice>(
     key: &C::Key,
     form: ValueForm,

@@ -1,9 +1,8 @@
 use Rattle.std.proofs.Common.{◌≡◌, ℕ, ℤ, ◌-◌, Option, Some, None, List, ◌++◌, length, take, drop, replicate, refl, ap, ap₂, ◌∙◌, arith}
 use Rattle.std.proofs.lemmas.List.{length-take-le, take_all, take_at}
 use Rattle.des_columns.specs.Columns.{deciphered, plain_of}
-use Rattle.des_columns.specs.Forms.{fault_before, filled_to, part_after, part_of, size_in, status_after, text_after}
+use Rattle.des_columns.specs.Forms.{fault_before, part_after, size_in, status_after, text_after}
 use Rattle.des_columns.specs.declared.form.BlockMode.{BlockMode}
-use Rattle.des_columns.specs.declared.form.BlockMode.TheVariants.{Cbc}
 use Rattle.des_columns.specs.declared.form.ValueForm.TheVariants.{Pkcs7}
 use Rattle.des_columns.proofs.ReadValues.{plain-encrypted}
 use Rattle.des_columns.proofs.jasypt.decrypt.Goals as goal

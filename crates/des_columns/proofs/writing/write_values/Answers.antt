@@ -1,11 +1,11 @@
 -- A value more.
-use Rattle.std.proofs.Common.{rules, ◌≡◌, sum, ℕ, ◌+◌, ◌-◌, ◌<◌, ◌≤◌, List, ◌∷◌, length, take, drop, get_or, refl, ap, sym, ◌∙◌, subst, arith}
+use Rattle.std.proofs.Common.{◌≡◌, sum, ℕ, ◌+◌, ◌-◌, ◌<◌, ◌≤◌, List, ◌∷◌, length, take, drop, get_or, refl, ap, sym, ◌∙◌, arith}
 use Rattle.std.proofs.lemmas.List.{length-drop, take_rest}
 use Rattle.std.proofs.lemmas.List.Elements.{All-drop, All-take}
-use Rattle.std.proofs.lemmas.List.Sums.{sum_by-take-le, sum_by_more_le}
+use Rattle.std.proofs.lemmas.List.Sums.{sum_by-take-le}
 use Rattle.std.proofs.lemmas.Slice.{take-put_mid_below}
 use Rattle.des_columns.specs.Columns.{pieces}
-use Rattle.des_columns.specs.Writings.{AreEnciphered, IsColumnWritten, IsTextSize, IsWriting, value_size}
+use Rattle.des_columns.specs.Writings.{AreEnciphered, IsTextSize, IsWriting, value_size}
 use Rattle.des_columns.specs.declared.form.ValueForm.{ValueForm}
 use Rattle.des_columns.proofs.Pieces.{length-pieces, next-left, pieces-left, sum-left, value-at}
 use Rattle.des_columns.proofs.SpreadKeySizes.{spread_keys-le}
@@ -42,9 +42,7 @@ refill-requires g c =
             (
               sym (sum-left (value_size form) lengths c.texts.values k c.texts.start
                   (sym (c.texts.auto.values ∙ c.requires.values)) c.texts.invariant.start),
-              subst (λ (vs : List (List ℕ)). AreEnciphered form c.args.mode (g.C.KeyInit.is_made_from c.new-cipher.result)
-                  g.C.Relating.relation vs c.texts.waiting c.texts.buffer)
-                  (sym (pieces-left lengths c.args.texts.now k c.texts.from (omega (arith, c.texts-test.true)) c.texts.invariant.from))
+              rw (pieces-left lengths c.args.texts.now k c.texts.from (omega (arith, c.texts-test.true)) c.texts.invariant.from)
                   c.texts.invariant.waiting,
             ),
           ),
@@ -66,35 +64,9 @@ next g c =
     c.texts-test.true (omega arith) in (
       at.0,
       at.1,
-      subst (λ (vs : List (List ℕ)). AreEnciphered c.args.form c.args.mode (g.C.KeyInit.is_made_from c.new-cipher.result)
-          g.C.Relating.relation vs c.refill.new.waiting c.refill.new.buffer)
-          (next-left c.args.lengths.now c.args.texts.now c.texts.k c.texts.from size c.texts-test.true
-          c.texts.invariant.from (omega arith)) c.refill.ensures,
+      rw (next-left c.args.lengths.now c.args.texts.now c.texts.k c.texts.from size c.texts-test.true
+          c.texts.invariant.from (omega arith)) at c.refill.ensures,
     )
-
-pub slice_bounds-text-end : goal.slice_bounds-text-end
-slice_bounds-text-end g c =
-    let bound : c.texts.from + get_or c.args.lengths.now c.texts.k 0 ≤ length c.args.texts.now =
-    omega (
-      arith,
-      sum_by_more_le (λ n. n) c.args.lengths.now c.texts.k 0 c.texts-test.true,
-      c.requires.whole,
-      c.texts.invariant.from,
-    ) in
-    search (rules, bound)
-
-pub slice_bounds-value-end : goal.slice_bounds-value-end
-slice_bounds-value-end g c =
-    let bound : c.texts.start + c.value_size-size.result ≤ length c.args.values.now =
-    omega (
-      arith,
-      sum_by_more_le (value_size c.args.form) c.args.lengths.now c.texts.k 0 c.texts-test.true,
-      c.value_size-size.ensures,
-      ap (value_size c.args.form) (next g (goal.at.slice_bounds-value-end g c).After-refill).0,
-      c.requires.values,
-      c.texts.invariant.start,
-    ) in
-    search (rules, bound)
 
 pub write_next-requires-clause-waiting : goal.write_next-requires-clause-waiting
 write_next-requires-clause-waiting g c = (
@@ -125,8 +97,7 @@ texts-preserved g c =
     (length-put start (length values - start) values c.refill.new.values (omega (arith, within))
     (c.refill.auto.values ∙ ap length (take_rest values start) ∙ length-drop start values) ∙ room)
     (length-pieces lengths bytes) c.texts.invariant.start
-    (subst (λ (l : List ℕ). IsColumnWritten (value_size form) W (take k vs) l)
-    (sym (take-put_mid_below start (length values - start) values c.refill.new.values start (omega arith) within))
+    (rw (take-put_mid_below start (length values - start) values c.refill.new.values start (omega arith) within)
     c.texts.invariant.written) c.value_size-size.result (take size (drop from bytes)) c.write_next.new.value below
     (c.value_size-size.ensures ∙ ap (value_size form) at.0) c.write_next.auto.value
     (sym (value-at lengths bytes k from size below c.texts.invariant.from (omega arith))) c.value_size-size.ensures

@@ -1,12 +1,11 @@
 -- A value that is too long for the buffer, or one that waits there.
-use Rattle.std.proofs.Common.{◌≡◌, ℕ, ◌+◌, ◌-◌, ◌/◌, ◌≤◌, List, length, take, drop, ap, ap₂, sym, ◌∙◌, subst, arith}
+use Rattle.std.proofs.Common.{◌≡◌, ℕ, ◌+◌, ◌-◌, ◌/◌, ◌≤◌, List, length, take, drop, ap, ap₂, ◌∙◌, arith}
 use Rattle.std.specs.Simd.{first_chunks}
 use Rattle.std.proofs.lemmas.List.{length-drop, length-take-le}
 use Rattle.std.proofs.lemmas.Slice.{drop-put_mid}
 use Rattle.des_columns.specs.EncryptedBytes.{joined}
 use Rattle.des_columns.specs.Forms.{blocks_of, part_of, xored}
 use Rattle.des_columns.specs.Columns.{decrypted, deciphered}
-use Rattle.des_columns.specs.Waiting.{AreWaiting}
 use Rattle.des_columns.specs.declared.form.BlockMode.{BlockMode}
 use Rattle.des_columns.specs.declared.form.ValueForm.{ValueForm}
 use Rattle.des_columns.proofs.Pieces.{length-first_chunks}
@@ -46,9 +45,9 @@ returns g c =
     let A : List ℕ → List (List ℕ) → Type 0 = λ value blocks. blocks ≡ decrypted form f value in
     let some : 1 ≤ c.args.waiting.now.count = omega (arith, c.if-waiting-eq0.false) in
     let counted : count ≡ S value = ap length blocks ∙ length-first_chunks 8 _ (part_of form value) in
-    let waits = next-waits S A value c.requires.waiting.0 c.args.waiting.now buffer some c.requires.waiting.1 in
-    let within : first + size ≤ length buffer = omega (arith, waits.0, counted) in
-    let is : size ≡ S value = omega (arith, counted) in
+    let waits = next-waits S A value c.requires.waiting.0 c.args.waiting.now buffer some c.requires.waiting.1 count counted in
+    let within : first + size ≤ length buffer = omega (arith, waits.0) in
+    let is : size ≡ count = omega arith in
     let long : length new ≡ size =
     c.xor_previous.auto.answers ∙ length-take-le size (drop first buffer) (omega (arith, length-drop first buffer, within)) in
     record {
@@ -57,9 +56,7 @@ returns g c =
           ∙ ap joined (c.xor_previous.ensures.xored
           ∙ ap₂ (xored mode) blocks (ap (λ n. take n (drop first buffer)) is ∙ waits.1));
       waiting = λ others are.
-          subst (λ (n : ℕ). AreWaiting S A others (record { count = c.args.waiting.now.count - 1; first = first + n })
-          (put_mid first size buffer new)) (sym counted)
-          (others-wait S A value others c.args.waiting.now buffer some are (put_mid first size buffer new)
+          others-wait S A value others c.args.waiting.now buffer some are count counted (put_mid first size buffer new)
           (length-put first size buffer new within long)
-          (drop-put_mid first size buffer new (first + S value) (omega (arith, counted)) are.within long));
+          (drop-put_mid first size buffer new (first + count) (omega arith) are.within long);
     }

@@ -1,8 +1,7 @@
 -- A value more.
-use Rattle.std.proofs.Common.{rules, w32, SFits, ◌≡◌, ℕ, ℤ, Bool, Option, ◌+◌, ◌-◌, List, ◌∷◌, ◌++◌, length, take, drop, get_or, refl, ◌≤◌, sym, ap, ap₂, ◌∙◌, subst, arith}
+use Rattle.std.proofs.Common.{rules, w32, SFits, ◌≡◌, ℕ, ℤ, Bool, Option, ◌+◌, ◌-◌, List, ◌∷◌, ◌++◌, length, take, drop, get_or, refl, ◌≤◌, sym, ap, ap₂, ◌∙◌, arith}
 use Rattle.std.proofs.lemmas.Int.{to_z-of_z}
 use Rattle.std.proofs.lemmas.List.{length-append, length-drop, length-take-le, take_at}
-use Rattle.std.proofs.lemmas.List.Sums.{sum_by_more_le}
 use Rattle.des_columns.specs.Columns.{AreDecrypted, ReadsAs, pieces, plain_of}
 use Rattle.des_columns.specs.Forms.{filled_to, size_in, status_after, text_after}
 use Rattle.des_columns.specs.declared.form.ValueForm.{ValueForm}
@@ -27,21 +26,8 @@ refill-requires-clause-whole g c =
 
 pub refill-requires-clause-waiting : goal.refill-requires-clause-waiting
 refill-requires-clause-waiting g c =
-    subst (λ (vs : List (List ℕ)). AreDecrypted c.args.self.now.form (g.K.ValueKeys.decryption c.args.self.now.keys) vs
-    c.values.waiting c.values.buffer)
-    (sym (pieces-left c.args.lengths.now c.args.values.now c.values.k c.values.start (omega (arith, c.values-test.true))
-    c.values.invariant.start)) c.values.invariant.waiting
-
-pub slice_bounds-value-end : goal.slice_bounds-value-end
-slice_bounds-value-end g c =
-    let bound : c.values.start + get_or c.args.lengths.now c.values.k 0 ≤ length c.args.values.now =
-    omega (
-      arith,
-      sum_by_more_le (λ n. n) c.args.lengths.now c.values.k 0 c.values-test.true,
-      c.requires.whole,
-      c.values.invariant.start,
-    ) in
-    search (rules, bound)
+    rw (pieces-left c.args.lengths.now c.args.values.now c.values.k c.values.start (omega (arith, c.values-test.true))
+    c.values.invariant.start) c.values.invariant.waiting
 
 -- what is decrypted of the next value fits its place, which is as long as the value, and whether this waits
 next : (g : Over) (c : After-part_of-count g)
@@ -63,10 +49,8 @@ next g c =
     (omega arith)).0 in (
       omega (arith, c.part_of-count.ensures.within, value, place),
       place ∙ sym value,
-      subst (λ (vs : List (List ℕ)). AreDecrypted c.args.self.now.form (g.K.ValueKeys.decryption c.args.self.now.keys) vs
-          c.refill.new.waiting c.refill.new.buffer)
-          (next-left c.args.lengths.now c.args.values.now c.values.k c.values.start size c.values-test.true
-          c.values.invariant.start (omega arith)) c.refill.ensures,
+      rw (next-left c.args.lengths.now c.args.values.now c.values.k c.values.start size c.values-test.true
+          c.values.invariant.start (omega arith)) at c.refill.ensures,
     )
 
 pub decrypt_next-requires-clause-waiting : goal.decrypt_next-requires-clause-waiting

@@ -1,27 +1,16 @@
 -- A value more, and all of them, decrypted.
-use Rattle.std.proofs.Common.{rules, ◌≡◌, ℕ, ◌+◌, ◌-◌, ◌≤◌, ◌/◌, ◌++◌, List, length, take, drop, get_or, ap, ap₂, sym, ◌∙◌, arith}
+use Rattle.std.proofs.Common.{◌≡◌, ℕ, ◌+◌, ◌-◌, ◌/◌, ◌++◌, List, length, take, drop, get_or, ap, ap₂, sym, ◌∙◌, arith}
 use Rattle.std.specs.List.{flat_map}
 use Rattle.std.specs.Simd.{first_chunks}
-use Rattle.std.proofs.lemmas.List.{length-drop, length-map, length-take-le}
-use Rattle.std.proofs.lemmas.List.Sums.{sum_by_more, sum_by_more_le}
+use Rattle.std.proofs.lemmas.List.{length-map}
 use Rattle.std.proofs.lemmas.Slice.{take-put_mid}
 use Rattle.des_columns.specs.Forms.{blocks_of, part_of}
 use Rattle.des_columns.specs.Columns.{decrypted, pieces}
 use Rattle.des_columns.specs.declared.form.ValueForm.{ValueForm}
 use Rattle.des_columns.proofs.Pieces.{flat_map-more, length-first_chunks, length-pieces, take-pieces, value-at}
 use Rattle.des_columns.proofs.Turns.{in_turn-made}
+use Rattle.des_columns.proofs.WrittenColumns.{text-next}
 use Rattle.des_columns.proofs.column.Reader.refill.Goals as goal
-
-pub slice_bounds-value-end : goal.slice_bounds-value-end
-slice_bounds-value-end g c =
-    let bound : c.values.bytes + get_or c.args.lengths.now c.values.count 0 ≤ length c.args.values.now =
-    omega (
-      arith,
-      sum_by_more_le (λ x. x) c.args.lengths.now c.values.count 0 c.values-test.true,
-      c.requires.whole,
-      c.values.invariant.bytes,
-    ) in
-    search (rules, bound)
 
 pub values-preserved : goal.values-preserved
 values-preserved g c =
@@ -33,14 +22,9 @@ values-preserved g c =
     let vs : List (List ℕ) = pieces lengths bytes in
     let size : ℕ = start + get_or lengths k 0 - start in
     let is : size ≡ get_or lengths k 0 = omega arith in
-    let within : start + get_or lengths k 0 ≤ length bytes =
-    omega (arith, sum_by_more_le (λ x. x) lengths k 0 c.values-test.true, c.requires.whole, c.values.invariant.bytes) in
-    let value : List ℕ = take size (drop start bytes) in
-    let long : length value ≡ get_or lengths k 0 =
-    length-take-le size (drop start bytes) (omega (arith, length-drop start bytes, within)) ∙ is in
     record {
       end = omega (arith, c.values-test.true);
-      bytes = ap₂ ◌+◌ c.values.invariant.bytes long ∙ sym (sum_by_more (λ x. x) lengths k 0 c.values-test.true);
+      bytes = (text-next lengths bytes k start size c.requires.whole c.values.invariant.bytes c.values-test.true is).1;
       blocks = omega (arith, c.values.invariant.blocks, c.if-more-buffer.false, c.copy_from_slice.auto.self);
       gathered =
           take-put_mid c.values.blocks _ c.values.buffer c.copy_from_slice.new.self _

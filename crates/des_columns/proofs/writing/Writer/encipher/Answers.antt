@@ -1,10 +1,9 @@
 -- Some blocks more.
-use Rattle.std.proofs.Common.{◌≡◌, ℕ, ◌+◌, ◌-◌, ◌*◌, ◌/◌, ◌++◌, ◌≤◌, List, [], length, take, drop, refl, ap, ap₂, sym, ◌∙◌, subst, arith, take-add}
+use Rattle.std.proofs.Common.{◌≡◌, ℕ, ◌+◌, ◌-◌, ◌*◌, ◌/◌, ◌++◌, ◌≤◌, List, [], length, take, drop, refl, ap, ap₂, sym, ◌∙◌, arith, take-add}
 use Rattle.std.specs.Simd.{first_chunks}
 use Rattle.std.proofs.lemmas.List.{length-drop, length-take-le, take_all}
 use Rattle.std.proofs.lemmas.List.Concat.{flat_map-append}
 use Rattle.std.proofs.lemmas.Slice.{drop-put_mid, take-put_mid}
-use Rattle.des_columns.specs.EncryptedBytes.{AreEncrypted}
 use Rattle.des_columns.specs.Forms.{mode_after}
 use Rattle.des_columns.specs.declared.form.BlockMode.{BlockMode}
 use Rattle.des_columns.proofs.DecryptedBlocks.{chunks-at, drop-further, mode_after-append}
@@ -60,12 +59,9 @@ parts-preserved g c =
             ∙ ap₂ ◌++◌ c.parts.invariant.done.2 (c.copy_from_slice-in-parts.ensures.after ∙ c.as_flattened.ensures.value)
             ∙ sym (flat_map-append (λ block. block) done answers),
         λ key made.
-            subst (λ (l : List (List ℕ)). AreEncrypted mode (g.C.Relating.relation key) l (done ++ answers))
-            (ap (λ (l : List (List ℕ)). before ++ l) (c.copy_from_slice.ensures.after ∙ blocks) ∙ sym (take-add m count all))
-            (AreEncrypted-append (g.C.Relating.relation key) mode before done c.copy_from_slice.new.self answers
+            rw (take-add m count all) (AreEncrypted-append (g.C.Relating.relation key) mode before done more answers
             (c.parts.invariant.done.3 key made)
-            (subst (λ (by : BlockMode). AreEncrypted by (g.C.Relating.relation key) c.copy_from_slice.new.self answers)
-            c.parts.invariant.done.1 (c.encrypt-mode.ensures.encrypted key made))),
+            (rw (c.parts.invariant.done.1, c.copy_from_slice.ensures.after ∙ blocks) at (c.encrypt-mode.ensures.encrypted key made))),
       );
       rest =
           drop-put_mid (m * 8) size c.parts.bytes new ((m + count) * 8) (omega (arith, is)) inside new_long
@@ -85,7 +81,6 @@ returns g c = λ key made.
           sym c.parts.invariant.done.2
           ∙ take_all (c.parts.from * 8) c.parts.bytes (omega (arith, end, c.requires.whole, c.parts.auto.bytes));
       encrypted =
-          subst (λ (l : List (List ℕ)). AreEncrypted c.args.self.now.mode (g.C.Relating.relation key) l c.parts.invariant.done.0)
-          (take_all c.parts.from all (omega (arith, end, length-first_chunks 8 (length bytes / 8) bytes)))
+          rw (take_all c.parts.from all (omega (arith, end, length-first_chunks 8 (length bytes / 8) bytes))) at
           (c.parts.invariant.done.3 key made);
     }

@@ -1,24 +1,17 @@
-use Rattle.std.proofs.Common.{◌≡◌, ℕ, ◌<◌, List, [], length, take, get_or, replicate, sym, ◌∙◌, subst, arith}
+use Rattle.std.proofs.Common.{◌≡◌, ℕ, ◌<◌, List, [], length, take, get_or, replicate, ◌∙◌, arith}
 use Rattle.std.proofs.lemmas.List.{get_or-replicate, get_or-take, length-replicate, length-take-le}
 use Rattle.std.proofs.lemmas.List.Elements.{All-drop, All-get_or, All-take}
 use Rattle.des.specs.Blocks.{IsBlock}
-use Rattle.des.specs.Cbc.{CbcUnder}
 use Rattle.des_fast.specs.Records.{record_of}
 use Rattle.des_fast.proofs.RelatedCbc.{CbcUnder-related}
-use Rattle.des_columns.specs.EncryptedBytes.{AreEncrypted}
-use Rattle.des_columns.specs.declared.form.BlockMode.{BlockMode}
 use Rattle.des_columns.proofs.Results.{on-ok}
 use Rattle.des_columns.proofs.RelatedRecords.{each-record}
 use Rattle.des_columns.proofs.writing.Writer.encrypt_records.Goals as goal
 
 pub returns-in-Ecb : goal.returns-in-Ecb
 returns-in-Ecb g c = λ key k made below.
-    let sizes : List ℕ = c.args.sizes.now in
-    let old : List (List ℕ) = c.args.blocks.now in
-    let new : List (List ℕ) = c.encrypt_list_by.new.blocks in
-    subst (λ (mode : BlockMode). AreEncrypted mode (g.C.Relating.relation key) (record_of sizes old k) (record_of sizes new k))
-    (sym c.in-Ecb.is)
-    (each-record (g.C.Relating.relation key) sizes old new k (c.encrypt_list_by.ensures.processed key made).0)
+    rw c.in-Ecb.is (each-record (g.C.Relating.relation key) c.args.sizes.now c.args.blocks.now c.encrypt_list_by.new.blocks k
+    (c.encrypt_list_by.ensures.processed key made).0)
 
 pub returns-in-Cbc : goal.returns-in-Cbc
 returns-in-Cbc g c = λ key k made below.
@@ -36,8 +29,7 @@ returns-in-Cbc g c = λ key k made below.
     let vector : get_or vectors k [] ≡ iv =
     get_or-take (length sizes) (replicate 256 iv) k [] below ∙ get_or-replicate 256 k iv [] (omega (arith, below, c.requires.count)) in
     let chained = on-ok c.encrypt_cbc_records.result _ (ensured.accepted.1 (count, c.requires.whole)) ensured.chained in
-    subst (λ (mode : BlockMode). AreEncrypted mode Relates (record_of sizes old k) (record_of sizes new k)) (sym c.in-Cbc.is)
-    (subst (λ (v : List ℕ). CbcUnder Relates v (record_of sizes old k) (record_of sizes new k)) vector
+    rw c.in-Cbc.is (rw vector at
     (CbcUnder-related Relates (g.C.BlockCipherEncrypt.encrypted cipher) (g.met.C.Relating.encrypts_by_relation cipher key made)
     (get_or vectors k []) (record_of sizes old k) (record_of sizes new k) (All-get_or IsBlock vectors k [] there ensured.vectors)
     (All-take IsBlock _ _ (All-drop IsBlock _ _ ensured.blocks)) (g.met.C.BlockCipher.encrypted_is_block cipher)

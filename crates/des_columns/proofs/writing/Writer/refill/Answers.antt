@@ -1,7 +1,6 @@
 -- Texts that were gathered, encrypted.
-use Rattle.std.proofs.Common.{◌≡◌, ℕ, List, length, take, drop, refl, ap, sym, ◌∙◌, subst, arith}
+use Rattle.std.proofs.Common.{◌≡◌, ℕ, List, length, take, drop, refl, ap, sym, ◌∙◌, arith}
 use Rattle.std.proofs.lemmas.List.{length-map, length-take, length-take-le}
-use Rattle.des_fast.specs.Records.{record_of}
 use Rattle.des_columns.specs.Columns.{pieces}
 use Rattle.des_columns.specs.EncryptedBytes.{AreEncrypted, IsEncrypted, joined}
 use Rattle.des_columns.specs.Writings.{padded_by, size_in_blocks}
@@ -62,9 +61,6 @@ returns g c =
             encrypted = related key is;
           }) c.gather-taken.ensures.padded c.encrypt_records.auto.blocks
           (λ k below.
-          subst (λ (s : List ℕ). (key : List ℕ) → made key
-          → AreEncrypted mode (g.C.Relating.relation key) (record_of s old k) (record_of s new k))
-          c.gather-taken.ensures.sizes
-          (λ key is. c.encrypt_records.ensures key k is
+          rw (← c.gather-taken.ensures.sizes) (λ key is. c.encrypt_records.ensures key k is
           (omega (arith, below, ap length c.gather-taken.ensures.sizes, length-map texts (size_in_blocks form))))));
     }

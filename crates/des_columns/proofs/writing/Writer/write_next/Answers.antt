@@ -1,7 +1,6 @@
 -- A text that goes by itself, or one that waits in the buffer.
-use Rattle.std.proofs.Common.{◌≡◌, ℕ, ◌+◌, ◌-◌, ◌/◌, ◌%◌, ◌≤◌, List, ◌++◌, length, take, drop, replicate, refl, ap, sym, ◌∙◌, subst, arith}
+use Rattle.std.proofs.Common.{◌≡◌, ℕ, ◌+◌, ◌-◌, ◌/◌, ◌%◌, ◌≤◌, List, ◌++◌, length, take, drop, replicate, refl, ap, ◌∙◌, arith}
 use Rattle.des_columns.specs.EncryptedBytes.{IsEncrypted, joined}
-use Rattle.des_columns.specs.Waiting.{AreWaiting}
 use Rattle.des_columns.specs.Writings.{padded_by, size_in_blocks}
 use Rattle.des_columns.specs.declared.form.BlockMode.{BlockMode}
 use Rattle.des_columns.specs.declared.form.ValueForm.{ValueForm}
@@ -34,8 +33,9 @@ returns g c =
     let Q : List ℕ → List (List ℕ) → Type 0 = λ text blocks. (key : List ℕ) → g.C.KeyInit.is_made_from c.args.self.now.cipher key
     → IsEncrypted mode (g.C.Relating.relation key) (padded_by form text) (joined blocks) in
     let sized : size ≡ size_in_blocks form text = ap (λ n. n / 8) c.requires.value in
-    let same : size_in_blocks form text ≡ first + size - first = omega (arith, sized) in
-    let waits = next-waits (size_in_blocks form) Q text c.requires.waiting.0 c.args.waiting.now buffer some c.requires.waiting.1 in
+    let same : first + size - first ≡ size = omega arith in
+    let waits =
+    next-waits (size_in_blocks form) Q text c.requires.waiting.0 c.args.waiting.now buffer some c.requires.waiting.1 size sized in
     record {
       written = λ key made. record {
         blocks = joined (take (first + size - first) (drop first buffer));
@@ -43,12 +43,8 @@ returns g c =
             c.join_value.ensures
             ∙ ap (λ l. l ++ joined (take (first + size - first) (drop first buffer)))
             (ap (λ n. replicate (n % 8) (128 + number)) c.requires.value ∙ head-filled form number text c.requires.size);
-        encrypted =
-            subst (λ (n : ℕ). IsEncrypted mode (g.C.Relating.relation key) (padded_by form text) (joined (take n (drop first buffer))))
-            same (waits.1 key made);
+        encrypted = rw same (waits.1 key made);
       };
       waiting = λ others are.
-          subst (λ (n : ℕ). AreWaiting (size_in_blocks form) Q others
-          (record { count = c.args.waiting.now.count - 1; first = first + n }) buffer) (sym sized)
-          (others-wait (size_in_blocks form) Q text others c.args.waiting.now buffer some are buffer refl refl);
+          others-wait (size_in_blocks form) Q text others c.args.waiting.now buffer some are size sized buffer refl refl;
     }

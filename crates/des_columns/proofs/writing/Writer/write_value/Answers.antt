@@ -1,5 +1,4 @@
-use Rattle.std.proofs.Common.{◌+◌, ◌%◌, ℕ, List, ◌++◌, replicate, ap, ◌∙◌, subst}
-use Rattle.des_columns.specs.EncryptedBytes.{IsEncrypted}
+use Rattle.std.proofs.Common.{◌+◌, ◌%◌, ℕ, ◌++◌, replicate, ap, ◌∙◌}
 use Rattle.des_columns.proofs.PaddedTexts.{head-filled}
 use Rattle.des_columns.proofs.writing.Writer.write_value.Goals as goal
 
@@ -13,7 +12,5 @@ returns g c = λ key made.
           ap (λ l. l ++ c.encipher.new.bytes) (c.write_head.ensures
           ∙ ap (λ n. replicate n first) (c.split_at_mut-head.ensures.front_len ∙ ap (λ n. n % 8) c.requires.value)
           ∙ head-filled c.args.self.now.form c.args.self.now.number c.args.text.now c.requires.size);
-      encrypted =
-          subst (λ (l : List ℕ). IsEncrypted c.args.self.now.mode (g.C.Relating.relation key) l c.encipher.new.bytes)
-          c.write_padded.ensures (c.encipher.ensures key made);
+      encrypted = rw c.write_padded.ensures at (c.encipher.ensures key made);
     }
