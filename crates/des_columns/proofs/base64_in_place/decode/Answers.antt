@@ -1,6 +1,6 @@
 -- A group more.
 use Rattle.std.proofs.Common.{◌≡◌, ℕ, ◌+◌, ◌-◌, ◌*◌, ◌/◌, ◌<◌, ◌≤◌, ◌++◌, List, length, take, drop, refl, ap, ap₂, sym, ◌∙◌, arith}
-use Rattle.std.proofs.lemmas.List.{length-take-le, take_all}
+use Rattle.std.proofs.lemmas.List.{length-take-le}
 use Rattle.std.proofs.lemmas.Slice.{drop-put_mid, take-put_mid}
 use Rattle.base64.specs.Engines.{standard}
 use Rattle.base64.specs.GeneralPurpose.{encode_of}
@@ -87,19 +87,3 @@ groups-preserved c =
           drop-put_mid size _ characters new (4 * (g + 1)) (omega (arith, full, few)) inside (omega (arith, long))
           ∙ drop-further (4 * (g + 1)) (4 * g) characters initial (omega arith) c.groups.invariant.rest;
     }
-
-pub shape_of-characters : goal.shape_of-characters
-shape_of-characters c = c.groups.invariant.long
-
-pub returns-clause-some : goal.returns-clause-some
-returns-clause-some c =
-    let initial : List ℕ = c.args.characters.now in
-    let whole : 4 * c.groups.group ≡ length initial =
-    omega (arith, c.groups-test.false, c.groups.auto.group-end, c.if-characters-ne0.false) in (
-      c.are_bytes-2.ensures,
-      sym (c.groups.invariant.encoded ∙ take_all (4 * c.groups.group) initial (omega (arith, whole))),
-    )
-
-pub returns-clause-within : goal.returns-clause-within
-returns-clause-within c =
-    omega (arith, c.groups.invariant.size, c.groups.auto.group-end, c.groups.invariant.long)

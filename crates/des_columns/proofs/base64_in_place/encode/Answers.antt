@@ -1,7 +1,7 @@
 -- A group more.
 use Rattle.std.proofs.Common.{◌≡◌, ◌≤◌, ◌+◌, ◌-◌, ◌*◌, ◌/◌, ◌++◌, min, ℕ, List, [], ◌∷◌, length, take, drop, Ok, Result, refl, ap, ap₂, sym, ◌∙◌, arith, take-add}
 use Rattle.std.specs.Result.{OnOk}
-use Rattle.std.proofs.lemmas.List.{append-nil, drop-drop, drop_all, length-drop, length-take-le, take_all, take_at, take_min}
+use Rattle.std.proofs.lemmas.List.{append-nil, drop-drop, drop_all, length-drop, length-take-le, take_at, take_min}
 use Rattle.std.proofs.lemmas.Slice.{drop-put_mid, take-put_mid}
 use Rattle.base64.specs.Engines.{standard}
 use Rattle.base64.specs.GeneralPurpose.{IsEncodedOver, encode_of, encoded_size_of}
@@ -75,16 +75,3 @@ groups-preserved c =
           (omega (arith, within, c.requires.size, c.requires.start)) (omega (arith, inside)) (omega (arith, as_long))
           ∙ drop-further (start + 3 * (g + 1)) from place initial (omega arith) c.groups.invariant.rest;
     }
-
-pub shape_of-place : goal.shape_of-place
-shape_of-place c = c.groups.invariant.long
-
-pub returns : goal.returns
-returns c =
-    let initial : List ℕ = c.args.place.now in
-    let bytes : List ℕ = drop c.args.start initial in
-    let g : ℕ = c.groups.group in
-    let all : length initial / 4 ≤ g = omega (arith, c.groups-test.false, c.groups.invariant.long) in
-    sym (take_all (4 * g) c.groups.place (omega (arith, all, c.groups.invariant.long, c.requires.size)))
-    ∙ c.groups.invariant.front
-    ∙ ap (encode_of standard) (take_all (3 * g) bytes (omega (arith, all, length-drop c.args.start initial, c.requires.size)))

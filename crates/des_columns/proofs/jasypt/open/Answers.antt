@@ -1,5 +1,5 @@
 use Rattle.std.proofs.Common.{◌≡◌, ℕ, ℤ, ◌-◌, List, length, take, drop, ap, sym, ◌∙◌}
-use Rattle.std.proofs.lemmas.List.{drop_at, length-drop, length-take-le, take-append-le, take_at}
+use Rattle.std.proofs.lemmas.List.{drop_at, length-drop, take-append-le, take_at}
 use Rattle.des_columns.specs.Jasypt.{ReadsBy}
 use Rattle.des_columns.specs.Pbe.{derived_by}
 use Rattle.des_columns.specs.declared.pbe.Algorithm.{Algorithm}
@@ -29,10 +29,3 @@ returns-clause-read c =
     (c.derive.ensures ∙ ap (λ (l : List ℕ). derived_by c.args.by c.args.password.now l c.args.iterations) before) behind
     (sym (take-append-le c.decrypt_by.result.length c.decrypt_by.new.encrypted salt c.decrypt_by.ensures.within))
     c.decrypt_by.ensures.read
-
-pub derive-requires-clause-salt : goal.derive-requires-clause-salt
-derive-requires-clause-salt c =
-    let bytes : List ℕ = c.args.bytes.now in
-    ap length (c.split_at_mut-encrypted.ensures.back ∙ ap (drop (length bytes - 8)) c.rotate_left.ensures.after
-    ∙ drop_at (drop 8 bytes) (take 8 bytes) (length bytes - 8) (length-drop 8 bytes))
-    ∙ length-take-le 8 bytes c.requires.salt

@@ -11,15 +11,6 @@ use Rattle.des_columns.proofs.SpreadKeySizes.{spread_keys-le}
 use Rattle.des_columns.proofs.Turns.{in_turn-longer, in_turn-related}
 use Rattle.des_columns.proofs.writing.Writer.refill.Goals as goal
 
-pub returns-then-taken : goal.returns-then-taken
-returns-then-taken g c =
-    let none : c.args.waiting.now.count ≡ 0 = omega (arith, c.if-waiting-gt0.false) in
-    record {
-      fit = omega (arith, none);
-      within = omega (arith, c.requires.waiting.within, c.gather-taken.auto.buffer);
-      in_turn = rw none tt;
-    }
-
 pub encrypt_records-requires : goal.encrypt_records-requires
 encrypt_records-requires g c = (
   omega (arith, spread_keys-le _ _ g.met.S.Slice.small_gaps g.met.S.Slice.few_bytes),

@@ -8,18 +8,6 @@ use Rattle.des_columns.proofs.PaddedTexts.{head-filled}
 use Rattle.des_columns.proofs.Turns.{next-waits, others-wait}
 use Rattle.des_columns.proofs.writing.Writer.write_next.Goals as goal
 
-pub returns-then-waiting-eq0 : goal.returns-then-waiting-eq0
-returns-then-waiting-eq0 g c =
-    let none : c.args.waiting.now.count ≡ 0 = c.if-waiting-eq0.true in
-    record {
-      written = c.write_value.ensures;
-      waiting = λ others are. record {
-        fit = omega (arith, none);
-        within = omega (arith, are.within, c.write_value.auto.buffer);
-        in_turn = rw none tt;
-      };
-    }
-
 pub returns : goal.returns
 returns g c =
     let form : ValueForm = c.args.self.now.form in

@@ -1,9 +1,0 @@
-use Rattle.std.proofs.Common.{◌==◌, rules, tests}
-use Rattle.std.proofs.lemmas.Iterator.{YieldsList-from_slice}
-use Rattle.std.proofs.lemmas.Iterator.Search.{all_from_yields_List}
-use Rattle.des_columns.proofs.form.are_all.Goals as goal
-
-pub returns : goal.returns
-returns c =
-    all_from_yields_List (λ byte. byte == c.args.value) _ _ _ c.all.ensures.ran
-    (YieldsList-from_slice c.args.bytes.now cc) (λ x b q k. search (rules, tests))
