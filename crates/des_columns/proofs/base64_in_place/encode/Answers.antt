@@ -9,9 +9,6 @@ use Rattle.base64.proofs.EngineFacts.{encode_of-append, encode_of-nil}
 use Rattle.des_columns.proofs.DecryptedBlocks.{drop-further}
 use Rattle.des_columns.proofs.base64_in_place.encode.Goals as goal
 
-on-ok : {T E : Type 0} (result : Result T E) (x : T) (P : Type 0) → result ≡ Ok x → OnOk result P → P
-on-ok result x P is on = rw is at on
-
 -- one to three bytes are encoded as four characters
 encoded-group : {E : Type 0} (part given output old : List ℕ) (count : ℕ) (result : Result ℕ E) → given ≡ part
     → length part ≡ count → 1 ≤ count → count ≤ 3 → length old ≡ 4
@@ -19,7 +16,8 @@ encoded-group : {E : Type 0} (part given output old : List ℕ) (count : ℕ) (r
     → OnOk result (IsEncodedOver standard given old output) → output ≡ encode_of standard part
 encoded-group part given output old count result is long some few four fits written =
     let size : encoded_size_of standard (length given) ≡ 4 = omega (arith, ap length is, long, some, few) in
-    on-ok result _ (IsEncodedOver standard given old output) (fits (omega (arith, size, four))) written
+    let is_encoded : IsEncodedOver standard given old output = rw (fits (omega (arith, size, four))) at written in
+    is_encoded
     ∙ ap₂ ◌++◌ (ap (encode_of standard) is)
     (drop_all (encoded_size_of standard (length given)) old (omega (arith, size, four)))
     ∙ append-nil (encode_of standard part)
