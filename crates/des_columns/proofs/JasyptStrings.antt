@@ -124,7 +124,8 @@ jasypt-read by count password salt text value eight written bytes size =
       (bytes, characters),
       inr (
         omega (arith, length-append salt encrypted, eight),
-        rw (drop_at salt encrypted 8 eight) (writing-read (Cbc (drop (key_size by) both)) (relation_by by (take (key_size by) both)) Pkcs7 0 text encrypted tt size
+        rw (drop_at salt encrypted 8 eight)
+            (writing-read (Cbc (drop (key_size by) both)) (relation_by by (take (key_size by) both)) Pkcs7 0 text encrypted tt size
             writes),
       ),
     )
