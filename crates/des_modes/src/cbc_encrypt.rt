@@ -1,10 +1,12 @@
-//! Ciphers that encrypt by CBC, as OFB and CFB of 64 bits do: their output blocks are such a chain.
+//! Ciphers that encrypt by CBC. OFB and CFB of 64 bits take their output blocks from such a chain.
 
 ghost use Rattle.std.specs.Prelude.{◌≡◌};
 ghost use Rattle.des.specs.Cbc.{Cbc};
 
 use des::cbc;
 use des::cipher::BlockCipherEncrypt;
+use des::tdes::{Form, Parts, Triple};
+use des_fast::box_lookup::BoxLookup;
 
 /// The blocks that the modes chain together. More of them would gain nothing, and take memory.
 pub(crate) const CHAINED: usize = 32;
@@ -18,3 +20,9 @@ pub trait CbcEncrypt: BlockCipherEncrypt {
         cbc::encrypt(self, iv, blocks);
     }
 }
+
+impl CbcEncrypt for des::Des {}
+
+impl<W: BoxLookup> CbcEncrypt for des_fast::single::Des<W> {}
+
+impl<P: Parts, F: Form> CbcEncrypt for Triple<P, F> {}

@@ -38,7 +38,7 @@ fn write_blocks(blocks: &mut [[u8; 8]], bytes: &[u8])
     blocks.copy_from_slice(&inputs[..blocks.len()]);
 }
 
-// Writes eight bytes into each block but the first, one after another.
+// Writes the first eight bytes into the second block, the next eight into the third, and so on.
 fn write_after_first(blocks: &mut [[u8; 8]], bytes: &[u8])
     requires some { 1 ≤ length blocks.old }
     requires few { 8 * length blocks.old ≤ 8 + length bytes.now }
@@ -210,9 +210,9 @@ impl Register {
         }
     }
 
-    // Encrypts segments of eight bytes together, of which the last may be cut short. With segments
-    // P(0), P(1), .. CBC makes the output blocks O(0), O(1), .. of zeros, P(0), P(1), .. from the shift
-    // register: O(j + 1) = E(C(j)) = E(P(j) ^ O(j)).
+    // Encrypts segments of eight bytes together, of which the last may be cut short. CBC of a block of
+    // zeros and the segments P(0), P(1), .., from the shift register, gives the output blocks O(0), O(1),
+    // ..: O(j + 1) = E(C(j)) = E(P(j) ^ O(j)).
     fn encrypt_segments<C: CbcEncrypt>(&mut self, cipher: &C, bytes: &mut [u8])
         requires blocks { self.old.segment ≡ 8 }
         requires between { self.old.used ≡ 0 }
@@ -273,8 +273,8 @@ impl<C: CbcEncrypt> TakesParts<C> for Register {
 
     ghost segment = { λ register. register.segment };
 
-    // What is left of a segment. If none has begun, 256 segments of ciphertext, of plaintext one, or 32
-    // of eight bytes.
+    // The bytes that are left of a segment; between two, 256 segments of ciphertext, or one of plaintext,
+    // but of eight bytes 32, which are 256 bytes.
     ghost limit = { λ direction register.
         if nat_eq register.used 0 then
         (plaintext direction (if nat_eq register.segment 8 then 256 else register.segment)
@@ -293,6 +293,7 @@ impl<C: CbcEncrypt> TakesParts<C> for Register {
 
     fn apply_part(&mut self, direction: Direction, cipher: &C, bytes: &mut [u8]) {
         match direction {
+            // More than a segment comes only between segments of eight bytes.
             Direction::Encrypt if bytes.len() > self.segment => self.encrypt_segments(
                 cipher, bytes,
             ),

@@ -54,8 +54,8 @@ impl Feedback {
         self.used = (self.used + bytes.len()) % 8;
     }
 
-    // Encrypts or decrypts bytes from the beginning of an output block on: CBC makes the output blocks of
-    // blocks of zeros.
+    // Encrypts or decrypts bytes from the beginning of an output block on. CBC of blocks of zeros gives
+    // the output blocks.
     fn apply_blocks<C: CbcEncrypt>(&mut self, cipher: &C, bytes: &mut [u8])
         requires between { self.old.used ≡ 0 }
         requires some { 1 ≤ length bytes.old }
