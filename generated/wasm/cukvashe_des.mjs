@@ -21,8 +21,8 @@ export const BLOCK_SIZE = 8;
 export const TAG_SIZE = 8;
 
 // The SHA-256 of the modules that this file was built with: the one of a 64-bit memory, and the same of a 32-bit memory.
-const MODULE_SUM = "a2bab8257bcd6c154d21d5307383896dd9e89104eb9610b02149664fe6a3f76e";
-const NARROW_SUM = "82de1a93c9b7131547a398727615489626404c485fb2875c3327081c25fe16a1";
+const MODULE_SUM = "f16ad0cb4d6a83f98fee79f7aa02e174370d8e426fd26f6389495a26f8810add";
+const NARROW_SUM = "c67545e51b845349ddca324a547f44876e97d3f72cb6f50d09c5cabaa5eaa6cd";
 
 // The bytes of the module's stack, which lies at its address 0. `build` links it so.
 const STACK_SIZE = 131072;
