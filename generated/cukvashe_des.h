@@ -71,7 +71,7 @@
  *      7,000   cms_
  *     27,000   _ecb, _ecb_to, _cbc, _cbc_to, _each, _check_values, _open_salted, key_block_
  *     32,000   _mode, _stream, _stream_bits
- *     45,000   _macs, _macs_each, _values, _values_by_file, dukpt_transaction_keys_from_base
+ *     46,000   _macs, _macs_each, _values, _values_by_file, dukpt_transaction_keys_from_base
  *     66,000   _cbc_records, mysql_encrypt_values, pgcrypto_encrypt_values
  *
  * WHAT IS PROVED

@@ -24,7 +24,7 @@ MISTAKES = [
     ("session, terminal,", "terminal,", "differ in who is given no secret"),
     ("compare_tags, decimal_table_init,", "decimal_table_init,", "differ in who is given no secret"),
     ("_macs, _macs_each", "_macs, _macs_every", "which is that of no call"),
-    ("45,000   _macs", "_macs", "has sizes that can't be read"),
+    ("46,000   _macs", "_macs", "has sizes that can't be read"),
     ("void cukvashe_dukpt_pin_key(const uint8_t transaction[16]", "void cukvashe_dukpt_pin_key(const uint8_t transaction[8]",
      "which takes another type"),
     ("bool cukvashe_dukpt_is_usable(const uint8_t serial[10]", "bool cukvashe_dukpt_is_usable(uint8_t serial[10]", "does not take and return"),
