@@ -102,7 +102,7 @@ class Library:
         absent = {}
         made = [line for it in self.header.calls.values() for line in self._definition(it, absent)]
         for name, size in absent.items():
-            yield from ["", f"/* In the place of `{name}` where a struct leaves it out. */", f"static const uint8_t no_{name}[{size}];"]
+            yield from ["", f"/* Stands in for a `{name}` that a struct leaves out. */", f"static const uint8_t no_{name}[{size}];"]
         yield from made
 
     def _definition(self, it, absent):

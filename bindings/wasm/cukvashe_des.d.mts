@@ -490,7 +490,7 @@ export function pinOffsetVerify(
 
 // Calls like those of cukvashe_des.h: made of it by bindings/describe.
 /**
- * The check value of a key or component of 8, 16 or 24 bytes: by DES or, where it is longer, triple DES (EDE).
+ * The check value of a key or component, by its length: by DES of 8 bytes, by triple DES (EDE) of 16 or 24.
  * KeyLength.
  */
 export function keyCheckValue(key: Uint8Array): Uint8Array;
@@ -500,14 +500,14 @@ export function keyCheckValue(key: Uint8Array): Uint8Array;
  */
 export function shortKeyCheckValue(key: Uint8Array): Uint8Array;
 /**
- * The initial key of a terminal, from the base derivation key and any of the terminal's key serial numbers, whose
- * counter plays no part. KeyLength, SerialLength.
+ * The initial key (IK, IPEK) of a terminal, from the base derivation key (BDK) and any of the terminal's key serial
+ * numbers (KSN), whose counter plays no part. KeyLength, SerialLength.
  */
 export function dukptInitialKey(base: Uint8Array, serial: Uint8Array): Uint8Array;
 /**
- * The key of a transaction, which encrypts nothing itself, from the terminal's initial key, not the base derivation
- * key, and the transaction's key serial number. It takes every counter: ask first whether a transaction has this
- * one. KeyLength, SerialLength.
+ * The key of a transaction, which encrypts nothing itself, from the terminal's initial key (IK, IPEK), not the base
+ * derivation key (BDK), and the transaction's key serial number (KSN). It takes every counter: ask first whether a
+ * transaction has this one. KeyLength, SerialLength.
  */
 export function dukptTransactionKey(initial: Uint8Array, serial: Uint8Array): Uint8Array;
 /** The key that encrypts PIN blocks, from the transaction's key. KeyLength. */
@@ -522,46 +522,46 @@ export function dukptDataKey(transaction: Uint8Array, isResponse?: boolean): Uin
  */
 export function dukptDataVariant(transaction: Uint8Array, isResponse?: boolean): Uint8Array;
 /**
- * The card verification value, three ASCII digits, under a key pair of 16 bytes, of an account number of 12 to 19
- * digits, an expiry date of four, in the order that the issuer takes, and a service code of three. KeyLength,
- * AccountLength, AccountDigit, ExpiryLength, ExpiryDigit, ServiceLength, ServiceDigit.
+ * The card verification value (CVV), three ASCII digits, under a key pair of 16 bytes, of an account number (PAN)
+ * of 12 to 19 digits, an expiry date of four, in the order that the issuer takes, and a service code of three.
+ * KeyLength, AccountLength, AccountDigit, ExpiryLength, ExpiryDigit, ServiceLength, ServiceDigit.
  */
 export function cvv(key: Uint8Array, account: Digits, expiry: Digits, service: Digits): string;
 /**
  * The key of a card (A1.4.1, option A), with odd parity, from the issuer's master key (IMK), an account number
- * (PAN) of 8 to 19 digits and a sequence number (PSN) of two, `00` where the card has none. KeyLength,
- * AccountLength, AccountDigit, SequenceLength, SequenceDigit.
+ * (PAN) of 8 to 19 digits and a sequence number (PSN) of two, `00` if the card has none. KeyLength, AccountLength,
+ * AccountDigit, SequenceLength, SequenceDigit.
  */
 export function emvCardKey(issuer: Uint8Array, account: Digits, sequence: Digits): Uint8Array;
 /**
- * The key of a card by option B (A1.4.2), which differs where the account number has more than sixteen digits: take
- * it if the card scheme asks for it. KeyLength, AccountLength, AccountDigit, SequenceLength, SequenceDigit.
+ * The key of a card by option B (A1.4.2), which differs if the account number (PAN) has more than sixteen digits:
+ * use it if the card scheme asks for it. KeyLength, AccountLength, AccountDigit, SequenceLength, SequenceDigit.
  */
 export function emvCardKeyB(issuer: Uint8Array, account: Digits, sequence: Digits): Uint8Array;
 /**
- * The session key for application cryptograms, from the card's key and the application transaction counter, two
- * bytes. KeyLength, DataLength.
+ * The session key for application cryptograms, from the card's key and the application transaction counter (ATC),
+ * two bytes. KeyLength, DataLength.
  */
 export function emvApplicationKey(card: Uint8Array, counter: Uint8Array): Uint8Array;
 /**
  * The session key for other uses (A1.3), from the card's key and eight bytes that are different for each session:
- * for secure messaging the application cryptogram. The third of them plays no part. KeyLength, BlockLength.
+ * for secure messaging the application cryptogram (ARQC). The third of them plays no part. KeyLength, BlockLength.
  */
 export function emvSessionKey(card: Uint8Array, block: Uint8Array): Uint8Array;
 /**
- * The application cryptogram (8.1.2), 8 bytes, under a session key, of the data that the card scheme names: the
- * retail MAC with padding method 2. To check one that a card sent call new RetailMacDes(session, 2,
- * data).verify(cryptogram). KeyLength.
+ * The application cryptogram (ARQC, TC or AAC; 8.1.2), 8 bytes, under a session key, of the data that the card
+ * scheme names: the retail MAC with padding method 2. To check one that a card sent call new RetailMacDes(session,
+ * 2, data).verify(cryptogram). KeyLength.
  */
 export function emvApplicationCryptogram(session: Uint8Array, data: Uint8Array): Uint8Array;
 /**
- * The issuer's response by method 1 (8.2.1), 8 bytes, to an application cryptogram, with a response code of two
- * ASCII characters. KeyLength, BlockLength, DataLength.
+ * The issuer's response (ARPC) by method 1 (8.2.1), 8 bytes, to an application cryptogram (ARQC), with a response
+ * code of two ASCII characters. KeyLength, BlockLength, DataLength.
  */
 export function emvResponse1(session: Uint8Array, cryptogram: Uint8Array, code: Uint8Array): Uint8Array;
 /**
- * The issuer's response by method 2 (8.2.2), 4 bytes, to an application cryptogram, with a card status update of
- * four bytes and at most 8 bytes of the issuer's. KeyLength, BlockLength, DataLength.
+ * The issuer's response (ARPC) by method 2 (8.2.2), 4 bytes, to an application cryptogram (ARQC), with a card
+ * status update of four bytes and at most 8 bytes of the issuer's. KeyLength, BlockLength, DataLength.
  */
 export function emvResponse2(
   session: Uint8Array, cryptogram: Uint8Array, status: Uint8Array, data?: Uint8Array,

@@ -2,7 +2,7 @@
    Made by bindings/describe of the header and the exports. */
 #include "internal.h"
 
-/* In the place of `fill` where a struct leaves it out. */
+/* Stands in for a `fill` that a struct leaves out. */
 static const uint8_t no_fill[10];
 
 int cukvashe_des_init(cukvashe_des *context, const uint8_t *key, size_t key_length) {

@@ -4,7 +4,7 @@
 
 #include "narrow.h"
 
-/* Whether the library has wide calls. It takes them where the processor has x86-64-v3. */
+/* Whether the library has wide calls. It takes them if the processor has x86-64-v3. */
 #ifdef __x86_64__
 #define HAS_WIDE 1
 #else

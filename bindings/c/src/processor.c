@@ -1,4 +1,4 @@
-/* Which processor this is, where there are several levels of it. */
+/* Which processor this is, if the library has code for several of its levels. */
 #include "internal.h"
 
 #if HAS_WIDE

@@ -170,7 +170,7 @@ pub fn next_serial(serial: &[u8; 10]) -> Option<[u8; 10]> {
 // SAFETY of each call below: the pointers are of references, those of texts and data good for their lengths, and don't
 // overlap what is written.
 
-/// The check value of a key or component of 8, 16 or 24 bytes: by DES or, where it is longer, triple DES (EDE).
+/// The check value of a key or component, by its length: by DES of 8 bytes, by triple DES (EDE) of 16 or 24.
 pub fn key_check_value(key: &[u8]) -> Result<[u8; 3], InvalidLength> {
     let mut made = [0; 3];
     let status = unsafe { ffi::cukvashe_key_check_value(key.as_ptr(), key.len(), &mut made) };
@@ -184,8 +184,8 @@ pub fn short_key_check_value(key: &[u8]) -> Result<[u8; 2], InvalidLength> {
     checked(status, made)
 }
 
-/// The initial key of a terminal, from the base derivation key and any of the terminal's key serial numbers, whose counter
-/// plays no part.
+/// The initial key (IK, IPEK) of a terminal, from the base derivation key (BDK) and any of the terminal's key serial numbers
+/// (KSN), whose counter plays no part.
 #[must_use]
 pub fn initial_key(base: &[u8; 16], serial: &[u8; 10]) -> [u8; 16] {
     let mut made = [0; 16];
@@ -193,8 +193,9 @@ pub fn initial_key(base: &[u8; 16], serial: &[u8; 10]) -> [u8; 16] {
     made
 }
 
-/// The key of a transaction, which encrypts nothing itself, from the terminal's initial key, not the base derivation key, and
-/// the transaction's key serial number. It takes every counter: ask first whether a transaction has this one.
+/// The key of a transaction, which encrypts nothing itself, from the terminal's initial key (IK, IPEK), not the base
+/// derivation key (BDK), and the transaction's key serial number (KSN). It takes every counter: ask first whether a
+/// transaction has this one.
 #[must_use]
 pub fn transaction_key(initial: &[u8; 16], serial: &[u8; 10]) -> [u8; 16] {
     let mut made = [0; 16];

@@ -50,8 +50,8 @@ fn checked<T>(status: i32, made: T) -> Result<T, CvvError> {
 // SAFETY of each call below: the pointers are of references, those of texts and data good for their lengths, and don't
 // overlap what is written.
 
-/// The card verification value, three ASCII digits, under a key pair of 16 bytes, of an account number of 12 to 19 digits, an
-/// expiry date of four, in the order that the issuer takes, and a service code of three.
+/// The card verification value (CVV), three ASCII digits, under a key pair of 16 bytes, of an account number (PAN) of 12 to
+/// 19 digits, an expiry date of four, in the order that the issuer takes, and a service code of three.
 pub fn cvv(key: &[u8; 16], account: &[u8], expiry: &[u8], service: &[u8]) -> Result<[u8; 3], CvvError> {
     let mut made = [0; 4];
     let status = unsafe {

@@ -62,7 +62,7 @@ fn checked<T>(status: i32, made: T) -> Result<T, EmvError> {
 // overlap what is written.
 
 /// The key of a card (A1.4.1, option A), with odd parity, from the issuer's master key (IMK), an account number (PAN) of 8 to
-/// 19 digits and a sequence number (PSN) of two, `00` where the card has none.
+/// 19 digits and a sequence number (PSN) of two, `00` if the card has none.
 pub fn card_key(issuer: &[u8; 16], account: &[u8], sequence: &[u8]) -> Result<[u8; 16], EmvError> {
     let mut made = [0; 16];
     let status = unsafe {
@@ -78,7 +78,7 @@ pub fn card_key(issuer: &[u8; 16], account: &[u8], sequence: &[u8]) -> Result<[u
     checked(status, made)
 }
 
-/// The key of a card by option B (A1.4.2), which differs where the account number has more than sixteen digits: take it if
+/// The key of a card by option B (A1.4.2), which differs if the account number (PAN) has more than sixteen digits: use it if
 /// the card scheme asks for it.
 pub fn card_key_b(issuer: &[u8; 16], account: &[u8], sequence: &[u8]) -> Result<[u8; 16], EmvError> {
     let mut made = [0; 16];
@@ -95,7 +95,7 @@ pub fn card_key_b(issuer: &[u8; 16], account: &[u8], sequence: &[u8]) -> Result<
     checked(status, made)
 }
 
-/// The session key for application cryptograms, from the card's key and the application transaction counter, two bytes.
+/// The session key for application cryptograms, from the card's key and the application transaction counter (ATC), two bytes.
 #[must_use]
 pub fn application_key(card: &[u8; 16], counter: &[u8; 2]) -> [u8; 16] {
     let mut made = [0; 16];
@@ -104,7 +104,7 @@ pub fn application_key(card: &[u8; 16], counter: &[u8; 2]) -> [u8; 16] {
 }
 
 /// The session key for other uses (A1.3), from the card's key and eight bytes that are different for each session: for secure
-/// messaging the application cryptogram. The third of them plays no part.
+/// messaging the application cryptogram (ARQC). The third of them plays no part.
 #[must_use]
 pub fn session_key(card: &[u8; 16], block: &[u8; 8]) -> [u8; 16] {
     let mut made = [0; 16];
@@ -112,9 +112,9 @@ pub fn session_key(card: &[u8; 16], block: &[u8; 8]) -> [u8; 16] {
     made
 }
 
-/// The application cryptogram (8.1.2), 8 bytes, under a session key, of the data that the card scheme names: the retail MAC
-/// with padding method 2. To check one that a card sent, call `verify` of [`RetailMacDes`](crate::mac::RetailMacDes), and do
-/// not compare by `==`.
+/// The application cryptogram (ARQC, TC or AAC; 8.1.2), 8 bytes, under a session key, of the data that the card scheme names:
+/// the retail MAC with padding method 2. To check one that a card sent, call `verify` of
+/// [`RetailMacDes`](crate::mac::RetailMacDes), and do not compare by `==`.
 #[must_use]
 pub fn application_cryptogram(session: &[u8; 16], data: &[u8]) -> [u8; 8] {
     let mut made = [0; 8];
@@ -122,8 +122,8 @@ pub fn application_cryptogram(session: &[u8; 16], data: &[u8]) -> [u8; 8] {
     made
 }
 
-/// The issuer's response by method 1 (8.2.1), 8 bytes, to an application cryptogram, with a response code of two ASCII
-/// characters.
+/// The issuer's response (ARPC) by method 1 (8.2.1), 8 bytes, to an application cryptogram (ARQC), with a response code of
+/// two ASCII characters.
 #[must_use]
 pub fn response_1(session: &[u8; 16], cryptogram: &[u8; 8], code: &[u8; 2]) -> [u8; 8] {
     let mut made = [0; 8];
@@ -131,8 +131,8 @@ pub fn response_1(session: &[u8; 16], cryptogram: &[u8; 8], code: &[u8; 2]) -> [
     made
 }
 
-/// The issuer's response by method 2 (8.2.2), 4 bytes, to an application cryptogram, with a card status update of four bytes
-/// and at most 8 bytes of the issuer's.
+/// The issuer's response (ARPC) by method 2 (8.2.2), 4 bytes, to an application cryptogram (ARQC), with a card status update
+/// of four bytes and at most 8 bytes of the issuer's.
 pub fn response_2(
     session: &[u8; 16],
     cryptogram: &[u8; 8],

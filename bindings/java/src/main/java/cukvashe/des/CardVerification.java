@@ -9,8 +9,9 @@ public final class CardVerification {
   // Calls like those of cukvashe_des.h: made of it by bindings/describe.
 
   /**
-   * The card verification value, three ASCII digits, under a key pair of 16 bytes, of an account number of 12 to
-   * 19 digits, an expiry date of four, in the order that the issuer takes, and a service code of three.
+   * The card verification value (CVV), three ASCII digits, under a key pair of 16 bytes, of an account number
+   * (PAN) of 12 to 19 digits, an expiry date of four, in the order that the issuer takes, and a service code of
+   * three.
    *
    * @throws CukvasheException {@link Status#KEY_LENGTH}, {@link Status#ACCOUNT_LENGTH},
    *     {@link Status#ACCOUNT_DIGIT}, {@link Status#EXPIRY_LENGTH}, {@link Status#EXPIRY_DIGIT},

@@ -53,8 +53,8 @@ public final class Dukpt {
   // Calls like those of cukvashe_des.h: made of it by bindings/describe.
 
   /**
-   * The initial key of a terminal, from the base derivation key and any of the terminal's key serial numbers,
-   * whose counter plays no part.
+   * The initial key (IK, IPEK) of a terminal, from the base derivation key (BDK) and any of the terminal's key
+   * serial numbers (KSN), whose counter plays no part.
    *
    * @throws CukvasheException {@link Status#KEY_LENGTH}
    * @throws IllegalArgumentException if a key serial number does not have 10 bytes
@@ -65,9 +65,9 @@ public final class Dukpt {
   }
 
   /**
-   * The key of a transaction, which encrypts nothing itself, from the terminal's initial key, not the base
-   * derivation key, and the transaction's key serial number. It takes every counter: ask first whether a
-   * transaction has this one.
+   * The key of a transaction, which encrypts nothing itself, from the terminal's initial key (IK, IPEK), not the
+   * base derivation key (BDK), and the transaction's key serial number (KSN). It takes every counter: ask first
+   * whether a transaction has this one.
    *
    * @throws CukvasheException {@link Status#KEY_LENGTH}
    * @throws IllegalArgumentException if a key serial number does not have 10 bytes

@@ -10,7 +10,7 @@ public final class Emv {
 
   /**
    * The key of a card (A1.4.1, option A), with odd parity, from the issuer's master key (IMK), an account number
-   * (PAN) of 8 to 19 digits and a sequence number (PSN) of two, {@code 00} where the card has none.
+   * (PAN) of 8 to 19 digits and a sequence number (PSN) of two, {@code 00} if the card has none.
    *
    * @throws CukvasheException {@link Status#KEY_LENGTH}, {@link Status#ACCOUNT_LENGTH},
    *     {@link Status#ACCOUNT_DIGIT}, {@link Status#SEQUENCE_LENGTH}, {@link Status#SEQUENCE_DIGIT}
@@ -21,8 +21,8 @@ public final class Emv {
   }
 
   /**
-   * The key of a card by option B (A1.4.2), which differs where the account number has more than sixteen digits:
-   * take it if the card scheme asks for it.
+   * The key of a card by option B (A1.4.2), which differs if the account number (PAN) has more than sixteen
+   * digits: use it if the card scheme asks for it.
    *
    * @throws CukvasheException {@link Status#KEY_LENGTH}, {@link Status#ACCOUNT_LENGTH},
    *     {@link Status#ACCOUNT_DIGIT}, {@link Status#SEQUENCE_LENGTH}, {@link Status#SEQUENCE_DIGIT}
@@ -33,8 +33,8 @@ public final class Emv {
   }
 
   /**
-   * The session key for application cryptograms, from the card's key and the application transaction counter, two
-   * bytes.
+   * The session key for application cryptograms, from the card's key and the application transaction counter
+   * (ATC), two bytes.
    *
    * @throws CukvasheException {@link Status#KEY_LENGTH}
    * @throws IllegalArgumentException if a transaction counter does not have 2 bytes
@@ -46,7 +46,7 @@ public final class Emv {
 
   /**
    * The session key for other uses (A1.3), from the card's key and eight bytes that are different for each
-   * session: for secure messaging the application cryptogram. The third of them plays no part.
+   * session: for secure messaging the application cryptogram (ARQC). The third of them plays no part.
    *
    * @throws CukvasheException {@link Status#KEY_LENGTH}
    * @throws IllegalArgumentException if block of a session does not have 8 bytes
@@ -57,8 +57,9 @@ public final class Emv {
   }
 
   /**
-   * The application cryptogram (8.1.2), 8 bytes, under a session key, of the data that the card scheme names: the
-   * retail MAC with padding method 2. To check one that a card sent, compare them by MessageDigest.isEqual.
+   * The application cryptogram (ARQC, TC or AAC; 8.1.2), 8 bytes, under a session key, of the data that the card
+   * scheme names: the retail MAC with padding method 2. To check one that a card sent, compare them by
+   * MessageDigest.isEqual.
    *
    * @throws CukvasheException {@link Status#KEY_LENGTH}
    */
@@ -71,8 +72,8 @@ public final class Emv {
   }
 
   /**
-   * The issuer's response by method 1 (8.2.1), 8 bytes, to an application cryptogram, with a response code of two
-   * ASCII characters.
+   * The issuer's response (ARPC) by method 1 (8.2.1), 8 bytes, to an application cryptogram (ARQC), with a
+   * response code of two ASCII characters.
    *
    * @throws CukvasheException {@link Status#KEY_LENGTH}
    * @throws IllegalArgumentException if an application cryptogram does not have 8 bytes or a response code does
@@ -89,8 +90,8 @@ public final class Emv {
   }
 
   /**
-   * The issuer's response by method 2 (8.2.2), 4 bytes, to an application cryptogram, with a card status update of
-   * four bytes and at most 8 bytes of the issuer's.
+   * The issuer's response (ARPC) by method 2 (8.2.2), 4 bytes, to an application cryptogram (ARQC), with a card
+   * status update of four bytes and at most 8 bytes of the issuer's.
    *
    * @throws CukvasheException {@link Status#KEY_LENGTH}, {@link Status#DATA_LENGTH}
    * @throws IllegalArgumentException if an application cryptogram does not have 8 bytes or a card status update

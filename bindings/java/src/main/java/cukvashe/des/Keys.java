@@ -113,7 +113,7 @@ public final class Keys {
   // Calls like those of cukvashe_des.h: made of it by bindings/describe.
 
   /**
-   * The check value of a key or component of 8, 16 or 24 bytes: by DES or, where it is longer, triple DES (EDE).
+   * The check value of a key or component, by its length: by DES of 8 bytes, by triple DES (EDE) of 16 or 24.
    *
    * @throws CukvasheException {@link Status#KEY_LENGTH}
    */
