@@ -1,7 +1,7 @@
 /*
- * Nanoseconds for a block, a message or a key of lists of short messages, 256 at once: by batches of 128, by those of 256 where the
+ * Nanoseconds for a block, a message or a key of lists of short messages, 256 at once: by batches of 128, by those of 256 if the
  * processor has them, and by a peer one at a time. The peer is OpenSSL's own functions of DES, called with nothing around them, or,
- * where OpenSSL has no such call, this library's call of one. Then lists of few blocks, by contexts with and without tables, beside OpenSSL
+ * if OpenSSL has no such call, this library's call of one. Then lists of few blocks, by contexts with and without tables, beside OpenSSL
  * and libgcrypt; threads, by the clock on the wall; and PBKDF2 beside OpenSSL's. The least of many short runs counts; an empty cell is a
  * call that there is not.
  *

@@ -69,7 +69,7 @@ class Library:
         return [it for it in self.exports.values() if it.name not in self.header.calls]
 
     def table(self):
-        """A line for each call: its name, and that of its export in the library, where the call wipes after it."""
+        """A line for each call: its name, and that of its export in the library, if the call wipes after it."""
         names = {it.name for it in self.renamed}
         for name in sorted(self.header.calls):
             yield f"cukvashe_{name} cukvashe_unwiped_{name}" if name in names else f"cukvashe_{name}"
@@ -127,7 +127,7 @@ class Library:
         return name if name != call.name and call.result.base == "bool" and name in self.header.calls else None
 
     def _defined(self, call, made, before=(), wipes=True):
-        """A call that goes on to what it makes, after some lines, and wipes after it where it must."""
+        """A call that goes on to what it makes, after some lines, and wipes after it if it must."""
         yield from ["", declared(call.result.base, f"cukvashe_{call.name}", arguments_of(call), " {")]
         yield from (filled(f"  {it}", "") for it in before)
         if wipes and self.stack.wipes(call):

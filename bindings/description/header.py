@@ -57,7 +57,7 @@ class Struct:
 
 @dataclass(frozen=True)
 class Call:
-    """A call by its name without `cukvashe_`: what it returns, its parameters, and whether the compiler warns where its answer is left."""
+    """A call by its name without `cukvashe_`: what it returns, its parameters, and whether the compiler warns if its answer is left."""
 
     name: str
     result: Type

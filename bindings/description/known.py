@@ -23,7 +23,7 @@ OF_CLASSES = ("check_value", "check_values", "decrypt_each", "encrypt_each", "ma
 # Calls that the header does not have, that change what they are given, as those of a cipher do, and lists, whose count no known call says.
 OTHERS = ("DukptTerminal.from_state", "dukpt_transaction_keys_from_base", "pad", "unpad", "with_odd_parity", "wrong_tags")
 LISTS = ("check_values", "decrypt_each", "encrypt_each", "macs", "macs_each")
-# The arguments that are given in places, where that is another order than the header's, or some have fields or go by name.
+# The arguments that are given in places, if that is another order than the header's, or some have fields or go by name.
 IN_PLACES = {
     "cms_wrap_key": ["protection", "key"], "key_block_wrap": ["protection", "header", "key"], "open_salted": ["password", "bytes"],
     "pbe_key": ["algorithm", "password", "salt", "iterations", "key_length"],
@@ -228,7 +228,7 @@ class Inputs:
         return "x" + b"".join(one.encode() + b"\0" * bool(size) for one, size in zip(fields, sizes)).hex()
 
     def written_of(self, it):
-        """What a call writes, as words that begin with the number of bytes where zeros follow."""
+        """What a call writes, as words that begin with the number of bytes if zeros follow."""
         answers, last = list(it.answers), ""
         for one in self.written:
             if one.type.base == "size_t" and not (answers and isinstance(answers[0], int)):
@@ -249,7 +249,7 @@ class Inputs:
 
 
 def text_of(text):
-    """A text as a word: its characters, or its bytes where C would write some otherwise."""
+    """A text as a word: its characters, or its bytes if C would write some otherwise."""
     if not text.isascii():
         raise NoPlace
     escaped = json.dumps(text)[1:-1]

@@ -8,7 +8,7 @@ from .c import filled
 from .header import PLACE
 
 # By the error of a call, as `cvv.ACCOUNT_DIGIT`, and what the header says after it: the arguments with this fault, by patterns of which the
-# first one counts. Where two faults are of one argument, the value for the first one has both. An error without arguments is what a call of
+# first one counts. If two faults are of one argument, the value for the first one has both. An error without arguments is what a call of
 # samples.py returns; None is one that depends on more than arguments.
 FAULTS = {
     "*.CONTEXT": {"context": "(void *)no_bytes"},

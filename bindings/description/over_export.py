@@ -84,7 +84,7 @@ class OverExport:
         return next((it for it in self.values if it == "count" or it.endswith("_count")), None)
 
     def made(self):
-        """The call of the export, of its wide twin too where it works through a list."""
+        """The call of the export, of its wide twin too if it works through a list."""
         given = ", ".join(word for name, kind in self.export.pairs for word in self._words(name, kind))
         checked = {word for _, words, _ in self._conditions() for word in words}
         left = [it for it in self.left if it not in checked and "->" not in self.values[it][0]]

@@ -18,7 +18,7 @@ def camel(name):
 
 
 def base(kind):
-    """The name of a type without pointers. A text is characters where its length stands beside it, and bytes where it has a size."""
+    """The name of a type without pointers. A text is characters if its length stands beside it, and bytes if it has a size."""
     if kind.struct:
         return camel(kind.struct)
     if kind.base == "char":

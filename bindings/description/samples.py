@@ -7,7 +7,7 @@ from sources.text import Refused
 
 from .c import filled
 
-# The arguments that a call reads, where any bytes won't do, and its numbers; what it writes goes to the test's buffers. `count` is the
+# The arguments that a call reads, if any bytes won't do, and its numbers; what it writes goes to the test's buffers. `count` is the
 # length of a list.
 BY_NAME = {
     "account": '"4012345678909"', "account_length": "13", "algorithm": '"3des"', "algorithm_length": "4", "base": "key", "bits": "8 * count", "block": "sent", "blocks": "1",

@@ -11,7 +11,7 @@ from .header import PLACE
 from .javascript import camel
 from .statuses import NO_ERRORS, capitalized, errors, short
 
-# What arguments are called in texts of errors, where that is not `the NAME`.
+# What arguments are called in texts of errors, if that is not `the NAME`.
 WHAT = {
     "account": "an account number", "block": "the block of a session", "code": "a response code", "counter": "a transaction counter",
     "cryptogram": "an application cryptogram", "data": "data", "expiry": "an expiry date", "sequence": "a sequence number",

@@ -28,7 +28,7 @@ func (e *UnreadableValuesError) add(place int, fault error) {
 	e.Faults[place] = fault
 }
 
-// orNil is nil where there is no fault.
+// orNil is nil if there is no fault.
 func (e *UnreadableValuesError) orNil() error {
 	if len(e.Faults) == 0 {
 		return nil

@@ -5,7 +5,7 @@
 // calls of lists, since a Block has these calls too. New gives a Block of a key of any length, by choice without tables, whose addresses
 // would depend on the key and the data.
 //
-// The error of a call is an Error, which errors.Is compares with ErrKeyLength and the others, but where the call says more. Texts tell
+// The error of a call is an Error, which errors.Is compares with ErrKeyLength and the others, but if the call says more. Texts tell
 // no key, PIN or data. Nothing is left to free: all state is memory of Go's. Wipe overwrites the round keys of a Block or MAC; Go
 // itself may have copied keys and PINs that you pass and get.
 //
@@ -39,7 +39,7 @@ var ErrNotSupported = errors.New("cukvashe: this processor is not of x86-64-v2 (
 
 var supported = bool(C.cukvashe_is_supported())
 
-// IsSupported says whether this processor has what the library needs: on amd64 the features of x86-64-v2, elsewhere always. Where it
+// IsSupported says whether this processor has what the library needs: on amd64 the features of x86-64-v2, elsewhere always. If it
 // is false, New and NewMAC return ErrNotSupported, and other calls panic.
 func IsSupported() bool { return supported }
 

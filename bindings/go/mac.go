@@ -9,7 +9,7 @@ import (
 	"unsafe"
 )
 
-// An Algorithm makes tags of 8 bytes, by a padding method where it has one: 1 adds zeros, 2 a one bit and zeros (ISO/IEC 9797-1). The
+// An Algorithm makes tags of 8 bytes, by a padding method if it has one: 1 adds zeros, 2 a one bit and zeros (ISO/IEC 9797-1). The
 // sender has chosen it.
 type Algorithm struct {
 	number, method C.int
@@ -106,7 +106,7 @@ func MACs(algorithm Algorithm, key []byte, messages [][]byte) ([][TagSize]byte, 
 }
 
 // MACsEach are the tags of many messages, each under the key at its place in keys: all have one length, and stand one after the other.
-// ErrKeyLength; ErrCountMismatch, also where there are no messages but keys.
+// ErrKeyLength; ErrCountMismatch, also if there are no messages but keys.
 func MACsEach(algorithm Algorithm, keys []byte, messages [][]byte) ([][TagSize]byte, error) {
 	if len(messages) == 0 || len(keys)%len(messages) != 0 {
 		if len(keys)+len(messages) == 0 {

@@ -360,14 +360,14 @@ type (
 )
 
 // Card is the key of a card by option A, with odd parity, of an account number of 8 to 19 digits and a sequence number of two, 00
-// where the card has none. ErrAccountLength, ErrAccountDigit, ErrSequenceLength, ErrSequenceDigit.
+// if the card has none. ErrAccountLength, ErrAccountDigit, ErrSequenceLength, ErrSequenceDigit.
 func (k IssuerKey) Card(account, sequence string) (key CardKey, err error) {
 	card, cardLength := text(account)
 	digits, digitsLength := text(sequence)
 	return key, result(C.cukvashe_emv_card_key(bytes(k[:]), card, cardLength, digits, digitsLength, bytes(key[:])))
 }
 
-// CardB is the key of a card by option B, which differs where the account number has more than sixteen digits. Errors as of Card.
+// CardB is the key of a card by option B, which differs if the account number has more than sixteen digits. Errors as of Card.
 func (k IssuerKey) CardB(account, sequence string) (key CardKey, err error) {
 	card, cardLength := text(account)
 	digits, digitsLength := text(sequence)

@@ -35,7 +35,7 @@ struct provider {
 int refuse(const struct provider *provider, const char *file, int line, const char *function, uint32_t reason,
            const char *text, ...) __attribute__((cold));
 
-/* Memory of the core, zeros at first, and wiped when it goes. NULL where there is none, which the core reports. */
+/* Memory of the core, zeros at first, and wiped when it goes. NULL if there is none, which the core reports. */
 void *new_memory(const struct provider *provider, size_t size);
 void wipe_and_free(const struct provider *provider, void *memory, size_t size);
 
@@ -49,7 +49,7 @@ static inline void copy(void *to, const void *from, size_t length) {
 
 /*
  * Parameters, in the manner of libcrypto's OSSL_PARAM_get_.. and _set_.., which are not there to be called. What is put
- * into a parameter without a buffer tells its size. False where the type or the size of the parameter does not fit.
+ * into a parameter without a buffer tells its size. False if the type or the size of the parameter does not fit.
  */
 struct number {
   const char *name;

@@ -75,7 +75,7 @@ static void take_configuration(struct provider *provider) {
 
 /*
  * A known answer of DES ("Now is t"), as triple DES under a key of equal parts: of one block, and of a list, of more than
- * 128 blocks where vectors of 256 bits may be taken.
+ * 128 blocks if vectors of 256 bits may be taken.
  */
 static bool ciphers_answer_as_known(const struct provider *provider) {
   enum { LIST = 129 };
@@ -111,7 +111,7 @@ static bool mac_answers_as_known(const struct provider *provider) {
 
 static int self_test(void *provider) { return ciphers_answer_as_known(provider) && mac_answers_as_known(provider); }
 
-/* Whether this module may serve here; where not, why. */
+/* Whether this module may serve here; if not, why. */
 static bool may_serve(struct provider *provider) {
   if (strcmp(cukvashe_version(), CUKVASHE_VERSION) != 0) {
     refuse(provider, __FILE__, __LINE__, __func__, PROV_R_MODULE_INTEGRITY_FAILURE,

@@ -64,7 +64,7 @@ static int set_tag_size(struct context *context, const OSSL_PARAM *param) {
   return 1;
 }
 
-/* A message that has begun ends where its key or its padding changes: `init` begins the next. */
+/* A message that has begun ends if its key or its padding changes: `init` begins the next. */
 static int set_ctx_params(void *given, const OSSL_PARAM params[]) {
   struct context *context = given;
   for (const OSSL_PARAM *param = params; param != NULL && param->key != NULL; param++) {

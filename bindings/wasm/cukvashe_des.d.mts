@@ -15,9 +15,9 @@ export const TAG_SIZE: 8;
 export function isSupported(): boolean;
 
 /**
- * Loads the module beside cukvashe_des.mjs: cukvashe_des.wasm, or where the engine has no 64-bit memory for it
+ * Loads the module beside cukvashe_des.mjs: cukvashe_des.wasm, or if the engine has no 64-bit memory for it
  * cukvashe_des_32.wasm; or the bytes of one of them. Await it before any other call. NotSupported; ModuleMismatch,
- * where the bytes are not those that cukvashe_des.mjs was built with. Where `crypto.subtle` is missing, as on pages by
+ * if the bytes are not those that cukvashe_des.mjs was built with. If `crypto.subtle` is missing, as on pages by
  * http, they are not compared.
  */
 export function load(module?: Uint8Array | ArrayBuffer): Promise<void>;
@@ -66,7 +66,7 @@ export class UnreadableValues extends CukvasheError {
 }
 /**
  * The cipher, MAC or terminal was closed, so that its key is gone; or it, or a decimalization table, is of before a
- * call of the module that did not end, as where the engine's stack ends within it: make it anew.
+ * call of the module that did not end, as when the engine's stack ends within it: make it anew.
  */
 export class Closed extends CukvasheError {}
 // The errors of the statuses of cukvashe_des.h, with the sentence of each: made of it by bindings/describe.
@@ -189,7 +189,7 @@ declare abstract class Cipher extends Keyed {
    */
   encryptCbc(data: Uint8Array, named: { iv: Uint8Array }): Uint8Array;
   /**
-   * The data, decrypted by cipher block chaining from an initialization vector of 8 bytes. Padding stays. For a record
+   * The data, decrypted by cipher block chaining from an initialization vector of 8 bytes. Padding is not removed. For a record
    * in pieces, the last block of `data` is the vector of the next piece. VectorLength, BlockLength.
    */
   decryptCbc(data: Uint8Array, named: { iv: Uint8Array }): Uint8Array;
@@ -303,15 +303,15 @@ declare abstract class Cmac extends Mac {
   constructor(key: Uint8Array, data?: Uint8Array);
 }
 
-/** CBC-MAC over DES, under a key of 8 bytes. It is safe only where every message has one length. */
+/** CBC-MAC over DES, under a key of 8 bytes. It is safe only if every message has one length. */
 export class CbcMacDes extends PaddedMac {
   static readonly keySize: 8;
 }
-/** CBC-MAC over triple DES, under a key of 16 bytes. It is safe only where every message has one length. */
+/** CBC-MAC over triple DES, under a key of 16 bytes. It is safe only if every message has one length. */
 export class CbcMacTdesEde2 extends PaddedMac {
   static readonly keySize: 16;
 }
-/** CBC-MAC over triple DES, under a key of 24 bytes. It is safe only where every message has one length. */
+/** CBC-MAC over triple DES, under a key of 24 bytes. It is safe only if every message has one length. */
 export class CbcMacTdesEde3 extends PaddedMac {
   static readonly keySize: 24;
 }
@@ -343,7 +343,7 @@ export type CmacClass = typeof CmacTdesEde2 | typeof CmacTdesEde3;
  */
 export function pad(data: Uint8Array, method: "pkcs7" | "iso7816"): Uint8Array;
 /**
- * The data before the padding. PaddingMethod, BlockLength; PaddingMismatch where they do not end with it: an attacker
+ * The data before the padding. PaddingMethod, BlockLength; PaddingMismatch if they do not end with it: an attacker
  * who sends you data and learns which throw it, by a message or by the time taken, can decrypt. Verify a MAC first.
  */
 export function unpad(data: Uint8Array, method: "pkcs7" | "iso7816"): Uint8Array;
@@ -371,7 +371,7 @@ export function combine(first: Uint8Array, second: Uint8Array, ...others: Uint8A
 
 // ---- Keys of a transaction: DUKPT with triple DES (ANSI X9.24-1:2009). Keys have 16 bytes, key serial numbers ten
 
-/** The next key serial number with at most ten one bits in its counter, or null where there is none. SerialLength. */
+/** The next key serial number with at most ten one bits in its counter, or null if there is none. SerialLength. */
 export function dukptNextSerial(serial: Uint8Array): Uint8Array | null;
 /**
  * Whether a transaction has this key serial number: its counter is not 0 and has at most ten one bits. SerialLength.
@@ -416,7 +416,7 @@ export function pinEncode2(pin: Digits): Uint8Array;
 export function pinEncode3(pin: Digits, account: Digits, fill: Uint8Array): Uint8Array;
 /**
  * The PIN of a block of format 0. The error reveals something of the PIN: show it to nobody. BlockLength, Format,
- * PinLength where the second digit is not the length of a PIN, PinDigit, Fill, AccountLength, AccountDigit.
+ * PinLength if the second digit is not the length of a PIN, PinDigit, Fill, AccountLength, AccountDigit.
  */
 export function pinDecode0(block: Uint8Array, account: Digits): string;
 /** The PIN of a block of format 1. BlockLength, Format, PinLength, PinDigit. */
@@ -582,7 +582,7 @@ interface KeyBlockHeader {
 }
 /**
  * The header and the key of a key block of version A, B or C, under a protection key (KBPK) of 16 or 24 bytes. Look at
- * the header before you use the key. KeyBlockMac where the block was changed, or is under another key.
+ * the header before you use the key. KeyBlockMac if the block was changed, or is under another key.
  * ProtectionKeyLength, KeyBlockLength, KeyBlockVersion, KeyBlockField, OptionalBlock, KeyDataLength, KeyBlockDigit,
  * KeyLength.
  */
@@ -592,8 +592,8 @@ export function unwrapKeyBlock(
 /**
  * The key block of a key of 8, 16 or 24 bytes under a protection key (KBPK) of 16 or 24 bytes, of version B or C.
  * `header` has the fields that unwrapKeyBlock gives; no call compares them with the key's length. `optional` has pairs
- * of a name of two letters or digits and its content, printable ASCII, after which a block PB is added where they do
- * not end at a multiple of eight characters, and taken only as the last, where with it they do: OptionalBlock.
+ * of a name of two letters or digits and its content, printable ASCII, after which a block PB is added if they do
+ * not end at a multiple of eight characters, and taken only as the last, if with it they do: OptionalBlock.
  * `padding` is 6, 14 or 22 random bytes that hide how long the key is: without it they come from the engine.
  * KeyBlockVersion, ProtectionKeyLength, KeyBlockField, KeyLength, PaddingLength, KeyBlockLength.
  */
@@ -728,7 +728,7 @@ export function openSalted(
 
 /**
  * The blocks, each of 8 bytes encrypted under the key at its place. `cipher` is a class, as TdesEde2. KeyLength,
- * BlockLength; CountMismatch where the numbers of keys and blocks differ.
+ * BlockLength; CountMismatch if the numbers of keys and blocks differ.
  */
 export function encryptEach(cipher: CipherClass, keys: Uint8Array, blocks: Uint8Array): Uint8Array;
 /** The blocks, each decrypted under the key at its place. Errors as of encryptEach. */
@@ -749,7 +749,7 @@ export function dukptTransactionKeysFromBase(base: Uint8Array, serials: Uint8Arr
 export function encryptCbcRecords(
   cipher: Cipher, blocks: Uint8Array, named: { vectors: Uint8Array; counts: Iterable<number> },
 ): Uint8Array;
-/** Records, each decrypted by cipher block chaining. Padding stays. Arguments and errors as of encryptCbcRecords. */
+/** Records, each decrypted by cipher block chaining. Padding is not removed. Arguments and errors as of encryptCbcRecords. */
 export function decryptCbcRecords(
   cipher: Cipher, blocks: Uint8Array, named: { vectors: Uint8Array; counts: Iterable<number> },
 ): Uint8Array;
@@ -774,7 +774,7 @@ export function macsEach(
 ): Uint8Array;
 /**
  * The places of the tags, of 8 bytes each, that are not the one at their place in `expected`, the tags that `macs` or
- * `macsEach` made. Every byte is compared. Ask `length`: an array without elements, where all are right, is true in an
+ * `macsEach` made. Every byte is compared. Ask `length`: an array without elements, if all are right, is true in an
  * `if`. CountMismatch.
  */
 export function wrongTags(tags: Uint8Array, expected: Uint8Array): number[];

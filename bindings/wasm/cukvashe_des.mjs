@@ -569,7 +569,7 @@ let workspace = null;
 let compiled = null;
 
 /**
- * Runs calls in the module's memory, and wipes it. An exception that is none of the library's, as where the engine's own
+ * Runs calls in the module's memory, and wipes it. An exception that is none of the library's, as when the engine's own
  * stack ends or the module traps, leaves its instance within a call, with a part of its stack in use for good. So the next
  * call has a new one.
  */
@@ -1964,7 +1964,7 @@ function errorsOf(errors) {
   throw new TypeError('errors: "throw" or "null" is needed');
 }
 
-/** The texts in the rows of their values. Where some could not be read, that is thrown, or null stands in their rows. */
+/** The texts in the rows of their values. If some could not be read, that is thrown, or null stands in their rows. */
 function told(column, found, faults, errors) {
   const answer = spread(column, found);
   if (faults.size === 0 || errors === "null") return answer;
@@ -1973,7 +1973,7 @@ function told(column, found, faults, errors) {
   throw Object.assign(new UnreadableValues(text), { faults, texts: answer });
 }
 
-/** The error of a value's status, with its own sentence where it has one. */
+/** The error of a value's status, with its own sentence if it has one. */
 function valueFaultOf(status, sentences) {
   const Fault = FAULTS.get(status);
   return sentences.has(status) ? new Fault(sentences.get(status)) : faultOf(status);
@@ -2048,7 +2048,7 @@ function jasyptOf(algorithm, iterations) {
   };
 }
 
-// The sentences of strings, where those of the statuses are of other bytes too.
+// The sentences of strings, if those of the statuses are of other bytes too.
 const OF_A_STRING = new Map([
   [SALT_LENGTH, "the value ends within the salt"],
   [BLOCKS, "what is encrypted is not whole blocks of 8 bytes"],

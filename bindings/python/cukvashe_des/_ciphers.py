@@ -63,7 +63,7 @@ class Cipher(Keyed):
         self._context = class_of(type(self)).context_of(key, no_tables)
 
     def encrypt_ecb(self, data: ReadableBuffer) -> bytes:
-        """The data, each block of 8 bytes encrypted by itself. BlockLengthError where they are not whole blocks."""
+        """The data, each block of 8 bytes encrypted by itself. BlockLengthError if they are not whole blocks."""
         return self._apply("encrypt_ecb_to", data)
 
     def decrypt_ecb(self, data: ReadableBuffer) -> bytes:
@@ -78,7 +78,7 @@ class Cipher(Keyed):
 
     @vectors_by_name
     def decrypt_cbc(self, data: ReadableBuffer, *, iv: ReadableBuffer) -> bytes:
-        """The data, decrypted by cipher block chaining from an initialization vector. Padding stays. VectorLengthError,
+        """The data, decrypted by cipher block chaining from an initialization vector. Padding is not removed. VectorLengthError,
         BlockLengthError."""
         return self._apply("decrypt_cbc_to", data, vector_of(iv))
 
@@ -117,7 +117,7 @@ class Cipher(Keyed):
         return self._streamed("decrypt_mode", cfb_of(segment_size), data, vector_of(iv))
 
     def encrypt_ecb_into(self, data: WriteableBuffer) -> None:
-        """Encrypts in place, in a bytearray or the like. BlockLengthError; TypeError where the data are not writable in one
+        """Encrypts in place, in a bytearray or the like. BlockLengthError; TypeError if the data are not writable in one
         piece."""
         self._change("encrypt_ecb", data)
 
@@ -159,7 +159,7 @@ class Cipher(Keyed):
 
 
 def _whole(status: int, length: int) -> None:
-    """Raises BlockLengthError where a call refused the length."""
+    """Raises BlockLengthError if a call refused the length."""
     if status != OK:
         raise BlockLengthError(f"{length} bytes are not whole blocks of {BLOCK_SIZE}")
 

@@ -31,7 +31,7 @@ _JASYPT = ("pbewithmd5anddes", "pbewithmd5andtripledes", "pbewithsha1anddesede")
 # The lengths of key and vector together.
 _LENGTHS = {KEY_LENGTH: ": 16, 24 or 32 bytes, as the algorithm has it"}
 
-# The sentences of values, where those of the statuses are of other bytes too.
+# The sentences of values, if those of the statuses are of other bytes too.
 _OF_A_FILE = {KEY_NUMBER: "the file has no key of the value's number"}
 _OF_A_STRING = {SALT_LENGTH: "the value ends within the salt", BLOCKS: "what is encrypted is not whole blocks of 8 bytes"}
 
@@ -62,7 +62,7 @@ def _bytes_of(value: Any, is_text: bool) -> bytes:
 
 
 def _rows_of(column: Any) -> Optional[List[Any]]:
-    """The rows of an array of bytes, each of which is a value, or None where it is no array."""
+    """The rows of an array of bytes, each of which is a value, or None if it is no array."""
     try:
         view = memoryview(column)
     except TypeError:
@@ -80,7 +80,7 @@ def _rows_of(column: Any) -> Optional[List[Any]]:
 
 
 class _Taken(NamedTuple):
-    """The values of a column that are there, how many rows the column has, and in which of them they stand, or None where all are
+    """The values of a column that are there, how many rows the column has, and in which of them they stand, or None if all are
     there."""
 
     values: List[bytes]
@@ -97,7 +97,7 @@ class _Taken(NamedTuple):
         return spread
 
     def told(self, texts: _Texts, faults: Dict[int, Error], errors: str) -> _Texts:
-        """The texts in the rows of their values. Where some could not be read, that is an error, or None in their rows."""
+        """The texts in the rows of their values. If some could not be read, that is an error, or None in their rows."""
         for at in faults:
             texts[at] = None
         answer = self.spread(texts)
@@ -136,7 +136,7 @@ def _cut(joined: bytes, starts: Iterable[int], lengths: Iterable[int]) -> _Texts
 
 
 def _fault_of(status: int, sentences: Mapping[int, str]) -> Error:
-    """The fault of a value's status, with its own sentence where it has one."""
+    """The fault of a value's status, with its own sentence if it has one."""
     fault = fault_of(status)
     return type(fault)(sentences[status]) if status in sentences else fault
 

@@ -23,7 +23,7 @@ _IN_ORDER = re.compile("[@=<>!]?[Bbc]|[>!][HhIiLlQq]")
 
 
 def in_order(view: memoryview) -> memoryview:
-    """The view of an object whose items are bytes, or words whose most significant byte comes first. A TypeError where they are
+    """The view of an object whose items are bytes, or words whose most significant byte comes first. A TypeError if they are
     others, since the bytes of each item would then be out of order."""
     if not _IN_ORDER.fullmatch(view.format):
         raise TypeError("data have items of one byte, or words with the most significant byte first (uint8 or >u8)")
@@ -204,7 +204,7 @@ def lent(data: ReadableBuffer) -> Iterator[Tuple[Any, int]]:
 
 @contextlib.contextmanager
 def kept_apart(data: ReadableBuffer, written: memoryview) -> Iterator[Tuple[Any, int]]:
-    """The buffer of data of which none may be written by the call: where what it writes overlaps them they are copied, and
+    """The buffer of data of which none may be written by the call: if what it writes overlaps them they are copied, and
     the copy is wiped after it."""
     with lent(data) as (start, length), lent(written) as (place, size):
         if not length or not size or start + length <= place or place + size <= start:

@@ -261,7 +261,7 @@ _TAKEN = {
 
 
 def fault_of(status: int, hint: str = "", taken: Dict[int, str] = _TAKEN) -> Error:
-    """The fault of a status, with its sentence, and what the call takes, where the sentence leaves it to the call."""
+    """The fault of a status, with its sentence, and what the call takes, if the sentence leaves it to the call."""
     return _FAULTS[status](_statuses.SENTENCES[status] + taken.get(status, "") + hint)
 
 

@@ -132,8 +132,8 @@ def wrap_key_block(
     padding: Optional[ReadableBuffer] = None,
 ) -> str:
     """The key block of a key of 8, 16 or 24 bytes under a protection key (KBPK) of 16 or 24 bytes, of version B or C. Optional blocks are
-    pairs of a name of two letters or digits and its content, printable ASCII without a length. A block PB is added where they do
-    not end at a multiple of eight characters; one of yours is taken only as the last, where with it they do. The padding is random
+    pairs of a name of two letters or digits and its content, printable ASCII without a length. A block PB is added if they do
+    not end at a multiple of eight characters; one of yours is taken only as the last, if with it they do. The padding is random
     bytes that hide how long the key is, or those that are given: 6, 14 or 22, with the key at most 30. KeyBlockVersionError,
     OptionalBlockError, ProtectionKeyLengthError, KeyBlockFieldError, KeyLengthError, PaddingLengthError, KeyBlockLengthError."""
     fields, more = _fields_of(header), _optional_of(optional)

@@ -85,7 +85,7 @@ def response_of(is_response: bool) -> bool:
 
 
 def dukpt_next_serial(serial: ReadableBuffer) -> Optional[bytes]:
-    """The next key serial number (KSN) whose counter is usable, or None where there is none. SerialLengthError."""
+    """The next key serial number (KSN) whose counter is usable, or None if there is none. SerialLengthError."""
     following = buffer_of(10)
     status = _next_serial(serial_of(serial), following)
     if status == NO_SERIAL:

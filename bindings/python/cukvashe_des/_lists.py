@@ -82,7 +82,7 @@ def encrypt_each(cipher: Type[Cipher], keys: ReadableBuffer, blocks: ReadableBuf
     """The blocks, each of 8 bytes encrypted under the key at its place. `cipher` is a class, as TdesEde2, and the keys
     stand one after the other, as in `bytes` or in an array of shape (n, 16), the blocks as in one of shape (n, 8).
 
-    KeyLengthError and BlockLengthError where there are no whole keys or blocks, or rows of another size; CountMismatchError where
+    KeyLengthError and BlockLengthError if there are no whole keys or blocks, or rows of another size; CountMismatchError if
     the numbers of keys and blocks differ; TypeError for arrays of words whose most significant byte is not the first, as of uint64.
     A long list is much faster than its blocks one by one."""
     return _applied_each("encrypt_each", cipher, keys, blocks)
@@ -95,7 +95,7 @@ def decrypt_each(cipher: Type[Cipher], keys: ReadableBuffer, blocks: ReadableBuf
 
 def encrypt_each_into(cipher: Type[Cipher], keys: ReadableBuffer, blocks: WriteableBuffer) -> None:
     """Encrypts each block in place, in a bytearray or the like, under the key at its place. Errors as of `encrypt_each`, after
-    which the blocks stay; TypeError where they are not writable in one piece."""
+    which the blocks are unchanged; TypeError if they are not writable in one piece."""
     _change_each("encrypt_each", cipher, keys, blocks)
 
 
@@ -106,7 +106,7 @@ def decrypt_each_into(cipher: Type[Cipher], keys: ReadableBuffer, blocks: Writea
 
 def check_values(cipher: Type[Cipher], keys: ReadableBuffer) -> bytes:
     """The check values of keys that stand one after the other, as for `encrypt_each`, three bytes for each, as
-    `check_value` makes them. KeyLengthError where there are no whole keys, or rows of another size."""
+    `check_value` makes them. KeyLengthError if there are no whole keys, or rows of another size."""
     kind = class_of(cipher)
     with _list_of(keys, kind.key_size, KeyLengthError, "keys") as (start, count):
         values = buffer_of(_CHECK_VALUE_SIZE * count)
@@ -120,7 +120,7 @@ def dukpt_transaction_keys_from_base(base: ReadableBuffer, serials: ReadableBuff
     The terminals may be different ones. Every counter is taken: ask dukpt_is_usable of each serial number that was sent.
     Such a key encrypts nothing itself: take dukpt_pin_key, dukpt_mac_key or dukpt_data_key of it.
 
-    KeyLengthError where the base key does not have 16 bytes; SerialLengthError where there are no whole key serial numbers, or
+    KeyLengthError if the base key does not have 16 bytes; SerialLengthError if there are no whole key serial numbers, or
     rows of another size."""
     numbers = _list_of(serials, _SERIAL_SIZE, SerialLengthError, "key serial numbers")
     with key_of(base, _TRANSACTION_KEY_SIZE) as secret, numbers as (start, count):
@@ -170,8 +170,8 @@ def encrypt_cbc_records(
     one record after the other, and the k-th 8 bytes of `vectors`. `cipher` is one that has a key, as TdesEde3(key).
     Vectors and blocks stand one after the other, as in `bytes` or in arrays of shape (n, 8).
 
-    VectorLengthError and BlockLengthError where there are no whole vectors or blocks, or rows of another size; CountMismatchError
-    where the numbers of vectors and counts differ, or the counts, which are of blocks and not of bytes, do not add up to
+    VectorLengthError and BlockLengthError if there are no whole vectors or blocks, or rows of another size; CountMismatchError
+    if the numbers of vectors and counts differ, or the counts, which are of blocks and not of bytes, do not add up to
     the number of blocks; TypeError as by `encrypt_each`."""
     return _recorded("encrypt_cbc_records", cipher, blocks, vectors, counts)
 
@@ -180,7 +180,7 @@ def encrypt_cbc_records(
 def decrypt_cbc_records(
     cipher: Cipher, blocks: ReadableBuffer, *, vectors: ReadableBuffer, counts: Iterable[int]
 ) -> bytes:
-    """Records, each decrypted by cipher block chaining. Padding stays. Arguments and errors as of `encrypt_cbc_records`."""
+    """Records, each decrypted by cipher block chaining. Padding is not removed. Arguments and errors as of `encrypt_cbc_records`."""
     return _recorded("decrypt_cbc_records", cipher, blocks, vectors, counts)
 
 
@@ -232,7 +232,7 @@ def macs(
     """The tags, of 8 bytes each, of messages under one key: message k has lengths[k] of the bytes, one after the other.
     `kind` is a class, as RetailMacDes; the padding method is 1 or 2, of CMAC None.
 
-    For speed, sort messages of very different lengths. KeyLengthError, PaddingMethodError; CountMismatchError where the lengths do
+    For speed, sort messages of very different lengths. KeyLengthError, PaddingMethodError; CountMismatchError if the lengths do
     not add up to the bytes."""
     made = _mac_of(kind, padding)
     with key_of(key, made.key_size) as secret, _lent_bytes(messages) as (start, length):
@@ -246,8 +246,8 @@ def macs_each(
     kind: Type[Mac], keys: ReadableBuffer, padding: Optional[int], lengths: Iterable[int], messages: ReadableBuffer
 ) -> bytes:
     """The tags of messages, each under the key at its place, as `macs` makes them under one. The keys stand one after the
-    other, as those of `encrypt_each` do. KeyLengthError where there are no whole keys, or rows of another size; CountMismatchError
-    where the numbers of keys and messages differ, too."""
+    other, as those of `encrypt_each` do. KeyLengthError if there are no whole keys, or rows of another size; CountMismatchError
+    if the numbers of keys and messages differ, too."""
     made = _mac_of(kind, padding)
     with _list_of(keys, made.key_size, KeyLengthError, "keys") as (first, count), _lent_bytes(messages) as (start, length):
         pairs = _messages_of(start or 0, length, lengths)
@@ -260,9 +260,9 @@ def macs_each(
 
 def wrong_tags(tags: ReadableBuffer, expected: ReadableBuffer) -> List[int]:
     """The places of the tags, of 8 bytes each, that are not the one at their place in `expected`, the tags that `macs` or
-    `macs_each` made: an empty list, which is false in an `if`, where all are right. Every byte is compared.
+    `macs_each` made: an empty list, which is false in an `if`, if all are right. Every byte is compared.
 
-    CountMismatchError where there are no whole tags, rows of another size, or the numbers of tags differ."""
+    CountMismatchError if there are no whole tags, rows of another size, or the numbers of tags differ."""
     with _list_of(tags, TAG_SIZE, CountMismatchError, "tags") as (start, count):
         with _list_of(expected, TAG_SIZE, CountMismatchError, "tags") as (other, expected_count):
             if count != expected_count:

@@ -118,7 +118,7 @@ class Cmac(Mac):
 
 
 class CbcMacDes(PaddedMac):
-    """CBC-MAC over DES, under a key of 8 bytes, by padding method 1 or 2. It is safe only where every message has one length.
+    """CBC-MAC over DES, under a key of 8 bytes, by padding method 1 or 2. It is safe only if every message has one length.
     KeyLengthError, PaddingMethodError."""
 
     __slots__ = ()
@@ -126,7 +126,7 @@ class CbcMacDes(PaddedMac):
 
 
 class CbcMacTdesEde2(PaddedMac):
-    """CBC-MAC over triple DES, under a key of 16 bytes, by padding method 1 or 2. It is safe only where every message has one
+    """CBC-MAC over triple DES, under a key of 16 bytes, by padding method 1 or 2. It is safe only if every message has one
     length. KeyLengthError, PaddingMethodError."""
 
     __slots__ = ()
@@ -134,7 +134,7 @@ class CbcMacTdesEde2(PaddedMac):
 
 
 class CbcMacTdesEde3(PaddedMac):
-    """CBC-MAC over triple DES, under a key of 24 bytes, by padding method 1 or 2. It is safe only where every message has one
+    """CBC-MAC over triple DES, under a key of 24 bytes, by padding method 1 or 2. It is safe only if every message has one
     length. KeyLengthError, PaddingMethodError."""
 
     __slots__ = ()

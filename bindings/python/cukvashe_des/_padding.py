@@ -37,7 +37,7 @@ def pad(data: ReadableBuffer, method: str) -> bytes:
 
 
 def unpad(data: ReadableBuffer, method: str) -> bytes:
-    """The data before the padding. PaddingMethodError, BlockLengthError; PaddingMismatchError where they do not end with it. An
+    """The data before the padding. PaddingMethodError, BlockLengthError; PaddingMismatchError if they do not end with it. An
     attacker who sends you data and learns which raise it, by a message or by the time taken, can decrypt: verify a MAC first."""
     number, given, length = _method_of(method), bytes_of(data), SIZE()
     status = _unpad(given, len(given), number, ctypes.byref(length))

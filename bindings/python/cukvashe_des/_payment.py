@@ -131,7 +131,7 @@ def pin_translate_to_0(
 
 
 def pin_translate_to_1(block: ReadableBuffer, *, incoming_key: ReadableBuffer, outgoing_key: ReadableBuffer) -> bytes:
-    """A block of format 1 under another key; its transaction digits stay. KeyLengthError, BlockLengthError, PinBlockError."""
+    """A block of format 1 under another key; its transaction digits are unchanged. KeyLengthError, BlockLengthError, PinBlockError."""
     with key_of(incoming_key, *KEY_SIZES) as incoming, key_of(outgoing_key, *KEY_SIZES) as outgoing, block_of(block) as given:
         return _encoded(_to_1, _translation(incoming, 1, outgoing), given)
 

@@ -56,7 +56,7 @@ class Stream(Keyed):
         return self._apply("decrypt_stream", copy_of(data))
 
     def encrypt_into(self, data: WriteableBuffer) -> None:
-        """Encrypts the bytes that come next in place, in a bytearray or the like. TypeError where they are not writable in one
+        """Encrypts the bytes that come next in place, in a bytearray or the like. TypeError if they are not writable in one
         piece."""
         with writable(data) as (place, length):
             self._change("encrypt_stream", place, length)

@@ -11,6 +11,6 @@ else:
     ReadableBuffer = WriteableBuffer = getattr(collections.abc, "Buffer", Any)
 
 Text = Union[str, ReadableBuffer]
-# A list of bytes or texts, and of None where a row has none, or an array with a row for each.
+# A list of bytes or texts, and of None if a row has none, or an array with a row for each.
 Column = Iterable[Any]
 OptionalBlocks = Union[Mapping[str, str], Iterable[Tuple[str, str]]]

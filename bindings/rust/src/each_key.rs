@@ -23,10 +23,10 @@ pub trait KeyForEach {
     /// A key, an array of as many bytes as the key size.
     type Key;
 
-    /// Encrypts each block in place under the key at its place; where keys and blocks differ in number, the blocks stay.
+    /// Encrypts each block in place under the key at its place; if keys and blocks differ in number, the blocks are unchanged.
     fn encrypt_each(keys: &[Self::Key], blocks: &mut [Block]) -> Result<(), CountsDiffer>;
 
-    /// Decrypts each block in place under the key at its place; where keys and blocks differ in number, the blocks stay.
+    /// Decrypts each block in place under the key at its place; if keys and blocks differ in number, the blocks are unchanged.
     fn decrypt_each(keys: &[Self::Key], blocks: &mut [Block]) -> Result<(), CountsDiffer>;
 }
 

@@ -58,28 +58,28 @@ pub trait BlockCipher: Clone + fmt::Debug {
     /// Decrypts each block of the data by itself, in place.
     fn decrypt_ecb(&self, data: &mut [u8]) -> Result<(), DataError>;
 
-    /// Encrypts each block of `input` into its place in `output`; at an error `output` stays.
+    /// Encrypts each block of `input` into its place in `output`; at an error `output` is unchanged.
     fn encrypt_ecb_to(&self, input: &[u8], output: &mut [u8]) -> Result<(), DataError>;
 
-    /// Decrypts each block of `input` into its place in `output`; at an error `output` stays.
+    /// Decrypts each block of `input` into its place in `output`; at an error `output` is unchanged.
     fn decrypt_ecb_to(&self, input: &[u8], output: &mut [u8]) -> Result<(), DataError>;
 
     /// Encrypts in place by cipher block chaining from the initialization vector, which becomes the last ciphertext block,
     /// so that a record can come in pieces: copy the vector if you need it again.
     fn encrypt_cbc(&self, iv: &mut Block, data: &mut [u8]) -> Result<(), DataError>;
 
-    /// Decrypts in place what cipher block chaining encrypted; the vector becomes the last ciphertext block. Padding stays.
+    /// Decrypts in place what cipher block chaining encrypted; the vector becomes the last ciphertext block. Padding is not removed.
     fn decrypt_cbc(&self, iv: &mut Block, data: &mut [u8]) -> Result<(), DataError>;
 
-    /// As `encrypt_cbc`, from `input` to `output`; at an error `output` and the vector stay.
+    /// As `encrypt_cbc`, from `input` to `output`; at an error `output` and the vector are unchanged.
     fn encrypt_cbc_to(&self, iv: &mut Block, input: &[u8], output: &mut [u8]) -> Result<(), DataError>;
 
-    /// As `decrypt_cbc`, from `input` to `output`; at an error `output` and the vector stay.
+    /// As `decrypt_cbc`, from `input` to `output`; at an error `output` and the vector are unchanged.
     fn decrypt_cbc_to(&self, iv: &mut Block, input: &[u8], output: &mut [u8]) -> Result<(), DataError>;
 
     /// Encrypts records in place, each by cipher block chaining from the vector at its place, which becomes its last ciphertext
     /// block: record k has `counts[k]` blocks, one record after the other. 128 or 256 records are worked on together, until the
-    /// longest has ended, and no table is read at an index that depends on a secret. Where vectors and counts differ in number,
+    /// longest has ended, and no table is read at an index that depends on a secret. If vectors and counts differ in number,
     /// or the counts do not add up to the number of blocks, nothing is changed.
     fn encrypt_cbc_records(
         &self,
@@ -110,7 +110,7 @@ pub trait BlockCipher: Clone + fmt::Debug {
     fn decrypt_stream(&self, stream: &mut Stream, data: &mut [u8]);
 
     /// Encrypts the bits that come next in a stream of CFB with segments of 1 bit, from the highest of the first byte on, in
-    /// place. The others stay.
+    /// place. The others are unchanged.
     fn encrypt_stream_bits(&self, stream: &mut Stream, data: &mut [u8], bits: usize) -> Result<(), BitsError>;
 
     /// Decrypts the bits that come next, as `encrypt_stream_bits`.
@@ -456,7 +456,7 @@ pub fn equal_but_parity<const SIZE: usize>(first: &[u8; SIZE], second: &[u8; SIZ
     unsafe { ffi::cukvashe_equal_but_parity(first.as_ptr(), second.as_ptr(), SIZE) }
 }
 
-/// Whether this processor has all that the library's code takes: on x86-64 the features of x86-64-v2, elsewhere always. Where it
+/// Whether this processor has all that the library's code takes: on x86-64 the features of x86-64-v2, elsewhere always. If it
 /// is false, make no other call: the program would end at an instruction that the processor does not have.
 ///
 /// ```

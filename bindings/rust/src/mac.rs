@@ -1,8 +1,8 @@
 //! Message authentication codes, of a message that comes in pieces: CBC-MAC and the retail MAC (ISO/IEC 9797-1:2011,
 //! algorithms 1 and 3, with padding methods 1 and 2), and CMAC (NIST SP 800-38B).
 //!
-//! CBC-MAC is safe only where every message under a key has one length. Padding method 1 hides zeros at the end of a message.
-//! The calls of one message read tables at indexes that depend on key and message, except where `new_no_tables` made the MAC. `macs` and
+//! CBC-MAC is safe only if every message under a key has one length. Padding method 1 hides zeros at the end of a message.
+//! The calls of one message read tables at indexes that depend on key and message, unless `new_no_tables` made the MAC. `macs` and
 //! `macs_each`, of many messages, read none: for speed, sort messages of very different lengths.
 //!
 //! ```
@@ -245,7 +245,7 @@ fn in_groups(messages: &[&[u8]], tags: &mut [[u8; 8]], call: impl Fn(usize, *con
 macro_rules! macs {
     ($name:ident [$($padding:ident)?], $size:literal, $call:ident) => {
         impl $name {
-            /// Writes the tag of each message at its place; where messages and tags differ in number, the tags stay.
+            /// Writes the tag of each message at its place; if messages and tags differ in number, the tags are unchanged.
             pub fn macs(
                 key: &[u8; $size],
                 $($padding: Padding,)?
@@ -269,7 +269,7 @@ macro_rules! macs {
 macro_rules! macs_each {
     ($name:ident [$($padding:ident)?], $size:literal, $call:ident) => {
         impl $name {
-            /// Writes the tag of each message at its place, under the key there; where the lists differ in length, the tags stay.
+            /// Writes the tag of each message at its place, under the key there; if the lists differ in length, the tags are unchanged.
             pub fn macs_each(
                 keys: &[[u8; $size]],
                 $($padding: Padding,)?
@@ -305,7 +305,7 @@ macs_each!(CmacTdesEde3 [], 24, cukvashe_cmac_tdes_ede3_macs_each);
 
 /// Writes of each tag whether it is the one at its place in `expected`, the tags that `macs` or `macs_each` made: every byte is
 /// compared, wherever two tags differ. `Ok` says only that the lists have the same length: look at `right`.
-/// `CountsDiffer` where the lists differ in length; `right` then stays.
+/// `CountsDiffer` if the lists differ in length; `right` is then unchanged.
 ///
 /// ```
 /// use cukvashe_des::mac::{compare_tags, CmacTdesEde3};

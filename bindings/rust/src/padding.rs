@@ -60,7 +60,7 @@ sentences!(UnpadError:
     UnpadError::NotPadded => sentence(PADDING),
 );
 
-/// Writes the padding after the first `length` bytes of a buffer, and gives both together; at an error the buffer stays.
+/// Writes the padding after the first `length` bytes of a buffer, and gives both together; at an error the buffer is unchanged.
 pub fn pad(buffer: &mut [u8], length: usize, method: Method) -> Result<&mut [u8], BufferTooSmall> {
     let mut padded = 0;
     // SAFETY: the pointers are of references, that of the buffer good for its length, and don't overlap.

@@ -32,7 +32,7 @@ pub enum Derivation {
     Sha256,
     /// `-pbkdf2 -md sha1`, and the iterations of `-iter`.
     Pbkdf2Sha1(u32),
-    /// `-pbkdf2 -md sha256`, and the iterations of `-iter`: 10000 where it is not given.
+    /// `-pbkdf2 -md sha256`, and the iterations of `-iter`: 10000 if it is not given.
     Pbkdf2Sha256(u32),
 }
 
@@ -94,7 +94,7 @@ impl Derivation {
         }
     }
 
-    /// Fills the list with the key, and after it the vector. After an error the list stays as it was.
+    /// Fills the list with the key, and after it the vector. After an error the list is unchanged.
     ///
     /// The password stands before the salt, unlike in `EVP_BytesToKey`. The salt is without `Salted__`; with no PBKDF2 it has 8 bytes,
     /// or none (`-nosalt`).
@@ -136,7 +136,7 @@ macro_rules! open_salted {
             ///
             /// Writes the plaintext without its padding to the front of `plain`, and gives how many bytes it has;
             /// `file.len() - 16` bytes are always enough. `file` is all that was written: `Salted__`, the salt and the
-            /// ciphertext, not Base64 (`-a`). After an error `plain` stays as it was. Nothing is authenticated.
+            /// ciphertext, not Base64 (`-a`). After an error `plain` is unchanged. Nothing is authenticated.
             pub fn open_salted(
                 derivation: Derivation,
                 password: &[u8],

@@ -61,8 +61,8 @@ pub trait CheckValue: KeyForEach {
     /// The check value (KCV) of a key: the first three bytes of the block of zeros, encrypted under it.
     fn check_value(key: &[u8]) -> Result<[u8; 3], InvalidLength>;
 
-    /// Writes the check value of each key at its place, 128 keys at a time, without tables; where keys and values differ in
-    /// number, the values stay.
+    /// Writes the check value of each key at its place, 128 keys at a time, without tables; if keys and values differ in
+    /// number, the values are unchanged.
     fn check_values(keys: &[Self::Key], values: &mut [[u8; 3]]) -> Result<(), CountsDiffer>;
 }
 
@@ -104,7 +104,7 @@ check_value!(
 
 macro_rules! combine {
     ($($name:ident: $size:literal, $call:ident);*) => {
-        $(/// The key that two or more components make: their xor, with odd parity; `WeakKey` where the test refuses it.
+        $(/// The key that two or more components make: their xor, with odd parity; `WeakKey` if the test refuses it.
         pub fn $name(
             first: &[u8; $size],
             second: &[u8; $size],
@@ -129,7 +129,7 @@ combine!(
 // SAFETY of each call below: the pointers are of references to arrays of the lengths that it takes, and don't overlap.
 
 /// Writes the key of the transaction of each key serial number at its place, from the base derivation key (BDK): what
-/// [`transaction_key`] makes of [`initial_key`]. Where serial numbers and keys differ in number, the keys stay. It takes every
+/// [`transaction_key`] makes of [`initial_key`]. If serial numbers and keys differ in number, the keys are unchanged. It takes every
 /// counter: ask [`is_usable`] first. Such a key encrypts nothing itself: take [`pin_key`], [`mac_key`] or [`data_key`] of it.
 pub fn transaction_keys_from_base(
     base: &[u8; 16],

@@ -137,7 +137,7 @@ const headerAnswers = (block, { version, usage, algorithm, mode, keyVersion, exp
   ...library.keyBlockOptionalBlocks(block).map(([name, content]) => value(`Optional block ${name}`, content)),
 ];
 
-/** The key of a block, with its check value where it is one of DES or triple DES. */
+/** The key of a block, with its check value if it is one of DES or triple DES. */
 const keyAnswer = ({ algorithm }, key) =>
   ALGORITHMS.some(([code]) => code === algorithm) ? keyed("Key", key) : value("Key", key);
 
@@ -145,7 +145,7 @@ const NOT_LONG = "The block has another number of characters than it says (chara
 
 // ---- Old records
 
-/** A text as it is read where it is printable UTF-8 in one line, and else as hexadecimal digits. */
+/** A text as it is read if it is printable UTF-8 in one line, and else as hexadecimal digits. */
 function shownText(bytes) {
   try {
     const text = new TextDecoder("utf-8", { fatal: true, ignoreBOM: true }).decode(bytes);
@@ -458,7 +458,7 @@ export const calculations = [
         name: "sequence",
         label: "Sequence number of the account",
         short: "PSN",
-        hint: "Two digits; 00 where the card has none.",
+        hint: "Two digits; 00 if the card has none.",
         read: decimal,
       },
       {
@@ -688,7 +688,7 @@ export const calculations = [
       },
       { name: "algorithm", label: "Algorithm", options: coded(ALGORITHMS) },
       { name: "mode", label: "Mode of use", options: coded(MODES) },
-      { name: "keyVersion", label: "Version of the key", hint: "Two letters or digits; 00 where it has none.", read: shortCode(2) },
+      { name: "keyVersion", label: "Version of the key", hint: "Two letters or digits; 00 if it has none.", read: shortCode(2) },
       { name: "exportability", label: "Exportability", options: coded(EXPORTABILITIES) },
       {
         name: "optional",
@@ -902,7 +902,7 @@ const FIELDS_OF_ERRORS = {
   SequenceDigit: "sequence",
 };
 
-/** How many digits an account number has at least, where that is not 8. */
+/** How many digits an account number has at least, if that is not 8. */
 const LEAST_DIGITS = { pvv: 12, cvv: 12 };
 
 /**

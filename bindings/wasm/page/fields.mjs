@@ -98,7 +98,7 @@ const numberOf = (digits) => (/^[0-9a-f]+$/i.test(digits) ? parseInt(digits, 16)
 
 /**
  * The content of an optional block as it stands in a key block: its name, its length in two digits, or in four after 0002 or
- * 0004, and its content. Null where the length is another.
+ * 0004, and its content. Null if the length is another.
  */
 function contentOf(block) {
   const [start, end] = /^..000[24]/s.test(block) ? [6, 10] : [2, 4];

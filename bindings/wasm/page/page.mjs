@@ -63,7 +63,7 @@ const broughtBy = (event) => (event.clipboardData ?? event.dataTransfer)?.getDat
 
 // ---- Answers
 
-/** Puts a text on the clipboard. Where a browser keeps pages from disks away from it, the old way is left. */
+/** Puts a text on the clipboard. If a browser keeps pages from disks away from it, the old way is left. */
 async function copy(text, shown) {
   try {
     await navigator.clipboard.writeText(text);

@@ -209,7 +209,7 @@ pub fn key_context(block: &[u8]) -> Result<u8, KeyBlockError> {
     checked(status, character)
 }
 
-/// The optional block of a block at a place, from 0, or `None` where there are no more. Nothing of it is authenticated.
+/// The optional block of a block at a place, from 0, or `None` if there are no more. Nothing of it is authenticated.
 pub fn optional_block(block: &[u8], place: usize) -> Result<Option<OptionalBlock<'_>>, KeyBlockError> {
     let (mut name, mut offset, mut length) = ([0; 3], 0, 0);
     let (text, size) = (block.as_ptr().cast(), block.len());
@@ -257,14 +257,14 @@ fn write_blocks(blocks: &[OptionalBlock<'_>], text: &mut [u8; MOST_OPTIONAL]) ->
 ///
 /// The padding stands after two bytes of length and the key, and ends at a multiple of eight bytes: 22, 14 or 6 bytes of it hide how
 /// long a key of 8, 16 or 24 bytes is. They have to be random: take them from the system. An optional block has a name of letters and
-/// digits, and a content of printable ASCII, from space to `~`. Where they do not end at a multiple of eight characters, a block `PB` of
-/// zeros is added; a `PB` of yours is taken only as the last, where with it they end at one.
+/// digits, and a content of printable ASCII, from space to `~`. If they do not end at a multiple of eight characters, a block `PB` of
+/// zeros is added; a `PB` of yours is taken only as the last, if with it they end at one.
 ///
-/// The first fault is reported, in this order: `OptionalBlock`, where there are more than 99; `Version`, where it is neither `B` nor
-/// `C`; `ProtectionKeyLength`; `Header`, where a field has other characters than letters and digits; `KeyLength`; `PaddingLength`;
-/// `OptionalBlock`, where a name or a content has other characters, a `PB` is not taken, or with one that is added there are more than
-/// 99; and `Length`, where the block has more than 9999 characters, or is longer than `text`. Of optional blocks that are too long
-/// `Length` may come before all but the first of these. After a fault `text` stays as it was.
+/// The first fault is reported, in this order: `OptionalBlock`, if there are more than 99; `Version`, if it is neither `B` nor
+/// `C`; `ProtectionKeyLength`; `Header`, if a field has other characters than letters and digits; `KeyLength`; `PaddingLength`;
+/// `OptionalBlock`, if a name or a content has other characters, a `PB` is not taken, or with one that is added there are more than
+/// 99; and `Length`, if the block has more than 9999 characters, or is longer than `text`. Of optional blocks that are too long
+/// `Length` may come before all but the first of these. After a fault `text` is unchanged.
 pub fn wrap(
     protection: &[u8],
     header: &Header,

@@ -7,8 +7,8 @@ use crate::statuses::{sentence, ACCOUNT_DIGIT, ACCOUNT_LENGTH, FILL, FORMAT, OK,
 use crate::Block;
 use core::fmt;
 
-/// Why a PIN block is not made, or a block holds no PIN. The first of them is reported: where a block is made, of the PIN,
-/// then of the account number, then of the fill digits; where one is read, of the account number, then in the order of the
+/// Why a PIN block is not made, or a block holds no PIN. The first of them is reported: if a block is made, of the PIN,
+/// then of the account number, then of the fill digits; if one is read, of the account number, then in the order of the
 /// block's digits. The fault of a block that is read reveals something of its PIN: show it to nobody.
 #[non_exhaustive]
 #[derive(Clone, Copy, Debug, PartialEq, Eq)]
@@ -68,7 +68,7 @@ pub struct Pin {
 }
 
 impl Pin {
-    /// The PIN of these ASCII digits: `PinLength` where there are not 4 to 12 of them, `PinDigit` where one is not a digit.
+    /// The PIN of these ASCII digits: `PinLength` if there are not 4 to 12 of them, `PinDigit` if one is not a digit.
     pub fn new(text: &[u8]) -> Result<Pin, PinError> {
         // The library tests a PIN where it makes a block of it, and every PIN has one of format 1.
         let mut block = encode_1(text, &[0; 10])?;
@@ -122,7 +122,7 @@ pub fn encode_format_0(pin: &Pin, account: &[u8]) -> Result<Block, PinError> {
 }
 
 /// The block of format 1 of a PIN and ten transaction digits from 0 to 15, of which it uses the first ones that fill it to
-/// sixteen digits; `Fill` where one of the ten is above 15.
+/// sixteen digits; `Fill` if one of the ten is above 15.
 pub fn encode_format_1(pin: &Pin, transaction: &[u8; 10]) -> Result<Block, PinError> {
     encode_1(pin.text(), transaction)
 }
@@ -137,7 +137,7 @@ pub fn encode_format_2(pin: &Pin) -> Block {
 }
 
 /// The block of format 3 of a PIN, an account number as in format 0, and ten fill digits from 10 to 15, of which it uses the
-/// first ones that fill it to sixteen digits; `Fill` where one of the ten is none of them.
+/// first ones that fill it to sixteen digits; `Fill` if one of the ten is none of them.
 pub fn encode_format_3(pin: &Pin, account: &[u8], fill: &[u8; 10]) -> Result<Block, PinError> {
     let (pin, mut block) = (pin.text(), [0; 8]);
     let status = unsafe {

@@ -87,7 +87,7 @@ pub struct DecimalTable {
 
 impl DecimalTable {
     /// The table of sixteen ASCII digits, those that stand for 0 to 15 in this order. Its faults are `TableLength`, `TableDigit`,
-    /// and `TableVariety` where there are fewer than eight different ones. An attacker who chooses the table finds PINs out.
+    /// and `TableVariety` if there are fewer than eight different ones. An attacker who chooses the table finds PINs out.
     pub fn new(digits: &[u8]) -> Result<DecimalTable, VerificationError> {
         let mut table = ffi::DecimalTable { digits: [0; 16] };
         // SAFETY: the pointers are of references, that of the text good for its length, and don't overlap.
@@ -185,7 +185,7 @@ pub fn pin_offset(key: &[u8], table: &DecimalTable, validation: &[u8; 8], pin: &
 }
 
 /// Accepts the PIN that is the sum of an offset and the natural PIN of as many digits, digit by digit, modulo ten, and no other:
-/// `KeyLength`, and then `WrongPin` where it is another, or has another length. Every digit is compared.
+/// `KeyLength`, and then `WrongPin` if it is another, or has another length. Every digit is compared.
 pub fn verify_offset(
     key: &[u8],
     table: &DecimalTable,

@@ -32,7 +32,7 @@ pub enum Incoming {
     Format3,
 }
 
-/// The format of the PIN block that is made: with an account number, and with fill digits where it has them.
+/// The format of the PIN block that is made: with an account number, and with fill digits if it has them.
 ///
 /// ```compile_fail,E0533
 /// let format = cukvashe_des::payment::translation::Outgoing::Format3;
@@ -109,8 +109,8 @@ pub fn translate(
 }
 
 /// Translates a PIN block of format 1 that is encrypted under one key, of 8, 16 or 24 bytes, into the same block under another: by
-/// DES, or by triple DES in the EDE form. The transaction digits, which are any, stay, and there is no account number. The errors are
-/// `KeyLength` and `Block`.
+/// DES, or by triple DES in the EDE form. The transaction digits are unchanged, whatever they are, and there is no account number.
+/// The errors are `KeyLength` and `Block`.
 pub fn translate_format_1(incoming: &[u8], outgoing: &[u8], block: &Block) -> Result<Block, TranslationError> {
     let mut translated = [0; 8];
     let translation = translation(incoming, 1, outgoing, &[], ptr::null());

@@ -23,7 +23,7 @@ static void fails(JNIEnv *env, int status) {
 
 /* -- Arrays of any call -- */
 
-/* An array of Java, the bytes of an element, the bytes of all where the call takes no others, else 0, and whether the call writes it;
+/* An array of Java, the bytes of an element, the bytes of all if the call takes no others, else 0, and whether the call writes it;
    then, where its copy stands, and how many elements it has. */
 struct array {
   jarray object;

@@ -15,7 +15,7 @@ import java.util.function.Function;
  * the first. With the argument {@code no_tables} no call reads a table at an address that depends on a key or data: {@code new
  * CukvasheProvider().configure("no_tables")}, or {@code security.provider.1=Cukvashe no_tables}.
  *
- * <p>Where the native library can't be loaded the provider offers nothing, and {@link #getInfo} says why: programs that ask for no provider
+ * <p>If the native library can't be loaded the provider offers nothing, and {@link #getInfo} says why: programs that ask for no provider
  * by name go on with the next one.
  */
 public final class CukvasheProvider extends Provider {

@@ -227,7 +227,7 @@ class DesCipher extends CipherSpi {
   @Override
   protected byte[] engineUpdate(byte[] input, int offset, int length) {
     initialized();
-    // An empty array where nothing comes out, and not null, though the contract allows it: callers of SunJCE never see that.
+    // An empty array if nothing comes out, and not null, though the contract allows it: callers of SunJCE never see that.
     byte[] output = new byte[ready(Math.addExact(count, length))];
     work(input, offset, length, output, 0, output.length);
     return output;

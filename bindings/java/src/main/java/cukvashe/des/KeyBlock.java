@@ -101,8 +101,8 @@ public final class KeyBlock {
    * The key block of a key, with random padding that hides how long the key is.
    *
    * @param length how many bytes of the key the block has, 8, 16 or 24: of a key of 24 bytes whose third part is the first it may have 16
-   * @param optional the optional blocks. A block PB is added where they do not end at a multiple of eight characters; one of yours is taken
-   *     only as the last, where with it they do.
+   * @param optional the optional blocks. A block PB is added if they do not end at a multiple of eight characters; one of yours is taken
+   *     only as the last, if with it they do.
    * @throws CukvasheException {@link Status#KEY_LENGTH} if the key does not have this length; {@link Status#VERSION}, {@link
    *     Status#OPTIONAL_BLOCK}, {@link Status#PROTECTION_KEY_LENGTH}, {@link Status#HEADER}, {@link Status#KEY_BLOCK_LENGTH}
    */

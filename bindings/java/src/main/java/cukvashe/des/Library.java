@@ -23,7 +23,7 @@ final class Library {
     } catch (UnsatisfiedLinkError error) {
       return error;
     } catch (LinkageError error) {
-      // As where a native library of another version lacks a method.
+      // As when a native library of another version lacks a method.
       UnsatisfiedLinkError wrong = new UnsatisfiedLinkError("the native library is not that of these classes: " + error.getMessage());
       wrong.initCause(error);
       return wrong;
@@ -51,7 +51,7 @@ final class Library {
     } catch (IOException | UnsatisfiedLinkError error) {
       UnsatisfiedLinkError thrown =
           new UnsatisfiedLinkError(
-              "the native library can't be loaded (" + error.getMessage() + "); where java.io.tmpdir does not allow it, -Dcukvashe.library"
+              "the native library can't be loaded (" + error.getMessage() + "); if java.io.tmpdir does not allow it, -Dcukvashe.library"
                   + " names an unpacked " + resource.substring(1));
       thrown.initCause(error);
       throw thrown;
@@ -70,7 +70,7 @@ final class Library {
         Files.deleteIfExists(copy);
         Files.deleteIfExists(folder);
       } catch (IOException isMapped) {
-        // Only where a mapped file can't be removed, as on Windows.
+        // Only if a mapped file can't be removed, as on Windows.
         folder.toFile().deleteOnExit();
         copy.toFile().deleteOnExit();
       }

@@ -11,7 +11,7 @@ enum PasswordScheme {
   /** PKCS #12 (RFC 7292, appendix B). */
   SHA1_TRIPLE_DES("PBEWithSHA1AndDESede", Algorithm.DESEDE, 24, "1.2.840.113549.1.12.1.3");
 
-  /** How often the hash function runs where nobody says it. */
+  /** How often the hash function runs if nobody says it. */
   static final int ITERATIONS = 1024;
 
   final String title;

@@ -14,7 +14,7 @@ import javax.crypto.spec.IvParameterSpec;
 final class Vectors {
   private Vectors() {}
 
-  /** A random one, from a source of one's own where none is given. */
+  /** A random one, from a source of one's own if none is given. */
   static byte[] random(SecureRandom random) {
     byte[] vector = new byte[Native.BLOCK_SIZE];
     (random == null ? new SecureRandom() : random).nextBytes(vector);
