@@ -11,7 +11,7 @@ use des_context::status::{ERR_BLOCKS, ERR_CONTEXT, ERR_KEY_LENGTH, OK};
 use des_context::{block_modes, contexts};
 
 /// Makes a context of 17, 33 or 49 words from a key of one, two or three parts of 8 bytes, without
-/// tables, so that its calls read none, or with them. The status of a key of another length is
+/// tables, so that its calls read none, or with them. The status for a key of any other length is
 /// `ERR_KEY_LENGTH`; the context is then unchanged.
 #[unsafe(no_mangle)]
 pub extern "C" fn cukvashe_internal_init(context: &mut [u64], key: &[u8], no_tables: bool) -> i32

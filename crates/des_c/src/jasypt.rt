@@ -54,8 +54,8 @@ pub extern "C" fn cukvashe_internal_jasypt_decrypt_values(
 
 /// Writes strings of Jasypt by the algorithm of this name, as `des_columns::jasypt::encrypt_values`
 /// does. The status is that of the first fault, and then nothing is written: `ERR_ALGORITHM` and
-/// `ERR_ITERATIONS` as of `jasypt_decrypt_values`; `ERR_COUNTS` if the lengths do not fit, there is not
-/// a salt for each text, or the buffer is not exactly as long as the values.
+/// `ERR_ITERATIONS` as for `jasypt_decrypt_values`; `ERR_COUNTS` if the lengths do not fit, there
+/// is not a salt for each text, or the buffer is not exactly as long as the values.
 #[unsafe(no_mangle)]
 pub extern "C" fn cukvashe_internal_jasypt_encrypt_values(
     algorithm: &[u8],

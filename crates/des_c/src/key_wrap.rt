@@ -284,8 +284,8 @@ pub extern "C" fn cukvashe_tkw_wrap_key(
     OK
 }
 
-/// Unwraps what TKW wrapped, at the front of a buffer, and writes how many bytes the key has. The status is
-/// as of `cukvashe_cms_unwrap_key`.
+/// Unwraps what TKW wrapped, at the front of a buffer, and writes how many bytes the key has. The
+/// status is as for `cukvashe_cms_unwrap_key`.
 #[unsafe(no_mangle)]
 pub extern "C" fn cukvashe_tkw_unwrap_key(
     protection: &[u8],

@@ -15,8 +15,8 @@ use des::cipher::are_bytes;
 use des::weak_key;
 use des_context::status::{ERR_KEY_LENGTH, ERR_WEAK_KEY, OK};
 
-/// Tests a key of 8, 16 or 24 bytes. The status of a key that the weak key test refuses is
-/// `ERR_WEAK_KEY`, that of a key of another length `ERR_KEY_LENGTH`.
+/// Tests a key of 8, 16 or 24 bytes. The status for a key that the weak key test refuses is
+/// `ERR_WEAK_KEY`, and for a key of any other length `ERR_KEY_LENGTH`.
 #[unsafe(no_mangle)]
 pub extern "C" fn cukvashe_weak_key_test(key: &[u8]) -> i32
     ensures passed { (result ≡ OK)

@@ -14,8 +14,8 @@ use des_mac::many;
 
 /// Makes the words of a MAC of the bytes of a key, without tables, so that its calls read none, or
 /// with them, and of the message of no bytes, with padding method 1 or 2, which plays no part in
-/// CMAC. The status of a key of another length than the words can hold is `ERR_KEY_LENGTH`, of
-/// another padding `ERR_PADDING_METHOD`; the words and the message are then unchanged.
+/// CMAC. The status for a key of a length that the words cannot hold is `ERR_KEY_LENGTH`, and for
+/// any other padding `ERR_PADDING_METHOD`; the words and the message are then unchanged.
 #[unsafe(no_mangle)]
 pub extern "C" fn cukvashe_internal_mac_init(
     algorithm: u32,
@@ -37,8 +37,8 @@ pub extern "C" fn cukvashe_internal_mac_init(
     macs::init(algorithm, context, message, key, padding, no_tables)
 }
 
-/// Adds bytes to the message, after those that it has. The status of words that no init made for the
-/// algorithm is `ERR_CONTEXT`; the message is then unchanged.
+/// Adds bytes to the message, after those that it has. The status for words that no init made for
+/// the algorithm is `ERR_CONTEXT`; the message is then unchanged.
 #[unsafe(no_mangle)]
 pub extern "C" fn cukvashe_internal_mac_update(
     algorithm: u32,
@@ -58,8 +58,8 @@ pub extern "C" fn cukvashe_internal_mac_update(
     macs::update(algorithm, context, message, bytes)
 }
 
-/// Returns the tag of the message, which may go on. The status is as of `cukvashe_internal_mac_update`;
-/// the tag of words that it refuses is unchanged.
+/// Returns the tag of the message, which may go on. The status is as for
+/// `cukvashe_internal_mac_update`; the tag of words that it refuses is unchanged.
 #[unsafe(no_mangle)]
 pub extern "C" fn cukvashe_internal_mac_final(
     algorithm: u32,
@@ -104,8 +104,8 @@ pub extern "C" fn cukvashe_internal_mac_verify(
 }
 
 /// Writes of each tag whether it is the one at its place in `expected`. Every byte is looked at,
-/// wherever two differ. The status of lists of different lengths is `ERR_COUNTS`; `right` then
-/// is unchanged.
+/// wherever two differ. The status for lists of different lengths is `ERR_COUNTS`; `right` then is
+/// unchanged.
 #[unsafe(no_mangle)]
 pub extern "C" fn cukvashe_internal_compare_tags(
     tags: &[[u8; 8]],

@@ -10,9 +10,9 @@ use des_context::padding::{count_unpadded, padding_of};
 use des_context::status::{ERR_BLOCKS, ERR_CAPACITY, ERR_PADDING, ERR_PADDING_METHOD, OK};
 use des_io::padding::pad;
 
-/// Pads the first `count` bytes of a buffer to whole blocks, by `PKCS7` or `ISO7816`.
-/// The status is `ERR_PADDING_METHOD` for another number and `ERR_CAPACITY` if the buffer is too
-/// short for the padding, and then nothing is changed.
+/// Pads the first `count` bytes of a buffer to whole blocks, by `PKCS7` or `ISO7816`. The status is
+/// `ERR_PADDING_METHOD` for any other number and `ERR_CAPACITY` if the buffer is too short for the
+/// padding, and then nothing is changed.
 #[unsafe(no_mangle)]
 pub extern "C" fn cukvashe_internal_pad(
     buffer: &mut [u8],
@@ -44,9 +44,9 @@ pub extern "C" fn cukvashe_internal_pad(
     OK
 }
 
-/// The number of bytes before their padding, by `PKCS7` or `ISO7816`. The status
-/// is `ERR_PADDING_METHOD` for another number, `ERR_BLOCKS` if the bytes are not whole blocks,
-/// and `ERR_PADDING` if they do not end with the padding, and then nothing is written.
+/// The number of bytes before their padding, by `PKCS7` or `ISO7816`. The status is
+/// `ERR_PADDING_METHOD` for any other number, `ERR_BLOCKS` if the bytes are not whole blocks, and
+/// `ERR_PADDING` if they do not end with the padding, and then nothing is written.
 #[unsafe(no_mangle)]
 pub extern "C" fn cukvashe_unpad(bytes: &[u8], method: i32, unpadded_length: &mut usize) -> i32
     ensures accepted { (result ≡ OK) ↔ ((padding : Padding) × IsNumberOf method padding

@@ -16,9 +16,9 @@ use des_context::status::{ERR_SALT_LENGTH, OK};
 use des_passwords::Derivation;
 
 /// Writes the key of a password and a salt by PBKDF2 with HMAC over `SHA1` or `SHA256`. The status
-/// is `ERR_HASH` for another number, `ERR_ITERATIONS` if there is no iteration, or more than
-/// 2^32 - 1, and `ERR_KEY_LENGTH` if the key is longer than 2^32 - 1 digests; and then `key`
-/// is unchanged.
+/// is `ERR_HASH` for any other number, `ERR_ITERATIONS` if there is no iteration, or more than 2^32
+/// - 1, and `ERR_KEY_LENGTH` if the key is longer than 2^32 - 1 digests; and then `key` is
+/// unchanged.
 #[unsafe(no_mangle)]
 pub extern "C" fn cukvashe_pbkdf2(
     hash: u32,
@@ -62,9 +62,9 @@ pub extern "C" fn cukvashe_bytes_to_key(
 /// bytes it has: `-des-cbc` under a key of 8 bytes, `-des-ede-cbc` under one of 16, and `-des3`,
 /// which is `-des-ede3-cbc`, under one of 24. `hash` is the number of the hash function of `-md`,
 /// `iterations` that of `-iter`, 10000 of `-pbkdf2` alone, and 0 of neither. The status is that of
-/// the first fault, and then `plain` and `plain_length` stay: `ERR_HASH`, `ERR_NOT_SALTED`,
-/// `ERR_SALT_LENGTH`, `ERR_ITERATIONS`, `ERR_BLOCKS`, `ERR_PADDING`, as for all but about one wrong
-/// password in 256, and `ERR_CAPACITY`.
+/// the first fault, and then `plain` and `plain_length` are unchanged: `ERR_HASH`,
+/// `ERR_NOT_SALTED`, `ERR_SALT_LENGTH`, `ERR_ITERATIONS`, `ERR_BLOCKS`, `ERR_PADDING`, as for all
+/// but about one in 256 wrong passwords, and `ERR_CAPACITY`.
 #[unsafe(no_mangle)]
 pub extern "C" fn cukvashe_internal_open_salted(
     key_size: usize,

@@ -1,4 +1,5 @@
-//! The exports of streams that go byte by byte or bit by bit, so that no width of vectors is quicker.
+//! The exports of streams that go byte by byte or bit by bit, so that no width of vectors is
+//! faster.
 
 ghost use Rattle.std.specs.Prelude.{◌≡◌, ◌≢◌, ◌↔◌, ◌≤◌, ◌*◌, ◌++◌, ℕ, Bool, List, [], length, drop};
 ghost use Rattle.des.specs.Bits.{bits_of_bytes};
@@ -17,8 +18,9 @@ use des_context::stream_modes;
 use des_modes::Direction;
 use des_modes::stream::Stream;
 
-/// Begins a stream in the mode of a number from an initialization vector, or for the counter mode the
-/// first counter block. The status of another number is `ERR_MODE`; the stream is then unchanged.
+/// Begins a stream in the mode of a number from an initialization vector, or for the counter mode
+/// the first counter block. The status for any other number is `ERR_MODE`; the stream is then
+/// unchanged.
 #[unsafe(no_mangle)]
 pub extern "C" fn cukvashe_stream_begin(stream: &mut Stream, mode: u32, iv: &[u8; 8]) -> i32
     ensures accepted { (result ≡ OK) ↔ IsMode mode }
@@ -52,9 +54,9 @@ pub extern "C" fn cukvashe_stream_position(stream: &Stream, iv: &mut [u8; 8], us
     *used = stream.used();
 }
 
-/// Encrypts in place the first `bits` bits, which come next in a stream of CFB1. The others stay. The
-/// status of a stream of another mode is `ERR_MODE`, of words that are no stream `ERR_STREAM`; they and
-/// the bytes are then unchanged.
+/// Encrypts in place the first `bits` bits, which come next in a stream of CFB1. The others are
+/// unchanged. The status for a stream of another mode is `ERR_MODE`, and for words that are no
+/// stream `ERR_STREAM`; they and the bytes are then unchanged.
 #[unsafe(no_mangle)]
 pub extern "C" fn cukvashe_internal_encrypt_stream_bits(
     context: &[u64],
@@ -81,8 +83,8 @@ pub extern "C" fn cukvashe_internal_encrypt_stream_bits(
     stream_modes::apply_stream_bits(Direction::Encrypt, context, stream, bytes, bits)
 }
 
-/// Decrypts in place the first `bits` bits, which come next in a stream of CFB1. The status is as of
-/// `cukvashe_internal_encrypt_stream_bits`.
+/// Decrypts in place the first `bits` bits, which come next in a stream of CFB1. The status is as
+/// for `cukvashe_internal_encrypt_stream_bits`.
 #[unsafe(no_mangle)]
 pub extern "C" fn cukvashe_internal_decrypt_stream_bits(
     context: &[u64],

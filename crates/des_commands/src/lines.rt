@@ -173,8 +173,8 @@ fn end_line(goes_on: bool, out: &mut Vec<u8>) -> Result<(), AllocError>
     Ok(())
 }
 
-// Adds the answer of a line, or tells why it has none. Returns whether the run goes on. The fault is
-// `Memory`; it comes before anything is told.
+// Adds the answer of a line, or tells why it has none. Returns whether the run goes on. The fault
+// is `Memory`; it comes before anything is reported.
 fn answer_line<E: Write>(
     alloc: Global,
     job: &LinesJob,
@@ -227,7 +227,7 @@ fn answer_at<E: Write>(
 }
 
 // Adds the answers of a column's lines, and tells of those that have none. Returns whether the run
-// goes on. The fault is `Memory`; the first lines may have been told of.
+// goes on. The fault is `Memory`; the first lines may have been reported.
 fn add_answers<E: Write>(
     alloc: Global,
     job: &LinesJob,
@@ -288,12 +288,12 @@ fn run_piece<O: Opener, R: BufRead, W: Write, E: Write>(
 /// a value don't count. A line with nothing else is answered by an empty one, and a word for what is
 /// no value by itself (`NullWord`).
 ///
-/// A line whose value can't be read or opened, or whose text fits no line, is told of on `err` by its
-/// number. It is answered by an empty line if the job keeps going, and else ends the run. Returns 0,
-/// or `SOME_LINES` or `FIRST_FAULT` if there were such lines. The writer is not flushed.
+/// A line whose value can't be read or opened, or whose text fits no line, is reported on `err` by
+/// its number. It is answered by an empty line if the job keeps going, and otherwise ends the run.
+/// Returns 0, or `SOME_LINES` or `FIRST_FAULT` if there were such lines. The writer is not flushed.
 ///
 /// The fault is `Memory`, `Read` or `Write`. What was written is then a prefix of the answers of
-/// lines that were read; faults of lines behind it may have been told too.
+/// lines that were read; faults of later lines may have been reported too.
 pub fn run<O: Opener, R: BufRead, W: Write, E: Write>(
     alloc: Global,
     job: &LinesJob,

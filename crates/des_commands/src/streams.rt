@@ -233,9 +233,9 @@ fn run_cipher<C: KeyedCipher + ManyBlocks + Drop, R: Read, W: Write>(
 /// Encrypts or decrypts what the reader gives, and writes it: up to the reader's end, or a part. A
 /// heading is written first. The writer is not flushed.
 ///
-/// The fault is `KeyLength` if the cipher takes no key of these bytes, or `Memory`: nothing is
-/// then read or written. Else it is `Read`, `Write`, `Length`, `Start` or `Padding`, and a prefix is
-/// written.
+/// The fault is `KeyLength` if the cipher takes no key of these bytes, or `Memory`: nothing is then
+/// read or written. Otherwise it is `Read`, `Write`, `Length`, `Start` or `Padding`, and a prefix
+/// is written.
 pub fn run<R: Read, W: Write>(
     alloc: Global,
     job: &Job,

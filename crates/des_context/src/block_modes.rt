@@ -121,7 +121,7 @@ pub fn encrypt_ecb<S: Slice>(context: &[u64], blocks: &mut [[u8; 8]], size: usiz
     OK
 }
 
-/// Decrypts blocks in place, each by itself. The status is as of `encrypt_ecb`.
+/// Decrypts blocks in place, each by itself. The status is as for `encrypt_ecb`.
 pub fn decrypt_ecb<S: Slice>(context: &[u64], blocks: &mut [[u8; 8]], size: usize) -> i32
     requires { IsSoundIfMarked context.now }
     ensures unmarked { (result ≡ ERR_CONTEXT) ↔ ¬ (HasMark NO_MAC context.now) }
@@ -167,7 +167,7 @@ pub fn encrypt_cbc(context: &[u64], iv: &mut [u8; 8], blocks: &mut [[u8; 8]], si
 }
 
 /// Decrypts blocks in place that CBC encrypted from the vector, which becomes the last ciphertext
-/// block. The status is as of `encrypt_cbc`.
+/// block. The status is as for `encrypt_cbc`.
 pub fn decrypt_cbc<S: Slice>(
     context: &[u64],
     iv: &mut [u8; 8],
@@ -197,8 +197,8 @@ pub fn decrypt_cbc<S: Slice>(
 }
 
 /// Copies blocks to a buffer of as many, if `size` is 8 for each: for a call from one buffer to
-/// another, which then goes on in place. Else the status is `ERR_BLOCKS`, and the buffer stays as it
-/// was.
+/// another, which then goes on in place. Otherwise the status is `ERR_BLOCKS`, and the buffer is
+/// unchanged.
 pub fn copy_whole(context: &[u64], input: &[[u8; 8]], output: &mut [[u8; 8]], size: usize) -> i32
     ensures unmarked { (result ≡ ERR_CONTEXT) ↔ ¬ (HasMark NO_MAC context.now) }
     ensures accepted { (result ≡ OK)

@@ -120,8 +120,8 @@ impl<W: BoxLookup> ContextCipher for Ede3<Des<W>> {
     }
 }
 
-/// Calls a generic function with the cipher of a type, by tables or by the lookup that is named. What
-/// it calls is not inlined: else each call would take the stack of the largest cipher.
+/// Calls a generic function with the cipher of a type, by tables or by the lookup that is named.
+/// What it calls is not inlined: otherwise each call would take the stack of the largest cipher.
 macro_rules! dispatch_cipher {
     ($cipher:expr, $call:ident $(::<$slice:ident>)?($($argument:expr),*)) => {
         $crate::ciphers::dispatch_cipher!(

@@ -26,7 +26,7 @@ use des_columns::pgcrypto::Scheme;
 use des_columns::{mysql, pgcrypto, status, writing};
 use des_fast::many::Slice;
 
-// What columns say of a value is what callers in C know it by.
+// The statuses of values in a column have the numbers that callers in C know.
 const _: () = prove!(
     OK == status::OK
         && ERR_BLOCKS == status::ERR_BLOCKS
@@ -61,9 +61,9 @@ pub fn mysql_decrypt_values<S: Slice>(
     if all { OK } else { ERR_VALUES }
 }
 
-/// Reads values of MySQL and MariaDB, each under the key of the server's file that its first byte names,
-/// as `des_columns::mysql::decrypt_values_by_file` does. `file` are the bytes of that file. The status
-/// is as of `mysql_decrypt_values`.
+/// Reads values of MySQL and MariaDB, each under the key of the server's file that its first byte
+/// names, as `des_columns::mysql::decrypt_values_by_file` does. `file` are the bytes of that file.
+/// The status is as for `mysql_decrypt_values`.
 pub fn mysql_decrypt_values_by_file<S: Slice>(
     file: &[u8],
     values: &[u8],
@@ -94,9 +94,9 @@ pub fn mysql_decrypt_values_by_file<S: Slice>(
     if all { OK } else { ERR_VALUES }
 }
 
-/// Reads values of pgcrypto by a scheme of this name, as `des_columns::pgcrypto::decrypt_values` does.
-/// The status is `ERR_ALGORITHM` if the name is none, and then nothing is written, and else as of
-/// `mysql_decrypt_values`.
+/// Reads values of pgcrypto by a scheme of this name, as `des_columns::pgcrypto::decrypt_values`
+/// does. The status is `ERR_ALGORITHM` if the name is none, and then nothing is written, and
+/// otherwise as for `mysql_decrypt_values`.
 pub fn pgcrypto_decrypt_values<S: Slice>(
     algorithm: &[u8],
     key: &[u8],
@@ -179,10 +179,10 @@ pub fn mysql_encrypt_values<S: Slice>(
     status
 }
 
-/// Writes values of pgcrypto by a scheme of this name, as `des_columns::pgcrypto::encrypt_values` does.
-/// The status is `ERR_ALGORITHM` if the name is none, `ERR_COUNTS` as of `mysql_encrypt_values`, and
-/// `ERR_BLOCKS` if the scheme has no padding and a text is not whole blocks; the buffer is then
-/// unchanged.
+/// Writes values of pgcrypto by a scheme of this name, as `des_columns::pgcrypto::encrypt_values`
+/// does. The status is `ERR_ALGORITHM` if the name is none, `ERR_COUNTS` as for
+/// `mysql_encrypt_values`, and `ERR_BLOCKS` if the scheme has no padding and a text is not whole
+/// blocks; the buffer is then unchanged.
 pub fn pgcrypto_encrypt_values<S: Slice>(
     algorithm: &[u8],
     key: &[u8],

@@ -40,8 +40,8 @@ fn combine_sized<const N: usize>(first: &[u8], second: &[u8], others: &[u8], key
 }
 
 /// The key that two or more components of its length make, 8, 16 or 24 bytes: their xor, with odd
-/// parity. The components after the second stand one after another in `others`. The status of a key
-/// that the weak key test refuses is `ERR_WEAK_KEY`, and then `key` is unchanged.
+/// parity. The components after the second stand one after another in `others`. The status for a
+/// key that the weak key test refuses is `ERR_WEAK_KEY`, and then `key` is unchanged.
 pub fn combine(first: &[u8], second: &[u8], others: &[u8], key: &mut [u8]) -> i32
     requires size { IsKeyLength (length key.old) }
     requires components { (length first.now ≡ length key.old)

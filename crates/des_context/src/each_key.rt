@@ -27,7 +27,7 @@ fn encrypt_by<C: ContextCipher + KeyForEach, S: Slice>(keys: &[u8], blocks: &mut
 }
 
 /// Encrypts each block in place under the key at its place: `keys` are keys of `key_size` bytes,
-/// one after another, of DES if these are 8, and else of triple DES in the EDE form. The status
+/// one after another, of DES if that is 8, and otherwise of triple DES in the EDE form. The status
 /// is `ERR_COUNTS` if the numbers of keys and blocks differ; the blocks are then unchanged.
 pub fn encrypt_each<S: Slice>(key_size: usize, keys: &[u8], blocks: &mut [[u8; 8]]) -> i32
     requires { IsKeyLength key_size }
@@ -58,7 +58,7 @@ fn decrypt_by<C: ContextCipher + KeyForEach, S: Slice>(keys: &[u8], blocks: &mut
     }
 }
 
-/// Decrypts each block in place under the key at its place. Keys and status are as of
+/// Decrypts each block in place under the key at its place. Keys and status are as for
 /// `encrypt_each`.
 pub fn decrypt_each<S: Slice>(key_size: usize, keys: &[u8], blocks: &mut [[u8; 8]]) -> i32
     requires { IsKeyLength key_size }

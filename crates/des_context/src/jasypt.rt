@@ -16,7 +16,7 @@ use des_columns::column::fits;
 use des_columns::pbe::Algorithm;
 use des_columns::{jasypt, status};
 
-// What is said of a value is what callers in C know it by.
+// The statuses of values have the numbers that callers in C know.
 const _: () = prove!(
     ERR_BASE64 == status::ERR_BASE64 && ERR_SALT_LENGTH == status::ERR_SALT_LENGTH
 );
@@ -78,8 +78,8 @@ pub fn jasypt_decrypt_values(
 
 /// Writes strings of Jasypt by the algorithm of this name, as `des_columns::jasypt::encrypt_values`
 /// does. The status is that of the first fault, and then nothing is written: `ERR_ALGORITHM` and
-/// `ERR_ITERATIONS` as of `jasypt_decrypt_values`; `ERR_COUNTS` if the lengths do not fit, there is not
-/// a salt for each text, or the buffer is not exactly as long as the values.
+/// `ERR_ITERATIONS` as for `jasypt_decrypt_values`; `ERR_COUNTS` if the lengths do not fit, there
+/// is not a salt for each text, or the buffer is not exactly as long as the values.
 pub fn jasypt_encrypt_values(
     algorithm: &[u8],
     iterations: usize,

@@ -73,7 +73,7 @@ fn one_cipher_macs_each_by<C: ContextCipher + KeyForEach, S: Slice>(
     }
 }
 
-// The tags of the retail MAC over DES under two keys, by padding method 2 or else 1.
+// The tags of the retail MAC over DES under two keys, by padding method 2 or 1.
 fn retail_macs_by<S: Slice>(
     first: &[u8; 8],
     second: &[u8; 8],
@@ -94,7 +94,7 @@ fn retail_macs_by<S: Slice>(
 }
 
 // The tags of the retail MAC over DES, each under the two keys at its place, by padding method 2 or
-// else 1.
+// 1.
 fn retail_macs_each_by<S: Slice>(
     first: &[[u8; 8]],
     second: &[[u8; 8]],
@@ -189,7 +189,7 @@ fn write_retail_macs<S: Slice>(
     Ok(())
 }
 
-// The tags under one key, by padding method 2 or else 1.
+// The tags under one key, by padding method 2 or 1.
 fn macs_by<S: Slice>(
     algorithm: u32,
     padding: u32,
@@ -214,8 +214,8 @@ fn macs_by<S: Slice>(
 }
 
 /// Writes the tag of each message at its place, with padding method 1 or 2, which plays no part in
-/// CMAC. The status of another padding is `ERR_PADDING_METHOD`, that of
-/// messages and tags of different numbers `ERR_COUNTS`; the tags are then unchanged.
+/// CMAC. The status for any other padding is `ERR_PADDING_METHOD`, and for different numbers of
+/// messages and tags `ERR_COUNTS`; the tags are then unchanged.
 pub fn macs<S: Slice>(
     algorithm: u32,
     padding: u32,
@@ -238,7 +238,7 @@ pub fn macs<S: Slice>(
     }
 }
 
-// The tags, each under the key at its place, by padding method 2 or else 1.
+// The tags, each under the key at its place, by padding method 2 or 1.
 fn macs_each_by<S: Slice>(
     algorithm: u32,
     padding: u32,
@@ -264,8 +264,8 @@ fn macs_each_by<S: Slice>(
 }
 
 /// Writes the tag of each message under the key at its place: `keys` are keys of `key_size` bytes,
-/// one after another. Padding and status are as of `macs`, and the status is `ERR_COUNTS` also
-/// if the number of keys is another one.
+/// one after another. Padding and status are as for `macs`, and the status is `ERR_COUNTS` also if
+/// the number of keys differs.
 pub fn macs_each<S: Slice>(
     algorithm: u32,
     padding: u32,

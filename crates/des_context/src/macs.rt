@@ -45,7 +45,7 @@ impl MessageState {
     }
 }
 
-// Adds bytes to a message, under the cipher of a context: all MACs take bytes in alike, by
+// Adds bytes to a message, under the cipher of a context: all MACs take bytes in the same way, by
 // CBC.
 #[inline(never)]
 fn extend<C: ContextCipher>(context: &[u64], message: &mut MessageState, bytes: &[u8])
@@ -123,8 +123,8 @@ fn write_words(algorithm: u32, context: &mut [u64], key: &[u8], no_tables: bool)
 }
 
 /// Makes the words of a MAC of the bytes of a key, without tables, so that its calls read none, or
-/// with them, and of the message of no bytes, with padding method 1 or 2. The status of a key of
-/// another length than the words can hold is `ERR_KEY_LENGTH`, of another padding
+/// with them, and of the message of no bytes, with padding method 1 or 2. The status for a key of a
+/// length that the words cannot hold is `ERR_KEY_LENGTH`, and for any other padding
 /// `ERR_PADDING_METHOD`; the words and the message are then unchanged.
 pub fn init(
     algorithm: u32,
@@ -166,8 +166,8 @@ fn cbc_words(algorithm: u32, context: &[u64]) -> &[u64]
     }
 }
 
-/// Adds bytes to the message, after those that it has. The status of words that `init` did not make
-/// for the algorithm is `ERR_CONTEXT`; the message is then unchanged.
+/// Adds bytes to the message, after those that it has. The status for words that `init` did not
+/// make for the algorithm is `ERR_CONTEXT`; the message is then unchanged.
 pub fn update(algorithm: u32, context: &[u64], message: &mut MessageState, bytes: &[u8]) -> i32
     requires cipher_type { HasMacCipherType algorithm context.now }
     requires sound { IsSoundMacIfMarked algorithm context.now message.old }
@@ -186,7 +186,7 @@ pub fn update(algorithm: u32, context: &[u64], message: &mut MessageState, bytes
     OK
 }
 
-// The tag of CBC-MAC, or else of CMAC, of a message, under the cipher of a context.
+// The tag of CBC-MAC, or of CMAC, of a message, under the cipher of a context.
 #[inline(never)]
 fn one_cipher_tag<C: ContextCipher>(
     context: &[u64],
@@ -274,7 +274,7 @@ fn tag(algorithm: u32, no_tables: bool, context: &[u64], message: &MessageState)
     }
 }
 
-/// Writes the tag of the message, which may go on. The status is as of `update`, and the tag of
+/// Writes the tag of the message, which may go on. The status is as for `update`, and the tag of
 /// words that it refuses is unchanged.
 pub fn write_tag(
     algorithm: u32,

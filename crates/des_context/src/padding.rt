@@ -26,7 +26,7 @@ pub fn padding_of(method: i32) -> Option<Padding>
     }
 }
 
-/// The number of bytes before their padding; none if they don't end with the padding.
+/// The number of bytes before their padding; `None` if they do not end with the padding.
 pub fn count_unpadded(padding: Padding, bytes: &[u8]) -> Option<usize>
     requires padding { padding ≢ Unpadded }
     requires taken_off { taken_off padding ≡ padding }

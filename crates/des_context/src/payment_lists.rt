@@ -29,7 +29,7 @@ fn values_by<C: ContextCipher + KeyForEach, S: Slice>(keys: &[u8], values: &mut 
 }
 
 /// The check value of each key at its place: `keys` are keys of `key_size` bytes, one after
-/// another, of DES if these are 8, and else of triple DES in the EDE form. The status is
+/// another, of DES if that is 8, and otherwise of triple DES in the EDE form. The status is
 /// `ERR_COUNTS` if the numbers of keys and values differ; the values are then unchanged.
 pub fn check_values<S: Slice>(key_size: usize, keys: &[u8], values: &mut [[u8; 3]]) -> i32
     requires { IsKeyLength key_size }

@@ -54,10 +54,10 @@ fn decrypt_records<C: ContextCipher + SpreadOnce, S: Slice>(
 }
 
 /// Encrypts records in place by CBC, in step: `sizes[k]` blocks are record k, one record after
-/// another in `blocks`, and `vectors[k]`, from which CBC begins, becomes its last ciphertext
-/// block. The status is `ERR_CONTEXT` or `ERR_BLOCKS` as of `encrypt_ecb`, and `ERR_COUNTS`
-/// if the numbers of vectors and sizes differ, or the sizes do not add up to the number of
-/// blocks; vectors and blocks are then unchanged.
+/// another in `blocks`, and `vectors[k]`, from which CBC begins, becomes its last ciphertext block.
+/// The status is `ERR_CONTEXT` or `ERR_BLOCKS` as for `encrypt_ecb`, and `ERR_COUNTS` if the
+/// numbers of vectors and sizes differ, or the sizes do not add up to the number of blocks; vectors
+/// and blocks are then unchanged.
 pub fn encrypt_cbc_records<S: Slice>(
     context: &[u64],
     vectors: &mut [[u8; 8]],
@@ -92,8 +92,8 @@ pub fn encrypt_cbc_records<S: Slice>(
     )
 }
 
-/// Decrypts records in place that CBC encrypted, as `encrypt_cbc_records` does. The status is as of
-/// that call.
+/// Decrypts records in place that CBC encrypted, as `encrypt_cbc_records` does. The status is as
+/// for that call.
 pub fn decrypt_cbc_records<S: Slice>(
     context: &[u64],
     vectors: &mut [[u8; 8]],

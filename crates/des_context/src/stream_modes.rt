@@ -1,6 +1,7 @@
-//! CTR, OFB and CFB over any context and any width, by the number of a mode: a stream of bytes in pieces,
-//! or a whole text. A call refuses first words that do not end with the mark of a cipher's init, by
-//! `ERR_CONTEXT`, then words that are no stream, by `ERR_STREAM`. The cipher is made as for ECB.
+//! CTR, OFB and CFB over any context and any width, by the number of the mode: a stream of bytes in
+//! pieces, or a whole text. A call refuses first words that do not end with the mark of a cipher's
+//! init, by `ERR_CONTEXT`, then words that are no stream, by `ERR_STREAM`. The cipher is made as
+//! for ECB.
 
 ghost use Rattle.std.specs.Prelude.{◌≡◌, ◌≢◌, ◌↔◌, ◌≤◌, ◌*◌, ◌++◌, ℕ, Bool, List, [], length, drop};
 ghost use Rattle.des.specs.Bits.{bits_of_bytes};
@@ -57,8 +58,8 @@ fn apply_by<C: ContextCipher + ManyBlocks, S: Slice>(
     stream.apply(direction, mode, &cipher, bytes);
 }
 
-// Encrypts or decrypts the first `bits` bits, which come next, by a cipher: bit after bit, so that no
-// width is quicker.
+// Encrypts or decrypts the first `bits` bits, which come next, by a cipher: bit after bit, so that
+// no width is faster.
 #[inline(never)]
 fn apply_bits_by<C: ContextCipher + ManyBlocks>(
     direction: Direction,
@@ -84,8 +85,9 @@ fn apply_bits_by<C: ContextCipher + ManyBlocks>(
     stream.apply_bits(direction, &cipher, bytes, bits);
 }
 
-/// Begins a stream in the mode of a number from an initialization vector, or for the counter mode the
-/// first counter block. The status of another number is `ERR_MODE`; the stream is then unchanged.
+/// Begins a stream in the mode of a number from an initialization vector, or for the counter mode
+/// the first counter block. The status for any other number is `ERR_MODE`; the stream is then
+/// unchanged.
 pub fn begin(stream: &mut Stream, mode: u32, iv: &[u8; 8]) -> i32
     ensures accepted { (result ≡ OK) ↔ IsMode mode }
     ensures refused { (result ≡ ERR_MODE) ↔ ¬ (IsMode mode) }
@@ -104,9 +106,9 @@ pub fn begin(stream: &mut Stream, mode: u32, iv: &[u8; 8]) -> i32
     }
 }
 
-/// Encrypts or decrypts in place the bytes that come next in a stream: any number of them. In pieces,
-/// wherever they are cut, they become what they become as one. The status of words that are no stream is
-/// `ERR_STREAM`; they and the bytes are then unchanged.
+/// Encrypts or decrypts in place the bytes that come next in a stream: any number of them. In
+/// pieces, wherever they are cut, they become what they become as one. The status for words that
+/// are no stream is `ERR_STREAM`; they and the bytes are then unchanged.
 pub fn apply_stream<S: Slice>(
     direction: Direction,
     context: &[u64],
@@ -148,9 +150,9 @@ pub fn apply_stream<S: Slice>(
     OK
 }
 
-/// Encrypts or decrypts in place the first `bits` bits, which come next in a stream of CFB1: any number
-/// of them. The others stay. The status of a stream of another mode is `ERR_MODE`, of words that are no
-/// stream `ERR_STREAM`; they and the bytes are then unchanged.
+/// Encrypts or decrypts in place the first `bits` bits, which come next in a stream of CFB1: any
+/// number of them. The others are unchanged. The status for a stream of another mode is `ERR_MODE`,
+/// and for words that are no stream `ERR_STREAM`; they and the bytes are then unchanged.
 pub fn apply_stream_bits(
     direction: Direction,
     context: &[u64],
@@ -191,9 +193,9 @@ pub fn apply_stream_bits(
     OK
 }
 
-/// Encrypts or decrypts a text in place by the mode of a number, from an initialization vector, or for
-/// the counter mode the first counter block. The status of another number is `ERR_MODE`; the text is
-/// then unchanged.
+/// Encrypts or decrypts a text in place by the mode of a number, from an initialization vector, or
+/// for the counter mode the first counter block. The status for any other number is `ERR_MODE`; the
+/// text is then unchanged.
 pub fn apply_mode<S: Slice>(
     direction: Direction,
     context: &[u64],

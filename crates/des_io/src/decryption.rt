@@ -91,9 +91,9 @@ fn left_after(left: Option<u64>, count: usize) -> Option<u64>
     }
 }
 
-/// Decrypts what the reader gives, up to its end or to a limit in blocks, and writes it but for the
-/// last block, which it gives. The buffer has one block at least; what it holds afterwards, which
-/// can be plaintext, is not said. The writer is not flushed.
+/// Decrypts what the reader gives, up to its end or to a limit in blocks, and writes it except for
+/// the last block, which it returns. The buffer has one block at least; what it holds afterwards,
+/// which can be plaintext, is not said. The writer is not flushed.
 ///
 /// The error is `Read` or `Write` if the reader or the writer failed, and `Length` if what was
 /// read is not whole blocks. The writer then has a prefix of what was read, decrypted, without its
@@ -161,7 +161,7 @@ pub fn finish<W: Write>(
 }
 
 /// Decrypts what the reader gives, up to its end, and writes it without its padding, a buffer at a
-/// time; if that is `Zeros`, nothing is taken off. The buffer has one block at least; what it holds
+/// time; if that is `Zeros`, nothing is removed. The buffer has one block at least; what it holds
 /// afterwards, which can be plaintext, is not said. The writer is not flushed.
 ///
 /// The error is `Read` or `Write` if the reader or the writer failed, `Length` if what was read

@@ -6,7 +6,7 @@ ghost use Rattle.std.specs.IoError.{error_kind};
 use std::io::{Error, ErrorKind};
 use std::{fmt, io};
 
-/// Why a stream ended before its time.
+/// Why a stream ended early.
 #[derive(Debug, Drop)]
 pub enum StreamError {
     /// The reader failed, and was not only interrupted.
@@ -39,8 +39,8 @@ impl fmt::Display for StreamError {
     }
 }
 
-// The error if a loop has gone round 2^64 - 1 times, which no process lives to see: a loop over a
-// reader or a writer has an end of its own, since each call is proved to return.
+// The error if a loop has run 2^64 - 1 times, which no process lives to see: a loop over a reader
+// or a writer has an end of its own, since each call is proved to return.
 pub(crate) fn without_end() -> Error
     ensures { error_kind result ≡ ErrorKind.TimedOut }
 {

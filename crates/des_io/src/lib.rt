@@ -9,9 +9,9 @@
 //! error.
 //!
 //! After an error the reader is somewhere after the bytes that what was written comes from, and how
-//! far is not said: neither it nor the writer can be gone on with. No call flushes the writer: the
-//! caller does, at success, if it holds bytes back. What the buffer holds after a call is not
-//! said either, and it can be plaintext.
+//! far is not said: neither it nor the writer can be used further. No call flushes the writer: the
+//! caller does, at success, if it holds bytes back. What the buffer holds after a call is not said
+//! either, and it can be plaintext.
 #![tactic(auto)]
 
 pub mod decryption;

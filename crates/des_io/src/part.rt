@@ -14,8 +14,8 @@ use crate::transformation::Transformation;
 use des_fast::many::ManyBlocks;
 use std::io::{Read, Write};
 
-/// Reads the `count` blocks before a part, and gives how the blocks of the part go on from them. The
-/// buffer has one block at least; what it holds afterwards is not said.
+/// Reads the `count` blocks before a part, and returns how the blocks of the part go on from them.
+/// The buffer has one block at least; what it holds afterwards is not said.
 ///
 /// The error is `Start` if there are fewer blocks, and `Read` if the reader failed, which may
 /// then be anywhere in them.

@@ -476,7 +476,7 @@ fn write_sealed(
 }
 
 /// Writes the key block of a header, optional blocks, a key of 8, 16 or 24 bytes and random padding
-/// under a protection key of 16 or 24 bytes to the front of `text`, and gives how many characters
+/// under a protection key of 16 or 24 bytes to the front of `text`, and returns how many characters
 /// it has.
 ///
 /// The padding fills the last eight bytes after two bytes of length and the key; 22, 14 or 6 bytes
@@ -485,13 +485,13 @@ fn write_sealed(
 /// key's context is `StorageOrExchange`.
 ///
 /// The first fault is reported, in this order: `ProtectionKeyLength`; `Version`, if it is `A`;
-/// `Header`, if a field has other characters than letters and digits; `KeyLength`;
-/// `PaddingLength`; `OptionalBlock`, if there are more than 99, or one has a name that is not
-/// letters and digits or a content that is not printable ASCII; `Length`, if they have more than
-/// 9999 characters; `OptionalBlock`, if a `PB` is not their last, or does not end at a multiple
-/// of eight characters, or if one more than 99 would have to fill them; `Length`, if the block
-/// has more than 9999 characters or `text` is too short. After a fault `text` is what it was, and
-/// else what stands in it after the block is.
+/// `Header`, if a field has other characters than letters and digits; `KeyLength`; `PaddingLength`;
+/// `OptionalBlock`, if there are more than 99, or one has a name that is not letters and digits or
+/// a content that is not printable ASCII; `Length`, if they have more than 9999 characters;
+/// `OptionalBlock`, if a `PB` is not their last, or does not end at a multiple of eight characters,
+/// or if one more than 99 would have to fill them; `Length`, if the block has more than 9999
+/// characters or `text` is too short. After a fault `text` is what it was, and otherwise what
+/// stands in it after the block is.
 pub fn wrap(
     protection: &[u8],
     header: &Header,

@@ -96,7 +96,7 @@ fn cryptogram_line(alloc: Global, inputs: Inputs) -> Lines
     Ok(hex_line(alloc, &emv::application_cryptogram(&session, bytes))?)
 }
 
-// Reads the issuer's data, at most eight bytes, into the first bytes of a block, and gives their
+// Reads the issuer's data, at most eight bytes, into the first bytes of a block, and returns their
 // number.
 fn read_data(text: &str, block: &mut [u8; 8]) -> Result<usize, FaultKind>
     ensures fault { FailsOnlyBy (issuer_data_fault text.now) result }

@@ -37,9 +37,9 @@ fn is_key_length(count: usize, size: Option<u8>) -> bool
     }
 }
 
-/// The bytes of a key that hexadecimal digits write: of `size` bytes, 8, 16 or 24, or of one of these
-/// if no size is named. The fault is `KeyLength` if the number of digits is another, `KeyText`
-/// if a character is none, and else `Memory`.
+/// The bytes of a key that hexadecimal digits write: of `size` bytes, 8, 16 or 24, or of one of
+/// these if no size is named. The fault is `KeyLength` if the number of digits is another,
+/// `KeyText` if a character is none, and otherwise `Memory`.
 pub fn key_of_digits(alloc: Global, digits: &[u8], size: Option<u8>) -> Result<Vec<u8>, FaultKind>
     requires { IfSome size IsKeySize }
     ensures fault { FailsBy (key_fault size digits.now) result }

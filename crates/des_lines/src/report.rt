@@ -15,7 +15,8 @@ use std::io::{self, Write};
 // As much as a pipe takes at once, so that lines of programs that write beside each other stay whole.
 const LINE_AT_MOST: usize = 4096;
 
-// A line that is gathered to be written at once. It takes no memory, whose want is told by a line too.
+// A line that is gathered to be written at once. It allocates nothing, since a lack of memory is
+// reported by a line too.
 #[derive(Drop)]
 struct Line {
     bytes: [u8; LINE_AT_MOST],

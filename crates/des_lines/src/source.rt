@@ -25,7 +25,7 @@ fn is_between(byte: u8) -> bool
     is_space(byte) || b":-_.,;/\\='\"xX".contains(&byte)
 }
 
-// Whether a character is a digit: a hexadecimal one, or else a decimal one.
+// Whether a character is a digit: a hexadecimal one, or a decimal one.
 fn is_digit(is_hexadecimal: bool, byte: u8) -> bool
     ensures { result ≡ is_digit_of is_hexadecimal byte }
 {

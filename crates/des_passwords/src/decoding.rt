@@ -28,7 +28,7 @@ pub(crate) trait Decoding: Copy {
         ensures { result ≡ is_stuck_of self };
 }
 
-// Moves what a text gives to its front, and tells how much that is.
+// Moves what a text gives to its front, and returns how much that is.
 fn squeeze<P: Decoding>(position: &mut P, text: &mut [u8]) -> usize
     ensures given { take result text.new ≡ given_by P.after_of P.given_of position.old text.old }
     ensures position { position.new ≡ after_all P.after_of position.old text.old }

@@ -171,7 +171,8 @@ impl<R: Read> HexReader<R> {
 }
 
 impl<R: Read + Drop> HexReader<R> {
-    /// Ends the reader. If a read failed by what is no text of digits, gives why.
+    /// Ends the reader. If a read failed because the text has other characters than digits, returns
+    /// why.
     pub fn fault(self) -> Option<HexFault>
         ensures { result ≡ fault_of self }
     {

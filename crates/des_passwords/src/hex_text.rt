@@ -13,7 +13,7 @@ pub struct Seen {
     pub has_digits: bool,
     /// The number of digits is odd.
     pub is_odd: bool,
-    /// There is something else than digits and line ends.
+    /// There is something other than digits and line ends.
     pub has_others: bool,
 }
 
@@ -36,7 +36,8 @@ fn has_other(text: &[u8]) -> bool
 }
 
 impl Seen {
-    /// What was seen after a piece more of a text. After something else, nothing more is looked at.
+    /// What was seen after one more piece of a text. After something else, nothing more is looked
+    /// at.
     pub fn after(self, text: &[u8]) -> Seen
         ensures { result ≡ seen_after self text.now }
     {

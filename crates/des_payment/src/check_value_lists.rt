@@ -31,10 +31,10 @@ fn check_group<C: KeyForEach, S: Slice>(keys: &[C::Key], values: &mut [[u8; 3]])
     write_values(values, group);
 }
 
-/// Writes the check value of each key at its place, as `check_value` gives it: the first three
+/// Writes the check value of each key at its place, as `check_value` returns it: the first three
 /// bytes of the block of zeros, encrypted under the key. The keys of a group of at most 256 are
-/// treated together, `S::BATCH` at a time, with no table at an index that depends on a key. If
-/// the two lists differ in length, the error is `NotEqualError`, and the values are unchanged.
+/// treated together, `S::BATCH` at a time, with no table at an index that depends on a key. If the
+/// two lists differ in length, the error is `NotEqualError`, and the values are unchanged.
 pub fn check_values_by<S: Slice, C: KeyForEach>(
     keys: &[C::Key],
     values: &mut [[u8; 3]],

@@ -143,8 +143,8 @@ pub(crate) fn read_or_zeros(format: u8, least: u8, field: &[u8; 16]) -> (bool, P
     (is_right, pin_or_zeros(is_right, field))
 }
 
-// The PIN of a PIN field of a format that has fill digits from a least one to 15. Its fault is told
-// after each digit was looked at.
+// The PIN of a PIN field of a format that has fill digits from a least one to 15. Its fault is
+// reported after each digit was looked at.
 pub(crate) fn read_pin(format: u8, least: u8, field: &[u8; 16]) -> Result<Pin, PinError>
     ensures fault { result_err result ≡ field_fault format least field.now }
     ensures pin { IfOk result (λ pin. pin ≡ text_of (pin_digits field.now)) }

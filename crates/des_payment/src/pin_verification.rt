@@ -80,8 +80,9 @@ fn check_equal(text: &[u8], right: &[u8]) -> Result<(), VerificationError>
     }
 }
 
-/// Accepts the PIN verification value that `pvv` gives and no other: its faults, and then `WrongPin`
-/// if the four characters are others. Every character is looked at, wherever the two differ.
+/// Accepts the PIN verification value that `pvv` returns and no other: its faults, and then
+/// `WrongPin` if the four characters are others. Every character is looked at, wherever the two
+/// differ.
 pub fn verify_pvv(
     key: &[u8; 16],
     account: &[u8],
@@ -170,7 +171,7 @@ fn sum_of(natural: &Pin, offset: &Pin) -> Pin
 }
 
 /// The offset of a PIN: digit by digit, modulo ten, the PIN less the natural PIN of as many digits
-/// that `natural_pin` gives. It has a PIN's form, and `KeyLength` is its fault.
+/// that `natural_pin` returns. It has a PIN's form, and `KeyLength` is its fault.
 pub fn pin_offset(
     key: &[u8],
     table: &DecimalTable,

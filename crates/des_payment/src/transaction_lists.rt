@@ -60,7 +60,7 @@ fn selected(mask: u8, taken: &[u8; 16], kept: &[u8; 16]) -> [u8; 16]
     key
 }
 
-// The next key if the counter's bit at a place is a one, and else the key.
+// The next key if the counter's bit at a place is a one, and otherwise the key.
 fn key_after(serial: &[u8; 10], place: u32, next: &[u8; 16], key: &[u8; 16]) -> [u8; 16]
     requires { place < 21 }
     ensures { result ≡ (if bit_at (counter_of serial.now) place == 1 then next.now else key.now) }
@@ -139,7 +139,7 @@ fn next_halves<S: Slice>(serials: &[[u8; 10]], place: u32, keys: &[[u8; 16]]) ->
     xored_blocks(&blocks, keys)
 }
 
-// Of each lane the key of these halves if the counter's bit at a place is a one, and else the
+// Of each lane the key of these halves if the counter's bit at a place is a one, and otherwise the
 // key that it has.
 fn keys_after(
     serials: &[[u8; 10]],
@@ -270,8 +270,9 @@ fn initial_group<S: Slice>(base: &[u8; 16], serials: &[[u8; 10]], keys: &mut [[u
     join_halves(keys, &left, &right);
 }
 
-// Writes the initial key of the terminal of each serial number at its place, as `initial_key` gives
-// it from the base derivation key. Groups of at most 256 are treated together, `S::BATCH` at a time.
+// Writes the initial key of the terminal of each serial number at its place, as `initial_key` makes
+// it from the base derivation key. Groups of at most 256 are treated together, `S::BATCH` at a
+// time.
 fn initial_keys_by<S: Slice>(
     base: &[u8; 16],
     serials: &[[u8; 10]],
@@ -298,7 +299,7 @@ fn initial_keys_by<S: Slice>(
 }
 
 /// Writes the key of the transaction of each serial number at its place, from the base derivation
-/// key: as `transaction_key` gives it from `initial_key`. The terminals may be different ones.
+/// key: as `transaction_key` makes it from `initial_key`. The terminals may be different ones.
 /// Groups of at most 256 are treated together, `S::BATCH` at a time. If the two lists differ in
 /// length, the error is `NotEqualError`, and the keys are unchanged.
 pub fn transaction_keys_by<S: Slice>(

@@ -160,8 +160,8 @@ fn encoded(format: Format, pin: &Pin, account: &[u8], fill: &[u8; 10]) -> [u8; 8
 /// It goes from the formats 0, 1 and 3 to the formats 0 and 3; for 1 to 1 there is
 /// `translate_format_1`. The account number, a text of 8 to 19 digits with the check digit, is that
 /// of both blocks, and the fill digits are those of an outgoing block of format 3. The faults are
-/// `KeyLength`, `Formats`, `AccountLength`, `AccountDigit` and `Fill`, and then `Block`, whatever is
-/// wrong with the block: it is told last, when a block was encrypted all the same.
+/// `KeyLength`, `Formats`, `AccountLength`, `AccountDigit` and `Fill`, and then `Block`, whatever
+/// is wrong with the block: it is reported last, after a block was encrypted all the same.
 pub fn translate(
     incoming: &[u8],
     from: Format,
@@ -186,10 +186,10 @@ pub fn translate(
     }
 }
 
-/// Translates a PIN block of format 1 that is encrypted under one key, of 8, 16 or 24 bytes, into the
-/// same block under another: by DES, or by triple DES in the EDE form. The transaction digits, which
-/// are any, stay, and there is no account number. The faults are `KeyLength`, and then `Block`, which
-/// is told last as by `translate`.
+/// Translates a PIN block of format 1 that is encrypted under one key, of 8, 16 or 24 bytes, into
+/// the same block under another: by DES, or by triple DES in the EDE form. The transaction digits,
+/// whatever they are, do not change, and there is no account number. The faults are `KeyLength`,
+/// and then `Block`, which is reported last, as by `translate`.
 pub fn translate_format_1(
     incoming: &[u8],
     outgoing: &[u8],

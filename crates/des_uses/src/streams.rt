@@ -71,7 +71,8 @@ pub fn decrypt<R: Read, W: Write, C: ManyBlocks>(
     decrypt_stream(&transformation, reader, writer, &mut [[0; 8]; 512])
 }
 
-/// Reads the first `from` blocks of what `encrypt` wrote, and gives how the part goes on from them.
+/// Reads the first `from` blocks of what `encrypt` wrote, and returns how the part goes on from
+/// them.
 pub fn begin_part<R: Read>(iv: [u8; 8], from: u64, reader: &mut R) -> Result<BlockMode, StreamError>
     ensures skips { IfOk result (λ next. Skips (Cbc iv) next from
         (R.remaining reader.old) (R.remaining reader.new)) }

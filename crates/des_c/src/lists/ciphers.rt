@@ -80,7 +80,7 @@ pub extern "C" fn cukvashe_internal_encrypt_ecb_to(
 }
 
 /// Writes the bytes of `input`, decrypted as by `cukvashe_internal_decrypt_ecb`, to `output`. The
-/// status is as of `cukvashe_internal_encrypt_ecb_to`.
+/// status is as for `cukvashe_internal_encrypt_ecb_to`.
 #[unsafe(no_mangle)]
 pub extern "C" fn cukvashe_internal_decrypt_ecb_to(
     context: &[u64],

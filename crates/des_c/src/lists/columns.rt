@@ -41,8 +41,9 @@ pub extern "C" fn cukvashe_internal_mysql_decrypt_values(
     mysql_decrypt_values::<Width>(password, values, lengths, texts, text_lengths, statuses)
 }
 
-/// Reads values of MySQL and MariaDB, each under the key of the server's file that its first byte names,
-/// as `des_columns::mysql::decrypt_values_by_file` does. The status is as of `mysql_decrypt_values`.
+/// Reads values of MySQL and MariaDB, each under the key of the server's file that its first byte
+/// names, as `des_columns::mysql::decrypt_values_by_file` does. The status is as for
+/// `mysql_decrypt_values`.
 #[unsafe(no_mangle)]
 pub extern "C" fn cukvashe_internal_mysql_decrypt_values_by_file(
     keys: &[u8],
@@ -62,9 +63,9 @@ pub extern "C" fn cukvashe_internal_mysql_decrypt_values_by_file(
     mysql_decrypt_values_by_file::<Width>(keys, values, lengths, texts, text_lengths, statuses)
 }
 
-/// Reads values of pgcrypto by a scheme of this name, as `des_columns::pgcrypto::decrypt_values` does.
-/// The status is `ERR_ALGORITHM` if the name is none, and then nothing is written, and else as of
-/// `mysql_decrypt_values`.
+/// Reads values of pgcrypto by a scheme of this name, as `des_columns::pgcrypto::decrypt_values`
+/// does. The status is `ERR_ALGORITHM` if the name is none, and then nothing is written, and
+/// otherwise as for `mysql_decrypt_values`.
 #[unsafe(no_mangle)]
 pub extern "C" fn cukvashe_internal_pgcrypto_decrypt_values(
     algorithm: &[u8],
@@ -120,10 +121,10 @@ pub extern "C" fn cukvashe_internal_mysql_encrypt_values(
     mysql_encrypt_values::<Width>(password, number, texts, lengths, values)
 }
 
-/// Writes values of pgcrypto by a scheme of this name, as `des_columns::pgcrypto::encrypt_values` does.
-/// The status is `ERR_ALGORITHM` if the name is none, `ERR_COUNTS` as of `mysql_encrypt_values`, and
-/// `ERR_BLOCKS` if the scheme has no padding and a text is not whole blocks; the buffer is then
-/// unchanged.
+/// Writes values of pgcrypto by a scheme of this name, as `des_columns::pgcrypto::encrypt_values`
+/// does. The status is `ERR_ALGORITHM` if the name is none, `ERR_COUNTS` as for
+/// `mysql_encrypt_values`, and `ERR_BLOCKS` if the scheme has no padding and a text is not whole
+/// blocks; the buffer is then unchanged.
 #[unsafe(no_mangle)]
 pub extern "C" fn cukvashe_internal_pgcrypto_encrypt_values(
     algorithm: &[u8],

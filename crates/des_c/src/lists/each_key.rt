@@ -29,7 +29,7 @@ pub extern "C" fn cukvashe_internal_encrypt_each(
     encrypt_each::<Width>(key_size, keys, blocks)
 }
 
-/// Decrypts each block in place under the key at its place. Keys and status are as of encryption.
+/// Decrypts each block in place under the key at its place. Keys and status are as for encryption.
 #[unsafe(no_mangle)]
 pub extern "C" fn cukvashe_internal_decrypt_each(
     key_size: usize,

@@ -13,8 +13,8 @@ use des_context::mac_lists;
 use des_context::status::OK;
 
 /// Writes the tag of each message at its place, with padding method 1 or 2, which plays no part in
-/// CMAC. The status of another padding is `ERR_PADDING_METHOD`, that of messages and tags of
-/// different numbers `ERR_COUNTS`; the tags are then unchanged.
+/// CMAC. The status for any other padding is `ERR_PADDING_METHOD`, and for different numbers of
+/// messages and tags `ERR_COUNTS`; the tags are then unchanged.
 #[unsafe(no_mangle)]
 pub extern "C" fn cukvashe_internal_macs(
     algorithm: u32,
@@ -33,8 +33,8 @@ pub extern "C" fn cukvashe_internal_macs(
 }
 
 /// Writes the tag of each message under the key at its place: `keys` are keys of `key_size` bytes,
-/// one after another. Padding and status are as of `cukvashe_internal_macs`, and the status is
-/// `ERR_COUNTS` also if the number of keys is another one.
+/// one after another. Padding and status are as for `cukvashe_internal_macs`, and the status is
+/// `ERR_COUNTS` also if the number of keys differs.
 #[unsafe(no_mangle)]
 pub extern "C" fn cukvashe_internal_macs_each(
     algorithm: u32,

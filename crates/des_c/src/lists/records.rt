@@ -42,7 +42,7 @@ pub extern "C" fn cukvashe_internal_encrypt_cbc_records(
     encrypt_cbc_records::<Width>(context, vectors, counts, blocks, size)
 }
 
-/// Decrypts records in place that CBC encrypted. The status is as of encryption.
+/// Decrypts records in place that CBC encrypted. The status is as for encryption.
 #[unsafe(no_mangle)]
 pub extern "C" fn cukvashe_internal_decrypt_cbc_records(
     context: &[u64],

@@ -14,8 +14,8 @@ use des_context::stream_modes;
 use des_modes::Direction;
 use des_modes::stream::Stream;
 
-/// Encrypts in place the bytes that come next in a stream: any number of them. The status of words that
-/// are no stream is `ERR_STREAM`; they and the bytes are then unchanged.
+/// Encrypts in place the bytes that come next in a stream: any number of them. The status for words
+/// that are no stream is `ERR_STREAM`; they and the bytes are then unchanged.
 #[unsafe(no_mangle)]
 pub extern "C" fn cukvashe_internal_encrypt_stream(
     context: &[u64],
@@ -42,7 +42,7 @@ pub extern "C" fn cukvashe_internal_encrypt_stream(
     stream_modes::apply_stream::<Width>(Direction::Encrypt, context, stream, bytes)
 }
 
-/// Decrypts in place the bytes that come next in a stream. The status is as of
+/// Decrypts in place the bytes that come next in a stream. The status is as for
 /// `cukvashe_internal_encrypt_stream`.
 #[unsafe(no_mangle)]
 pub extern "C" fn cukvashe_internal_decrypt_stream(
@@ -70,9 +70,9 @@ pub extern "C" fn cukvashe_internal_decrypt_stream(
     stream_modes::apply_stream::<Width>(Direction::Decrypt, context, stream, bytes)
 }
 
-/// Encrypts a text in place by the mode of a number, from an initialization vector, or for the counter
-/// mode the first counter block. The status of another number is `ERR_MODE`; the text is then
-/// unchanged.
+/// Encrypts a text in place by the mode of a number, from an initialization vector, or for the
+/// counter mode the first counter block. The status for any other number is `ERR_MODE`; the text is
+/// then unchanged.
 #[unsafe(no_mangle)]
 pub extern "C" fn cukvashe_internal_encrypt_mode(
     context: &[u64],
@@ -91,7 +91,7 @@ pub extern "C" fn cukvashe_internal_encrypt_mode(
     stream_modes::apply_mode::<Width>(Direction::Encrypt, context, mode, iv, bytes)
 }
 
-/// Decrypts a text in place by the mode of a number. The status is as of
+/// Decrypts a text in place by the mode of a number. The status is as for
 /// `cukvashe_internal_encrypt_mode`.
 #[unsafe(no_mangle)]
 pub extern "C" fn cukvashe_internal_decrypt_mode(

@@ -53,7 +53,7 @@ pub extern "C" fn cukvashe_emv_card_key(
     }
 }
 
-/// The key of a card by option B (A1.4.2), and else as `cukvashe_emv_card_key`.
+/// The key of a card by option B (A1.4.2), and otherwise as `cukvashe_emv_card_key`.
 #[unsafe(no_mangle)]
 pub extern "C" fn cukvashe_emv_card_key_b(
     issuer: &[u8; 16],
@@ -122,8 +122,8 @@ pub extern "C" fn cukvashe_emv_response_1(
 }
 
 /// The response by method 2 (8.2.2) to an application cryptogram, with a card status update of four
-/// bytes and at most eight bytes of the issuer's. The status of more is `ERR_DATA_LENGTH`, and then
-/// `response` is unchanged.
+/// bytes and at most eight bytes of the issuer's. The status for more is `ERR_DATA_LENGTH`, and
+/// then `response` is unchanged.
 #[unsafe(no_mangle)]
 pub extern "C" fn cukvashe_emv_response_2(
     session: &[u8; 16],

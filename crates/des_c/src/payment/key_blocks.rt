@@ -264,9 +264,9 @@ fn write_wrapped(
 /// or 24 bytes with random padding, under a protection key of 16 or 24 bytes; then a zero byte, for
 /// which there has to be space; and how many characters the block has without it.
 ///
-/// The status is that of the first fault, and then `block` and `length` stay: `ERR_VERSION` if
-/// the version is neither `B` nor `C`; `ERR_OPTIONAL_BLOCK` if the optional blocks can't be read,
-/// or are more than 99; and then as `wrap` says.
+/// The status is that of the first fault, and then `block` and `length` are unchanged:
+/// `ERR_VERSION` if the version is neither `B` nor `C`; `ERR_OPTIONAL_BLOCK` if the optional blocks
+/// can't be read, or are more than 99; and then as `wrap` says.
 #[unsafe(no_mangle)]
 pub extern "C" fn cukvashe_key_block_wrap(
     protection: &[u8],

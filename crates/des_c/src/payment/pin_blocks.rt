@@ -162,7 +162,7 @@ pub extern "C" fn cukvashe_pin_decode_0(block: &[u8; 8], account: &[u8], pin: &m
     write_pin(decode_format_0(block, account), pin)
 }
 
-/// The PIN of a block of format 1, as of one of format 0. The status of the first fault is
+/// The PIN of a block of format 1, as for one of format 0. The status for the first fault is
 /// `ERR_FORMAT`, `ERR_PIN_LENGTH` or `ERR_PIN_DIGIT`.
 #[unsafe(no_mangle)]
 pub extern "C" fn cukvashe_pin_decode_1(block: &[u8; 8], pin: &mut [u8; 13]) -> i32
@@ -176,7 +176,7 @@ pub extern "C" fn cukvashe_pin_decode_1(block: &[u8; 8], pin: &mut [u8; 13]) -> 
     write_pin(decode_format_1(block), pin)
 }
 
-/// The PIN of a block of format 2, as of one of format 0. The status of the first fault is
+/// The PIN of a block of format 2, as for one of format 0. The status for the first fault is
 /// `ERR_FORMAT`, `ERR_PIN_LENGTH`, `ERR_PIN_DIGIT` or `ERR_FILL`.
 #[unsafe(no_mangle)]
 pub extern "C" fn cukvashe_pin_decode_2(block: &[u8; 8], pin: &mut [u8; 13]) -> i32
@@ -191,7 +191,7 @@ pub extern "C" fn cukvashe_pin_decode_2(block: &[u8; 8], pin: &mut [u8; 13]) -> 
     write_pin(decode_format_2(block), pin)
 }
 
-/// The PIN of a block of format 3 and an account number, as of one of format 0; the status is
+/// The PIN of a block of format 3 and an account number, as for one of format 0; the status is
 /// `ERR_FILL` if the block is filled with a digit below 10.
 #[unsafe(no_mangle)]
 pub extern "C" fn cukvashe_pin_decode_3(block: &[u8; 8], account: &[u8], pin: &mut [u8; 13]) -> i32

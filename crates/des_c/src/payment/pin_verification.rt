@@ -111,8 +111,8 @@ fn verified_value(key: &[u8; 16], account: &[u8], index: u32, pin: &Pin, value: 
     }
 }
 
-/// Accepts the PIN verification value that `cukvashe_pvv` gives. The status is that of the first
-/// fault, as of that call, and then `ERR_WRONG_PIN` for any other text.
+/// Accepts the PIN verification value that `cukvashe_pvv` returns. The status is that of the first
+/// fault, as for that call, and then `ERR_WRONG_PIN` for any other text.
 #[unsafe(no_mangle)]
 pub extern "C" fn cukvashe_pvv_verify(
     key: &[u8; 16],

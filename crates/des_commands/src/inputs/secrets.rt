@@ -31,7 +31,7 @@ pub fn key_in<'a>(
 }
 
 /// What a fault of a password is about: its option, or standard input. The name of a file is not
-/// told, since somebody may have typed the password there.
+/// shown, since somebody may have typed the password there.
 pub fn password_name<'a>(source: Source<'a>) -> &'a str {
     match source {
         Source::File(_) => "--password-file",

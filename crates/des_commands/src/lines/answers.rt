@@ -52,7 +52,7 @@ fn is_text(bytes: &[u8]) -> bool
     }
 }
 
-// Whether bytes can stand in a line as text. Those of ASCII, which are most, are told sooner.
+// Whether bytes can stand in a line as text. ASCII, which most are, is recognized sooner.
 fn is_printable(bytes: &[u8]) -> bool
     ensures { result ≡ is_printable_of bytes.now }
 {

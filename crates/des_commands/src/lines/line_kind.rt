@@ -82,7 +82,8 @@ fn are_digits(text: &[u8]) -> bool
     text.iter().all(|byte| byte.is_ascii_hexdigit())
 }
 
-// Why a text is not the digits of bytes: a character that is none is told before an odd number.
+// Why a text is not the digits of bytes: a character that is no digit is reported before an odd
+// number.
 fn fault_of(text: &[u8]) -> LineFault
     ensures { result ≡ digits_fault text.now }
 {

@@ -133,7 +133,7 @@ fn end_file(
 ) -> Result<u8, FaultKind> {
     let narrows = file.narrows;
     if let Ok(FIRST_FAULT) = outcome {
-        // The file is removed. The fault was told.
+        // The file is removed. The fault was reported.
         let _ = file.end(rt, Err(FaultKind::Padding));
         return outcome;
     }
@@ -251,7 +251,7 @@ fn vector_fault<'a>(kind: FaultKind) -> Fault<'a> {
 // ---- the whole
 
 /// Decrypts the values of lines, and writes their texts where the request says. Returns 0, or the
-/// status of faults that were told.
+/// status of faults that were reported.
 pub fn lines_status<'a>(rt: &HostRuntime, request: &LinesRequest<'a>) -> Result<u8, Fault<'a>> {
     let secret = secret_in(rt, request)?;
     let digits = vector_digits(request.format).as_bytes();

@@ -21,7 +21,7 @@ use std::io::Read;
 // The bytes of a message that are read at a time: 64 KiB.
 const BYTES_AT_A_TIME: usize = 65536;
 
-// The tag of a message, or the status of a fault that was told.
+// The tag of a message, or the status of a fault that was reported.
 type Tagged = Result<[u8; 8], u8>;
 
 // The bytes of a method's keys, if they have one size.
@@ -34,7 +34,7 @@ fn key_size_of(method: Method) -> Option<u8>
     }
 }
 
-// The tag of the bytes whose digits a reader gives. A text that has others is told.
+// The tag of the bytes whose digits a reader gives. A text with other characters is reported.
 fn tag_of_text<R: Read + Drop>(
     rt: &HostRuntime,
     request: &MacRequest,

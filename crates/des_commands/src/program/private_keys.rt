@@ -138,8 +138,8 @@ fn run_text(
     }
 }
 
-/// Decrypts the private key that a request names, and writes it. Returns 0, or the status of a fault
-/// that was told.
+/// Decrypts the private key that a request names, and writes it. Returns 0, or the status of a
+/// fault that was reported.
 pub fn private_key_status<'a>(
     rt: &HostRuntime,
     request: &PrivateKeyRequest<'a>,

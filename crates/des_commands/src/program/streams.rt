@@ -219,7 +219,8 @@ pub fn tell_hex(rt: &HostRuntime, fault: HexFault, input: &str) -> Result<u8, Fa
     }
 }
 
-// Does the work with the bytes that a reader gives as Base64. A text that is none is told by its line.
+// Does the work with the bytes that a reader gives as Base64. A text that is not Base64 is reported
+// by its line.
 fn run_encoded<R: Read + Drop>(
     rt: &HostRuntime,
     task: StreamTask,
@@ -241,7 +242,8 @@ fn run_base64(rt: &HostRuntime, task: StreamTask) -> Result<u8, FaultKind> {
     }
 }
 
-// Does the work with the bytes whose digits a reader gives. A text that has others is told.
+// Does the work with the bytes whose digits a reader gives. A text with other characters is
+// reported.
 fn run_digits<R: Read + Drop>(
     rt: &HostRuntime,
     task: StreamTask,
@@ -295,8 +297,7 @@ fn random_for(rt: &HostRuntime, request: &StreamRequest) -> Result<[u8; 8], Faul
     }
 }
 
-// A fault of a stream, with what it is about. A padding that is another is mostly told of a wrong
-// password.
+// A fault of a stream, with what it is about. Wrong padding is mostly reported as a wrong password.
 fn fault_of<'a>(kind: FaultKind, request: &StreamRequest<'a>) -> Fault<'a> {
     match (kind, request.secret) {
         (FaultKind::WeakKey, Secret::Password(source, _)) => Fault::about(
@@ -312,7 +313,8 @@ fn fault_of<'a>(kind: FaultKind, request: &StreamRequest<'a>) -> Fault<'a> {
     }
 }
 
-// Encrypts or decrypts by a secret that is taken. Returns 0, or the status of a fault that was told.
+// Encrypts or decrypts by a secret that is taken. Returns 0, or the status of a fault that was
+// reported.
 fn run_taken(rt: &HostRuntime, request: &StreamRequest, secret: &[u8]) -> Result<u8, FaultKind> {
     let task = StreamTask {
         request,
@@ -330,7 +332,7 @@ fn run_taken(rt: &HostRuntime, request: &StreamRequest, secret: &[u8]) -> Result
 }
 
 /// Encrypts or decrypts, and writes where the request says. Nothing is read or written of a stream
-/// whose key or password is refused. Returns 0, or the status of a fault that was told.
+/// whose key or password is refused. Returns 0, or the status of a fault that was reported.
 pub fn stream_status<'a>(rt: &HostRuntime, request: &StreamRequest<'a>) -> Result<u8, Fault<'a>> {
     refuse_terminal(rt, request.output)?;
     let secret = secret_in(rt, request)?;

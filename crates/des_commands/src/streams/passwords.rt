@@ -127,8 +127,8 @@ fn run_by_key<const N: usize, R: Read, W: Write, E: Write>(
 /// goes to `err`, if no password stands. The writer is not flushed.
 ///
 /// The fault is `NotSalted`, `SaltCut` or `Read` if no salt is read, `Usage` if there is no
-/// iteration, or `WeakKey`: nothing is then written. Else it is one of `streams::run`, and a prefix
-/// is written.
+/// iteration, or `WeakKey`: nothing is then written. Otherwise it is one of `streams::run`, and a
+/// prefix is written.
 pub fn run_by_password<R: Read, W: Write, E: Write>(
     alloc: Global,
     job: &PasswordJob,

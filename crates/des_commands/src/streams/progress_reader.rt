@@ -14,14 +14,16 @@ pub struct ProgressReader<'a, R> {
     rt: &'a HostRuntime,
     inner: R,
     bytes: u64,
-    // The padding of what is encrypted, while the limit on blocks under one key is to be told of.
+    // The padding of what is encrypted, while the limit on blocks under one key is still to be
+    // reported.
     limit: Option<Padding>,
     // For the limit, each byte counts as this many: CFB-8 encrypts a block for each.
     weight: u64,
     progress: Option<Progress>,
 }
 
-// Tells that the limit is passed. Returns what is left to be told: none once that was told.
+// Reports that the limit is passed. Returns what is left to be reported: nothing once that was
+// done.
 fn tell_limit<E: Write>(limit: Option<Padding>, bytes: u64, err: &mut E) -> Option<Padding>
     ensures { TellsLimit limit bytes result (E.contents err.old) (E.contents err.new) }
 {

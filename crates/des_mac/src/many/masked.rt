@@ -21,7 +21,7 @@ use des_fast::many::{BlockLists, KeyForEach, Slice};
 const GROUP: usize = 256;
 
 // What goes after a message of which `count` bytes stand in its last block: nothing if that is
-// whole, and else a one bit and zeros.
+// whole, and otherwise a one bit and zeros.
 fn mask_padding(count: usize) -> &'static [u8]
     requires { count ≤ 8 }
     ensures whole { count ≡ 8 → result.now ≡ [] }
