@@ -21,19 +21,14 @@ xor_blocks-zeros zero (byte ∷ bytes) same = absurd (omega arith)
 xor_blocks-zeros (suc n) [] same = absurd (omega arith)
 xor_blocks-zeros (suc n) (byte ∷ bytes) same = ap₂ ◌∷◌ (xor_zero_l byte) (xor_blocks-zeros n bytes (omega arith))
 
-abbrev zero_block : List ℕ
+abbrev pub zero_block : List ℕ
 zero_block = replicate 8 0
 
-abbrev pub zero_blocks : List (List ℕ)
-zero_blocks = replicate 32 zero_block
+pub length-zero_blocks : (most k : ℕ) → k ≤ most → length (take k (replicate most zero_block)) ≡ k
+length-zero_blocks most k few = length-take-le k _ (omega (arith, length-replicate most zero_block))
 
-pub length-zero_blocks : (k : ℕ) → k ≤ 32 → length (take k zero_blocks) ≡ k
-length-zero_blocks k few =
-    let all : length zero_blocks ≡ 32 = length-replicate 32 zero_block in length-take-le k zero_blocks (omega arith)
-
-pub zeros-at : (k j : ℕ) → j < k → k ≤ 32 → get_or (take k zero_blocks) j [] ≡ zero_block
-zeros-at k j below few =
-    get_or-take k zero_blocks j [] below ∙ get_or-replicate 32 j zero_block [] (omega arith)
+pub zeros-at : (most k j : ℕ) → j < k → k ≤ most → get_or (take k (replicate most zero_block)) j [] ≡ zero_block
+zeros-at most k j below few = get_or-take k _ j [] below ∙ get_or-replicate most j zero_block [] (omega arith)
 
 -- ---- OFB
 
@@ -62,13 +57,13 @@ outputs-of_zeros E v p q cbc wide zeros are_blocks (suc j) below =
     ))
 
 -- the output blocks of a part behind n bytes, of whole blocks
-pub outputs-of_part : (E : List ℕ → List ℕ) (iv last : List ℕ) (n k : ℕ) (q : List (List ℕ)) → k ≤ 32 → n % 8 ≡ 0
-    → length last ≡ 8 → last ≡ output_block E iv ((n + 7) / 8) → Cbc E last (take k zero_blocks) q → All IsBlock q
+pub outputs-of_part : (E : List ℕ → List ℕ) (iv last : List ℕ) (n most k : ℕ) (q : List (List ℕ)) → k ≤ most → n % 8 ≡ 0
+    → length last ≡ 8 → last ≡ output_block E iv ((n + 7) / 8) → Cbc E last (take k (replicate most zero_block)) q → All IsBlock q
     → (j : ℕ) → j < k → get_or q j [] ≡ output_block E iv (j + 1 + n / 8)
-outputs-of_part E iv last n k q few whole wide is cbc are_blocks j below =
-    let size = length-zero_blocks k few in
+outputs-of_part E iv last n most k q few whole wide is cbc are_blocks j below =
+    let size = length-zero_blocks most k few in
     let place : (n + 7) / 8 ≡ n / 8 = omega arith in
-    outputs-of_zeros E last (take k zero_blocks) q cbc wide (λ i inside. zeros-at k i (omega (arith, size)) few) are_blocks j
+    outputs-of_zeros E last _ q cbc wide (λ i inside. zeros-at most k i (omega (arith, size)) few) are_blocks j
     (omega (arith, size))
     ∙ ap (λ (block : List ℕ). output_block E block (j + 1)) (is ∙ ap (output_block E iv) place)
     ∙ output_block-further E iv (n / 8) (j + 1)

@@ -5,7 +5,7 @@ use Rattle.std.proofs.Math.ListN.{get_or-append}
 use Rattle.std.proofs.lemmas.Bool.{cases_lt}
 use Rattle.std.proofs.lemmas.List.{get_or-append_right, ext_get_or, append-nil, take_all, take_more_set, drop-drop, drop-set-lt, drop_more}
 use Rattle.des.specs.Bits.{xor}
-use Rattle.des_modes.specs.Streams.{Xors}
+use Rattle.des_modes.specs.Streams.{GoesOn, Xors}
 use Rattle.std.proofs.lemmas.Slice.{take-put_mid, drop-put_mid}
 use borrow.Rule.Slice.PartMut.{put_mid, mid_of}
 use Rattle.des_modes.specs.Directions.{plaintext, ciphertext}
@@ -150,28 +150,23 @@ pub Xors-directed : {X : Type 0} {op : X → X → X} {d : X} (direction : Direc
 Xors-directed Encrypt n k old now undone xors = xors
 Xors-directed Decrypt n k old now undone xors = Xors-back n k old now undone xors
 
--- ---- streams by the ciphertext behind them: behind t, `old` becomes `now`
-
-pub record ByText {S X : Type 0} (op : X → X → X) (d : X) (At : List X → S → Type 0) (k : List X → ℕ → X)
-    (direction : Direction) (before after : S) (old now : List X) : Type 0 where
-  pub goes : (t : List X) → At t before → At (t ++ ciphertext direction old now) after
-      × Xors op d (length t) (k (t ++ ciphertext direction old now)) old now
+-- ---- streams that go on
 
 -- the key stream does not depend on what comes
 abbrev pub GoesByFront : {X : Type 0} → (List X → ℕ → X) → Type 0
 GoesByFront {X} k = (t more : List X) (i : ℕ) → i < length t → k (t ++ more) i ≡ k t i
 
 module _ {S X : Type 0} {op : X → X → X} {d : X} {At : List X → S → Type 0} {k : List X → ℕ → X} where
-  pub ByText-none : (direction : Direction) (state : S) → ByText op d At k direction state state [] []
-  ByText-none direction state =
+  pub GoesOn-none : (direction : Direction) (state : S) → GoesOn op d At k direction state state [] []
+  GoesOn-none direction state =
       let none : ciphertext direction [] [] ≡ [] = ciphertext-is (λ (xs : List X). xs ≡ []) direction [] [] refl refl in
       record { goes = λ t at. rw (none, append-nil) (at, Xors-none (length t) (k t)) }
 
-  pub ByText-joined : (direction : Direction) {before between after : S} {old now more answers : List X}
-      → ((t : List X) → At t between → GoesByFront k) → ByText op d At k direction before between old now
-      → ByText op d At k direction between after more answers
-      → ByText op d At k direction before after (old ++ more) (now ++ answers)
-  ByText-joined direction {before} {between} {after} {old} {now} {more} {answers} front first second = record {
+  pub GoesOn-joined : (direction : Direction) {before between after : S} {old now more answers : List X}
+      → ((t : List X) → At t between → GoesByFront k) → GoesOn op d At k direction before between old now
+      → GoesOn op d At k direction between after more answers
+      → GoesOn op d At k direction before after (old ++ more) (now ++ answers)
+  GoesOn-joined direction {before} {between} {after} {old} {now} {more} {answers} front first second = record {
     goes = λ t at.
         let c : List X = ciphertext direction old now in
         let d : List X = ciphertext direction more answers in

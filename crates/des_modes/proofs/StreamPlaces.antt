@@ -12,7 +12,7 @@ use Rattle.des_modes.specs.States.{IsPlace, size_of}
 use Rattle.des_modes.specs.declared.modes.Mode.{Mode}
 use Rattle.des_modes.specs.declared.modes.Mode.TheVariants.{Counter, OutputFeedback, BitFeedback, CipherFeedback}
 use Rattle.des_modes.specs.declared.modes.TheConstants.{CFB1}
-use Rattle.des_modes.specs.declared.stream.Place.{Place}
+use Rattle.des_modes.specs.declared.place.Place.{Place}
 use Rattle.des_modes.proofs.Pieces.{Xors-none}
 
 -- the mode of a number takes 1 to 8 bytes of an output block

@@ -12,7 +12,7 @@ use Rattle.des_modes.specs.Streams.{Under}
 use Rattle.des_modes.specs.States.{IsBitStreamAt, IsPlace, IsStreamAt, size_of}
 use Rattle.des_modes.specs.declared.modes.Mode.{Mode}
 use Rattle.des_modes.specs.declared.modes.Mode.TheVariants.{Counter, OutputFeedback, BitFeedback, CipherFeedback}
-use Rattle.des_modes.specs.declared.stream.Place.{Place}
+use Rattle.des_modes.specs.declared.place.Place.{Place}
 use Rattle.des_modes.specs.declared.stream.Stream.{Stream}
 use Rattle.des_modes.proofs.SegmentBits.{CfbBits-from_Cfb, IsBlock-input_block}
 use Rattle.des_modes.proofs.StreamPlaces.{size_of-mode_by}

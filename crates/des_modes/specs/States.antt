@@ -6,11 +6,10 @@ use Rattle.des.specs.Blocks.{AreBytes, IsBlock}
 use Rattle.des_modes.specs.Cfb.{CfbBits, input_block}
 use Rattle.des_modes.specs.Modes.{InMode, IsMode, mode_by}
 use Rattle.des_modes.specs.Ofb.{output_block}
-use Rattle.des_modes.specs.declared.cfb.Register.{Register}
 use Rattle.des_modes.specs.declared.modes.Mode.{Mode}
 use Rattle.des_modes.specs.declared.modes.Mode.TheVariants.{Counter, OutputFeedback, BitFeedback, CipherFeedback}
 use Rattle.des_modes.specs.declared.modes.TheConstants.{CFB1}
-use Rattle.des_modes.specs.declared.stream.Place.{Place}
+use Rattle.des_modes.specs.declared.place.Place.{Place}
 use Rattle.des_modes.specs.declared.stream.Stream.{Stream}
 use Rattle.des_modes.specs.declared.stream.TheConstants.{MARK}
 
@@ -27,10 +26,6 @@ pub record IsAtSegment (s : ℕ) (encryption : List ℕ → List ℕ) (iv c byte
   pub register : bytes ≡ drop (length c) (iv ++ c)
   pub used : taken ≡ length c % s
   pub output : 1 ≤ taken → block ≡ encryption (input_block s iv c (length c / s))
-
-pub record IsCfbAt (s : ℕ) (encryption : List ℕ → List ℕ) (iv c : List ℕ) (state : Register) : Type 0 where
-  pub segment : state.segment ≡ s
-  pub place : IsAtSegment s encryption iv c state.register state.output state.used
 
 -- CFB of one bit, the bits c of the ciphertext behind: the register holds the last 64 bits of IV | C
 abbrev pub HoldsLastBits : (iv : List ℕ) (c : List Bool) (register : List ℕ) → Type 0

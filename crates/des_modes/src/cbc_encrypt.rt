@@ -8,9 +8,6 @@ use des::cipher::BlockCipherEncrypt;
 use des::tdes::{Form, Parts, Triple};
 use des_fast::box_lookup::BoxLookup;
 
-/// The blocks that the modes chain together. More of them would gain nothing, and take memory.
-pub(crate) const CHAINED: usize = 32;
-
 /// A cipher that encrypts by CBC, block after block or in a way of its own.
 pub trait CbcEncrypt: BlockCipherEncrypt {
     /// Encrypts blocks of 8 bytes in place by CBC from `iv` (FIPS 81, cipher block chaining mode).

@@ -2,18 +2,19 @@
 //! segments of one to eight bytes: eight for the feedback of 64 bits, one for that of 8.
 
 ghost use Rattle.std.specs.Prelude.{◌≡◌, ◌<◌, ◌≤◌, ◌+◌, ◌-◌, ◌*◌, ◌/◌, ◌%◌, ℕ, List, [], ◌++◌, length, take, drop, slice_index_or, nat_eq, if◌then◌else◌, bit_xor};
-ghost use Rattle.des_modes.specs.Streams.{Xors};
 ghost use Rattle.des_modes.specs.Cfb.{cfb_stream, input_block};
-ghost use Rattle.des_modes.specs.Directions.{plaintext, ciphertext};
+ghost use Rattle.des_modes.specs.Directions.{plaintext};
+ghost use Rattle.des_modes.specs.States.{IsPlace};
+ghost use Rattle.des_modes.specs.Streams.{GoesOn};
+ghost use Rattle.des_modes.specs.declared.direction.Direction.TheVariants.{Encrypt, Decrypt};
+ghost use Rattle.des_modes.specs.declared.modes.Mode.TheVariants.{CipherFeedback};
 
-use crate::cbc_encrypt::{CHAINED, CbcEncrypt};
+use crate::cbc_encrypt::CbcEncrypt;
 use crate::direction::Direction;
-use crate::parts::TakesParts;
-use crate::xored::{xor_blocks_from, xor_from, xor_segments};
+use crate::parts::{TOGETHER, TakesParts};
+use crate::place::Place;
+use crate::xored::{xor_block_from, xor_blocks_from, xor_segments};
 use des::cipher::{BlockCipherEncrypt, are_blocks};
-
-// The segments that are decrypted together: a cipher may treat some of their blocks side by side.
-const TOGETHER: usize = 256;
 
 // The number of segments of `bytes` bytes, of which the last may be cut short.
 fn count_of(bytes: usize, segment: usize) -> usize
@@ -132,80 +133,74 @@ fn within_segment(end: usize, segment: usize) -> usize
     if end == segment { 0 } else { end }
 }
 
-// A place in a stream of cipher feedback: the shift register, which holds the last eight bytes of the
-// initialization vector and the ciphertext; the number of bytes of its segment before it; and, if
-// there are some, the segment's output block.
-#[derive(Clone, Copy)]
-pub(crate) struct Register {
-    pub(crate) register: [u8; 8],
-    pub(crate) output: [u8; 8],
+/// Cipher feedback in segments of some bytes. The register of a place is the shift register, which holds
+/// the last eight bytes of the initialization vector and the ciphertext; `output` is the output block of a
+/// segment that has begun.
+#[derive(Drop)]
+pub(crate) struct CfbMode {
     pub(crate) segment: usize,
-    pub(crate) used: usize,
     ghost some: { 1 ≤ segment },
     ghost short: { segment ≤ 8 },
-    ghost fits: { used < segment },
 }
 
-impl Register {
-    ghost use Rattle.des_modes.specs.States.{IsCfbAt};
-
+impl CfbMode {
     // The output block of the segment that the next byte stands in.
     #[inline]
-    fn current<C: BlockCipherEncrypt>(&self, cipher: &C) -> [u8; 8]
-        ensures { (s : ℕ) (iv c : List ℕ) → IsCfbAt s (C.encrypted cipher.now) iv c self.now
-            → result ≡ C.encrypted cipher.now (input_block s iv c (length c / s)) }
+    fn current<C: BlockCipherEncrypt>(&self, place: &Place, cipher: &C) -> [u8; 8]
+        ensures { (iv c : List ℕ)
+            → IsPlace (CipherFeedback self.now.segment) (C.encrypted cipher.now) iv c place.now
+            → result ≡ C.encrypted cipher.now
+            (input_block self.now.segment iv c (length c / self.now.segment)) }
     {
-        if self.used != 0 {
-            return self.output;
+        if place.used != 0 {
+            return place.output;
         }
-        let mut output = self.register;
+        let mut output = place.register;
         cipher.encrypt_block(&mut output);
         output
     }
 
     // Goes on by bytes of ciphertext in the segment of an output block.
     #[inline]
-    fn advance(&mut self, output: &[u8; 8], bytes: &[u8])
-        requires { self.old.used + length bytes.now ≤ self.old.segment }
-        ensures segment { self.new.segment ≡ self.old.segment }
-        ensures after { (s : ℕ) (encryption : List ℕ → List ℕ) (iv c : List ℕ)
-            → IsCfbAt s encryption iv c self.old
-            → output.now ≡ encryption (input_block s iv c (length c / s))
-            → IsCfbAt s encryption iv (c ++ bytes.now) self.new }
+    fn advance(&self, place: &mut Place, output: &[u8; 8], bytes: &[u8])
+        requires { place.old.used + length bytes.now ≤ self.now.segment }
+        ensures fits { place.new.used < self.now.segment }
+        ensures after { (encryption : List ℕ → List ℕ) (iv c : List ℕ)
+            → IsPlace (CipherFeedback self.now.segment) encryption iv c place.old
+            → output.now ≡ encryption (input_block self.now.segment iv c (length c / self.now.segment))
+            → IsPlace (CipherFeedback self.now.segment) encryption iv (c ++ bytes.now) place.new }
     {
-        let end = self.used + bytes.len();
-        shift(&mut self.register, bytes);
-        self.output = *output;
-        self.used = within_segment(end, self.segment);
+        let end = place.used + bytes.len();
+        shift(&mut place.register, bytes);
+        place.output = *output;
+        place.used = within_segment(end, self.segment);
     }
 
     // Encrypts or decrypts bytes of one segment.
     fn apply_in_segment<C: BlockCipherEncrypt>(
-        &mut self,
+        &self,
         direction: Direction,
+        place: &mut Place,
         cipher: &C,
         bytes: &mut [u8],
     )
-        requires { self.old.used + length bytes.old ≤ self.old.segment }
-        ensures segment { self.new.segment ≡ self.old.segment }
-        ensures after { (s : ℕ) (iv c : List ℕ) → IsCfbAt s (C.encrypted cipher.now) iv c self.old
-            → IsCfbAt s (C.encrypted cipher.now) iv
-            (c ++ ciphertext direction bytes.old bytes.new) self.new }
-        ensures xored { (s : ℕ) (iv c : List ℕ) → IsCfbAt s (C.encrypted cipher.now) iv c self.old
-            → Xors bit_xor 0 (length c)
-            (cfb_stream s (C.encrypted cipher.now) iv (c ++ ciphertext direction bytes.old bytes.new))
-            bytes.old bytes.new }
+        requires { place.old.used + length bytes.old ≤ self.now.segment }
+        ensures fits { place.new.used < self.now.segment }
+        ensures goes { (iv : List ℕ) → GoesOn bit_xor 0
+            (IsPlace (CipherFeedback self.now.segment) (C.encrypted cipher.now) iv)
+            (cfb_stream self.now.segment (C.encrypted cipher.now) iv)
+            direction place.old place.new bytes.old bytes.new }
     {
-        let output = self.current(cipher);
-        let used = self.used;
+        let output = self.current(place, cipher);
+        let used = place.used;
         match direction {
             Direction::Encrypt => {
-                xor_from(bytes, &output, used);
-                self.advance(&output, bytes);
+                xor_block_from(bytes, &output, used);
+                self.advance(place, &output, bytes);
             }
             Direction::Decrypt => {
-                self.advance(&output, bytes);
-                xor_from(bytes, &output, used);
+                self.advance(place, &output, bytes);
+                xor_block_from(bytes, &output, used);
             }
         }
     }
@@ -213,94 +208,90 @@ impl Register {
     // Encrypts segments of eight bytes together, of which the last may be cut short. CBC of a block of
     // zeros and the segments P(0), P(1), .., from the shift register, gives the output blocks O(0), O(1),
     // ..: O(j + 1) = E(C(j)) = E(P(j) ^ O(j)).
-    fn encrypt_segments<C: CbcEncrypt>(&mut self, cipher: &C, bytes: &mut [u8])
-        requires blocks { self.old.segment ≡ 8 }
-        requires between { self.old.used ≡ 0 }
+    fn encrypt_segments<C: CbcEncrypt>(&self, place: &mut Place, cipher: &C, bytes: &mut [u8])
+        requires blocks { self.now.segment ≡ 8 }
+        requires between { place.old.used ≡ 0 }
         requires some { 8 ≤ length bytes.old }
-        requires few { length bytes.old ≤ 256 }
-        ensures segment { self.new.segment ≡ self.old.segment }
-        ensures after { (s : ℕ) (iv c : List ℕ) → IsCfbAt s (C.encrypted cipher.now) iv c self.old
-            → IsCfbAt s (C.encrypted cipher.now) iv (c ++ bytes.new) self.new }
-        ensures encrypted { (s : ℕ) (iv c : List ℕ)
-            → IsCfbAt s (C.encrypted cipher.now) iv c self.old
-            → Xors bit_xor 0 (length c) (cfb_stream s (C.encrypted cipher.now) iv (c ++ bytes.new))
-            bytes.old bytes.new }
+        requires few { length bytes.old ≤ 2048 }
+        ensures fits { place.new.used < self.now.segment }
+        ensures goes { (iv : List ℕ) → GoesOn bit_xor 0
+            (IsPlace (CipherFeedback self.now.segment) (C.encrypted cipher.now) iv)
+            (cfb_stream self.now.segment (C.encrypted cipher.now) iv)
+            Encrypt place.old place.new bytes.old bytes.new }
     {
         let count = bytes.len();
-        let mut outputs = [[0; 8]; CHAINED];
+        let mut outputs = [[0; 8]; TOGETHER];
         let part = &mut outputs[..count_of(count, 8)];
         write_after_first(part, bytes);
-        cipher.encrypt_cbc(&self.register, part);
+        cipher.encrypt_cbc(&place.register, part);
         are_blocks(part);
         xor_blocks_from(bytes, part, 0);
-        self.register.copy_from_slice(&bytes[count - 8..]);
-        self.used = count % 8;
-        self.output = block_at(part, count / 8);
+        place.register.copy_from_slice(&bytes[count - 8..]);
+        place.used = count % 8;
+        place.output = block_at(part, count / 8);
     }
 
     // Decrypts segments together, of which the last may be cut short.
-    fn decrypt_segments<C: BlockCipherEncrypt>(&mut self, cipher: &C, bytes: &mut [u8])
-        requires between { self.old.used ≡ 0 }
-        requires few { length bytes.old ≤ self.old.segment * 256 }
-        ensures segment { self.new.segment ≡ self.old.segment }
-        ensures after { (s : ℕ) (iv c : List ℕ) → IsCfbAt s (C.encrypted cipher.now) iv c self.old
-            → IsCfbAt s (C.encrypted cipher.now) iv (c ++ bytes.old) self.new }
-        ensures decrypted { (s : ℕ) (iv c : List ℕ)
-            → IsCfbAt s (C.encrypted cipher.now) iv c self.old
-            → Xors bit_xor 0 (length c) (cfb_stream s (C.encrypted cipher.now) iv (c ++ bytes.old))
-            bytes.old bytes.new }
+    fn decrypt_segments<C: BlockCipherEncrypt>(
+        &self,
+        place: &mut Place,
+        cipher: &C,
+        bytes: &mut [u8],
+    )
+        requires between { place.old.used ≡ 0 }
+        requires few { length bytes.old ≤ self.now.segment * 256 }
+        ensures fits { place.new.used < self.now.segment }
+        ensures goes { (iv : List ℕ) → GoesOn bit_xor 0
+            (IsPlace (CipherFeedback self.now.segment) (C.encrypted cipher.now) iv)
+            (cfb_stream self.now.segment (C.encrypted cipher.now) iv)
+            Decrypt place.old place.new bytes.old bytes.new }
     {
         let count = bytes.len();
         let mut joined = [0; 8 + 8 * TOGETHER];
         let inputs = &mut joined[..8 + count];
-        write_joined(inputs, &self.register, bytes);
+        write_joined(inputs, &place.register, bytes);
         let mut blocks = [[0; 8]; TOGETHER];
         let part = &mut blocks[..count_of(count, self.segment)];
         write_outputs(cipher, part, inputs, self.segment);
         xor_segments(bytes, part, self.segment);
-        self.register.copy_from_slice(&inputs[count..]);
-        self.used = count % self.segment;
-        self.output = block_at(part, count / self.segment);
+        place.register.copy_from_slice(&inputs[count..]);
+        place.used = count % self.segment;
+        place.output = block_at(part, count / self.segment);
     }
 }
 
-impl<C: CbcEncrypt> TakesParts<C> for Register {
-    ghost use Rattle.des_modes.specs.States.{IsCfbAt};
+impl<C: CbcEncrypt> TakesParts<C> for CfbMode {
+    ghost mode = { λ cfb. CipherFeedback cfb.segment };
 
-    ghost is_at = { λ encryption s iv c register. IsCfbAt s encryption iv c register };
-
-    ghost key_stream = { λ encryption s iv c. cfb_stream s encryption iv c };
-
-    ghost segment = { λ register. register.segment };
+    ghost key_stream = { λ cfb encryption iv c. cfb_stream cfb.segment encryption iv c };
 
     // The bytes that are left of a segment; between two, 256 segments of ciphertext, or one of plaintext,
-    // but of eight bytes 32, which are 256 bytes.
-    ghost limit = { λ direction register.
-        if nat_eq register.used 0 then
-        (plaintext direction (if nat_eq register.segment 8 then 256 else register.segment)
-        (register.segment * 256)) else register.segment - register.used };
+    // but of eight bytes 256.
+    ghost limit = { λ cfb direction used.
+        if nat_eq used 0 then
+        (plaintext direction (if nat_eq cfb.segment 8 then 2048 else cfb.segment)
+        (cfb.segment * 256)) else cfb.segment - used };
 
-    fn most(&self, direction: Direction) -> usize {
-        if self.used != 0 {
-            return self.segment - self.used;
+    fn most(&self, direction: Direction, place: &Place) -> usize {
+        if place.used != 0 {
+            return self.segment - place.used;
         }
         match direction {
-            Direction::Encrypt if self.segment == 8 => 8 * CHAINED,
-            Direction::Encrypt => self.segment,
-            Direction::Decrypt => self.segment * TOGETHER,
+            Direction::Encrypt if self.segment < 8 => self.segment,
+            _ => self.segment * TOGETHER,
         }
     }
 
-    fn apply_part(&mut self, direction: Direction, cipher: &C, bytes: &mut [u8]) {
+    fn apply_part(&self, direction: Direction, place: &mut Place, cipher: &C, bytes: &mut [u8]) {
         match direction {
             // More than a segment comes only between segments of eight bytes.
-            Direction::Encrypt if bytes.len() > self.segment => self.encrypt_segments(
-                cipher, bytes,
-            ),
-            Direction::Decrypt if self.used == 0 && bytes.len() > self.segment => {
-                self.decrypt_segments(cipher, bytes);
+            Direction::Encrypt if bytes.len() > self.segment => {
+                self.encrypt_segments(place, cipher, bytes);
             }
-            _ => self.apply_in_segment(direction, cipher, bytes),
+            Direction::Decrypt if place.used == 0 && bytes.len() > self.segment => {
+                self.decrypt_segments(place, cipher, bytes);
+            }
+            _ => self.apply_in_segment(direction, place, cipher, bytes),
         }
     }
 }

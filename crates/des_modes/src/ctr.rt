@@ -1,19 +1,17 @@
 //! The counter mode over any block cipher (NIST SP 800-38A, 6.5), with the standard incrementing
 //! function over all 64 bits.
 
-ghost use Rattle.std.specs.Prelude.{◌≡◌, ◌<◌, ◌≤◌, ◌+◌, ◌-◌, ◌*◌, ◌/◌, ◌%◌, ◌^◌, ℕ, List, [], length, slice_index, slice_index_or, bit_xor};
+ghost use Rattle.std.specs.Prelude.{◌≡◌, ◌<◌, ◌≤◌, ◌+◌, ◌-◌, ◌/◌, ◌%◌, ◌^◌, ℕ, [], length, slice_index, slice_index_or, bit_xor};
 ghost use Rattle.std.specs.Int.{w64, to_be_bytes};
 ghost use Rattle.des_modes.specs.Ctr.{ctr_stream};
-ghost use Rattle.des_modes.specs.States.{IsAtCounter};
+ghost use Rattle.des_modes.specs.declared.modes.Mode.TheVariants.{Counter};
 
 use crate::cbc_encrypt::CbcEncrypt;
 use crate::direction::Direction;
-use crate::parts::TakesParts;
-use crate::xored::{xor_blocks_from, xor_from};
+use crate::parts::{TOGETHER, TakesParts};
+use crate::place::Place;
+use crate::xored::{xor_block_from, xor_blocks_from};
 use des::cipher::BlockCipherEncrypt;
-
-// The blocks that are encrypted together: a cipher may treat some of them side by side.
-const TOGETHER: usize = 256;
 
 // Writes a counter and those that follow it, one into each block.
 fn write_counters(blocks: &mut [[u8; 8]], counter: u64)
@@ -45,7 +43,7 @@ fn apply_output<C: BlockCipherEncrypt>(cipher: &C, counter: u64, used: usize, by
 {
     let mut output = counter.to_be_bytes();
     cipher.encrypt_block(&mut output);
-    xor_from(bytes, &output, used);
+    xor_block_from(bytes, &output, used);
 }
 
 // Encrypts or decrypts bytes by the output blocks of a counter and of those that follow it, from byte
@@ -66,46 +64,25 @@ fn apply_outputs<C: BlockCipherEncrypt>(cipher: &C, counter: u64, used: usize, b
     xor_blocks_from(bytes, part, used);
 }
 
-// A place in a stream of the counter mode: the counter of the block that it stands in, and the number
-// of bytes of its output block that are used.
-#[derive(Clone, Copy)]
-pub(crate) struct Counter {
-    pub(crate) counter: u64,
-    pub(crate) used: usize,
-    ghost fits: { used < 8 },
-}
+/// The counter mode. The register of a place holds the counter of the block that it stands in.
+pub(crate) struct CtrMode;
 
-impl Counter {
-    // The place after the next `bytes` bytes.
-    fn advanced(&self, bytes: usize) -> Counter
-        requires { bytes ≤ 2048 }
-        ensures { (t : List ℕ) (n : ℕ) → IsAtCounter t n self.now.counter self.now.used
-            → IsAtCounter t (n + bytes) result.counter result.used }
-    {
-        let end = self.used + bytes;
-        Counter {
-            counter: self.counter.wrapping_add((end / 8) as u64),
-            used: end % 8,
-        }
-    }
-}
+impl<C: CbcEncrypt> TakesParts<C> for CtrMode {
+    ghost mode = { λ ctr. Counter };
 
-impl<C: CbcEncrypt> TakesParts<C> for Counter {
-    ghost is_at = { λ encryption s t c state. IsAtCounter t (length c) state.counter state.used };
+    ghost key_stream = { λ ctr encryption t c. ctr_stream encryption t };
 
-    ghost key_stream = { λ encryption s t c. ctr_stream encryption t };
+    ghost limit = { λ ctr direction used. 2048 - used };
 
-    ghost segment = { λ counter. 8 };
-
-    ghost limit = { λ direction counter. 2048 - counter.used };
-
-    fn most(&self, _direction: Direction) -> usize {
-        8 * TOGETHER - self.used
+    fn most(&self, _direction: Direction, place: &Place) -> usize {
+        8 * TOGETHER - place.used
     }
 
-    fn apply_part(&mut self, _direction: Direction, cipher: &C, bytes: &mut [u8]) {
-        let next = self.advanced(bytes.len());
-        apply_outputs(cipher, self.counter, self.used, bytes);
-        *self = next;
+    fn apply_part(&self, _direction: Direction, place: &mut Place, cipher: &C, bytes: &mut [u8]) {
+        let counter = u64::from_be_bytes(place.register);
+        let end = place.used + bytes.len();
+        apply_outputs(cipher, counter, place.used, bytes);
+        place.register = counter.wrapping_add((end / 8) as u64).to_be_bytes();
+        place.used = end % 8;
     }
 }

@@ -19,6 +19,7 @@ pub mod lists;
 pub mod modes;
 mod ofb;
 mod parts;
+mod place;
 pub mod stream;
 pub mod tkw;
 pub mod unwrap_error;

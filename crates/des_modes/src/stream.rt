@@ -12,105 +12,56 @@ ghost use Rattle.des_modes.specs.declared.modes.Mode.TheVariants.{BitFeedback};
 ghost use Rattle.des_modes.specs.declared.modes.TheConstants.{CFB1, CTR};
 
 use crate::cbc_encrypt::CbcEncrypt;
-use crate::cfb::Register;
+use crate::cfb::CfbMode;
 use crate::cfb_bits;
-use crate::ctr::Counter;
+use crate::ctr::CtrMode;
 use crate::direction::Direction;
 use crate::modes::{CFB1, CTR, Mode};
-use crate::ofb::Feedback;
+use crate::ofb::OfbMode;
 use crate::parts::apply_parts;
+use crate::place::Place;
 use des::cipher::{BlockCipherEncrypt, are_bytes};
 
 /// The last word of a stream that has begun.
 pub const MARK: u32 = 0x57e4a317;
 
-/// Where a stream goes on: the counter block, the last output block or the shift register; the output
-/// block of a segment of cipher feedback that has begun; and how many bytes of the output block are
-/// used.
-#[repr(C)]
-#[derive(Clone, Copy)]
-pub struct Place {
-    pub(crate) register: [u8; 8],
-    pub(crate) output: [u8; 8],
-    pub(crate) used: usize,
-}
-
-impl Place {
-    // The beginning of a stream, or the place behind eight bytes of ciphertext.
-    pub(crate) fn new(register: &[u8; 8]) -> Place
-        ensures register { result.register ≡ register.now }
-        ensures used { result.used ≡ 0 }
-    {
-        Place {
-            register: *register,
-            output: [0; 8],
-            used: 0,
+// Encrypts or decrypts the bytes that come next in a mode.
+fn apply_in<C: CbcEncrypt>(
+    mode: Mode,
+    direction: Direction,
+    place: &mut Place,
+    cipher: &C,
+    bytes: &mut [u8],
+)
+    requires short { size_of mode ≤ 8 }
+    requires fits { place.old.used < size_of mode }
+    ensures fits { place.new.used < size_of mode }
+    ensures after { (iv c : List ℕ) → IsPlace mode (C.encrypted cipher.now) iv c place.old
+        → IsPlace mode (C.encrypted cipher.now) iv
+        (c ++ ciphertext direction bytes.old bytes.new) place.new }
+    ensures made { (iv p c : List ℕ) → IsPlace mode (C.encrypted cipher.now) iv c place.old
+        → InMode mode (C.encrypted cipher.now) iv p c → InMode mode (C.encrypted cipher.now) iv
+        (p ++ plaintext direction bytes.old bytes.new)
+        (c ++ ciphertext direction bytes.old bytes.new) }
+    ensures after_bits { mode ≡ BitFeedback → (iv : List ℕ) (c : List Bool)
+        → HoldsLastBits iv c place.old.register → place.old.used ≡ 0 → HoldsLastBits iv
+        (c ++ bits_of_bytes (ciphertext direction bytes.old bytes.new)) place.new.register
+        × (place.new.used ≡ 0) }
+    ensures made_bits { mode ≡ BitFeedback → (iv : List ℕ) (p c : List Bool)
+        → HoldsLastBits iv c place.old.register → place.old.used ≡ 0
+        → CfbBits 1 (C.encrypted cipher.now) iv p c → CfbBits 1 (C.encrypted cipher.now) iv
+        (p ++ bits_of_bytes (plaintext direction bytes.old bytes.new))
+        (c ++ bits_of_bytes (ciphertext direction bytes.old bytes.new)) }
+{
+    match mode {
+        Mode::Counter => apply_parts(&CtrMode, direction, place, cipher, bytes),
+        Mode::OutputFeedback => apply_parts(&OfbMode, direction, place, cipher, bytes),
+        Mode::BitFeedback => {
+            let bits = 8 * bytes.len() as u128;
+            cfb_bits::apply(&mut place.register, direction, cipher, bytes, bits);
         }
-    }
-
-    // Encrypts or decrypts the bytes that come next in a mode.
-    pub(crate) fn apply<C: CbcEncrypt>(
-        &mut self,
-        direction: Direction,
-        mode: Mode,
-        cipher: &C,
-        bytes: &mut [u8],
-    )
-        requires short { size_of mode ≤ 8 }
-        requires fits { self.old.used < size_of mode }
-        ensures fits { self.new.used < size_of mode }
-        ensures after { (iv c : List ℕ) → IsPlace mode (C.encrypted cipher.now) iv c self.old
-            → IsPlace mode (C.encrypted cipher.now) iv
-            (c ++ ciphertext direction bytes.old bytes.new) self.new }
-        ensures made { (iv p c : List ℕ) → IsPlace mode (C.encrypted cipher.now) iv c self.old
-            → InMode mode (C.encrypted cipher.now) iv p c → InMode mode (C.encrypted cipher.now) iv
-            (p ++ plaintext direction bytes.old bytes.new)
-            (c ++ ciphertext direction bytes.old bytes.new) }
-        ensures after_bits { mode ≡ BitFeedback → (iv : List ℕ) (c : List Bool)
-            → HoldsLastBits iv c self.old.register → self.old.used ≡ 0 → HoldsLastBits iv
-            (c ++ bits_of_bytes (ciphertext direction bytes.old bytes.new)) self.new.register
-            × (self.new.used ≡ 0) }
-        ensures made_bits { mode ≡ BitFeedback → (iv : List ℕ) (p c : List Bool)
-            → HoldsLastBits iv c self.old.register → self.old.used ≡ 0
-            → CfbBits 1 (C.encrypted cipher.now) iv p c → CfbBits 1 (C.encrypted cipher.now) iv
-            (p ++ bits_of_bytes (plaintext direction bytes.old bytes.new))
-            (c ++ bits_of_bytes (ciphertext direction bytes.old bytes.new)) }
-    {
-        match mode {
-            Mode::Counter => {
-                let mut counter = Counter {
-                    counter: u64::from_be_bytes(self.register),
-                    used: self.used,
-                };
-                apply_parts(&mut counter, direction, cipher, bytes);
-                self.register = counter.counter.to_be_bytes();
-                self.used = counter.used;
-            }
-            Mode::OutputFeedback => {
-                let mut feedback = Feedback {
-                    block: self.register,
-                    used: self.used,
-                };
-                apply_parts(&mut feedback, direction, cipher, bytes);
-                self.register = feedback.block;
-                self.used = feedback.used;
-            }
-            Mode::BitFeedback => {
-                let bits = 8 * bytes.len() as u128;
-                cfb_bits::apply(&mut self.register, direction, cipher, bytes, bits);
-            }
-            Mode::CipherFeedback(segment) => {
-                let mut register = Register {
-                    register: self.register,
-                    output: self.output,
-                    segment,
-                    used: self.used,
-                };
-                apply_parts(&mut register, direction, cipher, bytes);
-                self.register = register.register;
-                self.output = register.output;
-                self.used = register.used;
-            }
+        Mode::CipherFeedback(segment) => {
+            apply_parts(&CfbMode { segment }, direction, place, cipher, bytes);
         }
     }
 }
@@ -246,7 +197,7 @@ impl Stream {
             (c ++ bits_of_bytes (ciphertext direction bytes.old bytes.new)) self.new }
     {
         are_bytes(bytes);
-        self.place.apply(direction, mode, cipher, bytes);
+        apply_in(mode, direction, &mut self.place, cipher, bytes);
         are_bytes(bytes);
     }
 

@@ -14,6 +14,21 @@ pub(crate) fn xor_from(bytes: &mut [u8], key_stream: &[u8], from: usize)
     }
 }
 
+/// Each byte of the data becomes its xor with a byte of the block, from its byte `from` on. A whole block
+/// takes no loop: there its length is known.
+#[inline]
+pub(crate) fn xor_block_from(bytes: &mut [u8], block: &[u8; 8], from: usize)
+    requires { from + length bytes.old ≤ 8 }
+    ensures { (i : ℕ) → i < length bytes.old → slice_index bytes.new i
+        ≡ bit_xor (slice_index bytes.old i) (slice_index block.now (from + i)) }
+{
+    if bytes.len() == 8 {
+        xor_from(bytes, block, 0);
+    } else {
+        xor_from(bytes, block, from);
+    }
+}
+
 /// Each byte of the data becomes its xor with a byte of the blocks, from their byte `from` on.
 pub(crate) fn xor_blocks_from(bytes: &mut [u8], blocks: &[[u8; 8]], from: usize)
     requires { from + length bytes.old ≤ 8 * length blocks.now }

@@ -5,12 +5,12 @@ use Rattle.des.specs.Bits.{bits_of_bytes, xor}
 use Rattle.des.specs.Laws.BitLists.{length-bits_of_bytes}
 use Rattle.des_modes.specs.Cfb.{first_bits}
 use Rattle.des_modes.specs.Directions.{ciphertext}
-use Rattle.des_modes.proofs.Pieces.{ByText-none, ByText-joined, texts-map, InPlace-set, Xors-directed, Xors-whole, bits_undone}
-use Rattle.des_modes.proofs.CfbPlaces.{ByText-bit, cfb_bits-front}
+use Rattle.des_modes.proofs.Pieces.{GoesOn-none, GoesOn-joined, texts-map, InPlace-set, Xors-directed, Xors-whole, bits_undone}
+use Rattle.des_modes.proofs.CfbPlaces.{GoesOn-bit, cfb_bits-front}
 use Rattle.des_modes.proofs.cfb_bits.apply.Goals as goal
 
 pub bits-init : goal.bits-init
-bits-init g c iv = record { done = ByText-none c.args.direction c.args.register.now; rest = refl }
+bits-init g c iv = record { done = GoesOn-none c.args.direction c.args.register.now; rest = refl }
 
 pub bits-preserved : goal.bits-preserved
 bits-preserved g c iv =
@@ -21,8 +21,8 @@ bits-preserved g c iv =
     let bit : c.ciphertext.result ≡ ciphertext c.args.direction (get_or now place false) (xor (get_or now place false) c.key_bit.result) =
     rw (c.ciphertext.ensures, c.bit_at-old.ensures, c.bit_at.ensures, c.xor_bit.ensures, get_or-set_same now place _ false within) refl in
     InPlace-set _ false c.xor_bit.ensures within
-    (λ done. ByText-joined c.args.direction (λ t at. cfb_bits-front E iv t c.bits.register c.key_bit.ensures.wide at) done
-    (ByText-bit E iv c.bits.register c.advance.new.register c.args.direction _ _ c.key_bit.ensures.wide (rw bit at c.advance.ensures)
+    (λ done. GoesOn-joined c.args.direction (λ t at. cfb_bits-front E iv t c.bits.register c.key_bit.ensures.wide at) done
+    (GoesOn-bit E iv c.bits.register c.advance.new.register c.args.direction _ _ c.key_bit.ensures.wide (rw bit at c.advance.ensures)
     (ap (xor (get_or now place false)) c.key_bit.ensures.bit))) (c.bits.invariant iv)
 
 pub returns : goal.returns

@@ -8,11 +8,11 @@ use Rattle.des_modes.proofs.Pieces.{ciphertext-is}
 use Rattle.des_modes.proofs.StreamPlaces.{size_of-mode_by}
 use Rattle.des_modes.proofs.stream.Stream.apply.Goals as goal
 
-pub apply-requires-clause-short : goal.apply-requires-clause-short
-apply-requires-clause-short g c = rw c.requires.2 (size_of-mode_by c.args.self.now.mode c.requires.1).1
+pub apply_in-requires-clause-short : goal.apply_in-requires-clause-short
+apply_in-requires-clause-short g c = rw c.requires.2 (size_of-mode_by c.args.self.now.mode c.requires.1).1
 
 pub returns-clause-begun : goal.returns-clause-begun
-returns-clause-begun g c = (c.requires.0, c.requires.1, rw (← c.requires.2) c.apply.ensures.fits)
+returns-clause-begun g c = (c.requires.0, c.requires.1, rw (← c.requires.2) c.apply_in.ensures.fits)
 
 pub returns-clause-bytes : goal.returns-clause-bytes
 returns-clause-bytes g c number iv p d is =
@@ -23,17 +23,17 @@ returns-clause-bytes g c number iv p d is =
       is_block = is.is_block;
       are_bytes =
           All-append (λ byte. byte < 256) d _ is.are_bytes
-          (ciphertext-is AreBytes c.args.direction c.args.bytes.now c.apply.new.bytes c.are_bytes.ensures c.are_bytes-2.ensures);
-      place = rw (← same) (c.apply.ensures.after iv d place);
-      made = rw (← same) (c.apply.ensures.made iv p d place (rw (← same) at is.made));
+          (ciphertext-is AreBytes c.args.direction c.args.bytes.now c.apply_in.new.bytes c.are_bytes.ensures c.are_bytes-2.ensures);
+      place = rw (← same) (c.apply_in.ensures.after iv d place);
+      made = rw (← same) (c.apply_in.ensures.made iv p d place (rw (← same) at is.made));
     }
 
 pub returns-clause-undone : goal.returns-clause-undone
 returns-clause-undone g c number iv p d text is bytes made =
     let same : c.args.mode ≡ mode_by number = c.requires.2 ∙ ap mode_by is.is_mode in
     InMode-one c.args.mode _ iv p _ text _
-    (ciphertext-is AreBytes c.args.direction c.apply.new.bytes c.args.bytes.now c.are_bytes-2.ensures c.are_bytes.ensures) bytes
-    (c.apply.ensures.made iv p d (rw (← same) at is.place) (rw (← same) at is.made)) made
+    (ciphertext-is AreBytes c.args.direction c.apply_in.new.bytes c.args.bytes.now c.are_bytes-2.ensures c.are_bytes.ensures) bytes
+    (c.apply_in.ensures.made iv p d (rw (← same) at is.place) (rw (← same) at is.made)) made
 
 pub returns-clause-bits : goal.returns-clause-bits
 returns-clause-bits g c iv p d is =
@@ -41,6 +41,6 @@ returns-clause-bits g c iv p d is =
     record {
       begun = returns-clause-begun g c;
       is_mode = is.is_mode;
-      place = c.apply.ensures.after_bits same iv d is.place.0 is.place.1;
-      made = c.apply.ensures.made_bits same iv p d is.place.0 is.place.1 is.made;
+      place = c.apply_in.ensures.after_bits same iv d is.place.0 is.place.1;
+      made = c.apply_in.ensures.made_bits same iv p d is.place.0 is.place.1 is.made;
     }

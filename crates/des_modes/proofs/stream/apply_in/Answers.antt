@@ -1,54 +1,49 @@
-use Rattle.std.proofs.Common.{◌<◌, ◌^◌, length, ap, refl, ◌∙◌, arith}
-use Rattle.std.specs.Int.{w64, from_be_bytes}
-use Rattle.std.proofs.lemmas.Nat.{from_be_bytes-to_be_bytes_8}
+use Rattle.std.proofs.Common.{length, arith}
 use Rattle.des.specs.Bits.{bits_of_bytes}
 use Rattle.des_modes.specs.Directions.{plaintext, ciphertext}
 use Rattle.des_modes.proofs.BitPlaces.{bits-append, first_bits-all}
 use Rattle.des_modes.proofs.CfbPlaces.{cfb_stream-front}
-use Rattle.des_modes.proofs.Pieces.{Xors-append, Xors-whole}
-use Rattle.des_modes.proofs.stream.Place.apply.Goals as goal
+use Rattle.des_modes.proofs.Pieces.{Xors-append, Xors-directed, Xors-whole, bytes_undone}
+use Rattle.des_modes.proofs.stream.apply_in.Goals as goal
 
 pub returns-in-Counter-clause-fits : goal.returns-in-Counter-clause-fits
-returns-in-Counter-clause-fits g c = rw c.in-Counter.is c.apply_parts.new.state.fits
+returns-in-Counter-clause-fits g c = rw c.in-Counter.is c.apply_parts.ensures.fits
 
 pub returns-in-OutputFeedback-clause-fits : goal.returns-in-OutputFeedback-clause-fits
-returns-in-OutputFeedback-clause-fits g c = rw c.in-OutputFeedback.is c.apply_parts-in-OutputFeedback.new.state.fits
+returns-in-OutputFeedback-clause-fits g c = rw c.in-OutputFeedback.is c.apply_parts-in-OutputFeedback.ensures.fits
 
 pub returns-in-CipherFeedback-clause-fits : goal.returns-in-CipherFeedback-clause-fits
-returns-in-CipherFeedback-clause-fits g c =
-    rw (c.in-CipherFeedback.is, ← c.apply_parts-in-CipherFeedback.ensures.segment) c.apply_parts-in-CipherFeedback.new.state.fits
+returns-in-CipherFeedback-clause-fits g c = rw c.in-CipherFeedback.is c.apply_parts-in-CipherFeedback.ensures.fits
 
 pub returns-in-Counter-clause-after : goal.returns-in-Counter-clause-after
-returns-in-Counter-clause-after g c =
-    rw c.in-Counter.is (λ iv d at.
-    let after = c.apply_parts.ensures.after 0 iv d (c.from_be_bytes.ensures ∙ at.0, at.1) in
-    let fits : c.apply_parts.new.state.counter < 2 ^ 64 = omega (arith, after.0) in
-    (ap (from_be_bytes w64) c.to_be_bytes-self.ensures ∙ from_be_bytes-to_be_bytes_8 _ fits ∙ after.0, after.1))
+returns-in-Counter-clause-after g c = rw c.in-Counter.is (λ iv d at. ((c.apply_parts.ensures.goes iv).goes d at).0)
 
 pub returns-in-Counter-clause-made : goal.returns-in-Counter-clause-made
 returns-in-Counter-clause-made g c =
     rw c.in-Counter.is (λ iv p d at made.
     Xors-append 0 (length d) _ p d _ _ (omega (arith, made.count)) made
-    (c.apply_parts.ensures.xored 0 iv d (c.from_be_bytes.ensures ∙ at.0, at.1)))
+    (Xors-directed c.args.direction _ _ _ _ bytes_undone ((c.apply_parts.ensures.goes iv).goes d at).1))
 
 pub returns-in-OutputFeedback-clause-after : goal.returns-in-OutputFeedback-clause-after
-returns-in-OutputFeedback-clause-after g c = rw c.in-OutputFeedback.is (c.apply_parts-in-OutputFeedback.ensures.after 0)
+returns-in-OutputFeedback-clause-after g c =
+    rw c.in-OutputFeedback.is (λ iv d at. ((c.apply_parts-in-OutputFeedback.ensures.goes iv).goes d at).0)
 
 pub returns-in-OutputFeedback-clause-made : goal.returns-in-OutputFeedback-clause-made
 returns-in-OutputFeedback-clause-made g c =
     rw c.in-OutputFeedback.is (λ iv p d at made.
-    Xors-append 0 (length d) _ p d _ _ (omega (arith, made.count)) made (c.apply_parts-in-OutputFeedback.ensures.xored 0 iv d at))
+    Xors-append 0 (length d) _ p d _ _ (omega (arith, made.count)) made
+    (Xors-directed c.args.direction _ _ _ _ bytes_undone ((c.apply_parts-in-OutputFeedback.ensures.goes iv).goes d at).1))
 
 pub returns-in-CipherFeedback-clause-after : goal.returns-in-CipherFeedback-clause-after
 returns-in-CipherFeedback-clause-after g c =
-    rw c.in-CipherFeedback.is (λ iv d at. (c.apply_parts-in-CipherFeedback.ensures.after _ iv d (record { segment = refl; place = at })).place)
+    rw c.in-CipherFeedback.is (λ iv d at. ((c.apply_parts-in-CipherFeedback.ensures.goes iv).goes d at).0)
 
 pub returns-in-CipherFeedback-clause-made : goal.returns-in-CipherFeedback-clause-made
 returns-in-CipherFeedback-clause-made g c =
     rw c.in-CipherFeedback.is (λ iv p d at begun.
     Xors-whole
-    (cfb_stream-front c.in-CipherFeedback.segment (g.C.BlockCipherEncrypt.encrypted c.args.cipher.now) iv d c.args.self.now.register (omega arith) at.register) begun
-    (c.apply_parts-in-CipherFeedback.ensures.xored _ iv d (record { segment = refl; place = at })))
+    (cfb_stream-front c.in-CipherFeedback.segment (g.C.BlockCipherEncrypt.encrypted c.args.cipher.now) iv d c.args.place.now.register (omega arith) at.register) begun
+    (Xors-directed c.args.direction _ _ _ _ bytes_undone ((c.apply_parts-in-CipherFeedback.ensures.goes iv).goes d at).1))
 
 pub returns-in-BitFeedback-clause-after_bits : goal.returns-in-BitFeedback-clause-after_bits
 returns-in-BitFeedback-clause-after_bits g c same iv d at unused = (

@@ -1,0 +1,25 @@
+use Rattle.std.proofs.Common.{arith}
+use Rattle.des_modes.proofs.CfbPlaces.{Xors-within}
+use Rattle.des_modes.proofs.cfb.CfbMode.apply_in_segment.Goals as goal
+
+pub returns-in-Encrypt-clause-goes : goal.returns-in-Encrypt-clause-goes
+returns-in-Encrypt-clause-goes g c =
+    rw c.in-Encrypt.is (λ iv. record {
+      goes = λ d is.
+          let made = c.current-output.ensures iv d is in (
+            c.advance.ensures.after _ iv d is made,
+            Xors-within c.args.self.now.segment _ iv d c.args.place.now (omega arith) c.args.self.now.some is _ c.current-output.result
+                _ _ c.requires made c.xor_block_from.auto.bytes c.xor_block_from.ensures,
+          );
+    })
+
+pub returns-in-Decrypt-clause-goes : goal.returns-in-Decrypt-clause-goes
+returns-in-Decrypt-clause-goes g c =
+    rw c.in-Decrypt.is (λ iv. record {
+      goes = λ d is.
+          let made = c.current-output.ensures iv d is in (
+            c.advance-in-Decrypt.ensures.after _ iv d is made,
+            Xors-within c.args.self.now.segment _ iv d c.args.place.now (omega arith) c.args.self.now.some is _ c.current-output.result
+                _ _ c.requires made c.xor_block_from-in-Decrypt.auto.bytes c.xor_block_from-in-Decrypt.ensures,
+          );
+    })

@@ -1,0 +1,28 @@
+//! Where a stream goes on, in any of the modes.
+
+ghost use Rattle.std.specs.Prelude.{◌≡◌};
+
+/// Where a stream goes on: the counter block, the last output block or the shift register; the output
+/// block of a segment of cipher feedback that has begun; and how many bytes of the output block are
+/// used.
+#[repr(C)]
+#[derive(Clone, Copy)]
+pub struct Place {
+    pub(crate) register: [u8; 8],
+    pub(crate) output: [u8; 8],
+    pub(crate) used: usize,
+}
+
+impl Place {
+    // The beginning of a stream, or the place behind eight bytes of ciphertext.
+    pub(crate) fn new(register: &[u8; 8]) -> Place
+        ensures register { result.register ≡ register.now }
+        ensures used { result.used ≡ 0 }
+    {
+        Place {
+            register: *register,
+            output: [0; 8],
+            used: 0,
+        }
+    }
+}
