@@ -1,5 +1,5 @@
 -- A ciphertext has one plaintext, in each mode.
-use Rattle.std.proofs.Common.{◌≡◌, ◌<◌, ℕ, List, [], ◌∷◌, ◌++◌, refl, ap, ap₂, sym, ◌∙◌, arith, length, length-append, take, drop, take_at, drop_at}
+use Rattle.std.proofs.Common.{◌≡◌, ◌<◌, ℕ, List, [], ◌∷◌, ◌++◌, refl, ap, ap₂, arith, length, length-append, take, drop, take_at, drop_at}
 use Rattle.std.proofs.lemmas.List.{append_cancel_left}
 use Rattle.std.proofs.lemmas.List.Elements.{All-head, All-tail}
 use Rattle.des.specs.Bits.{bits_of, bits_of_bytes, number_of}
@@ -17,12 +17,8 @@ bytes_of_bits [] [] are_a are_b same = refl
 bytes_of_bits [] (y ∷ b) are_a are_b same = absurd (omega (arith, ap length same, length-append (bits_of 8 y) (bits_of_bytes b), length-bits_of 8 y))
 bytes_of_bits (x ∷ a) [] are_a are_b same = absurd (omega (arith, ap length same, length-append (bits_of 8 x) (bits_of_bytes a), length-bits_of 8 x))
 bytes_of_bits (x ∷ a) (y ∷ b) are_a are_b same =
-    let first : bits_of 8 x ≡ bits_of 8 y =
-    sym (take_at (bits_of 8 x) (bits_of_bytes a) 8 (length-bits_of 8 x)) ∙ ap (take 8) same
-    ∙ take_at (bits_of 8 y) (bits_of_bytes b) 8 (length-bits_of 8 y) in
-    let rest : bits_of_bytes a ≡ bits_of_bytes b =
-    sym (drop_at (bits_of 8 x) (bits_of_bytes a) 8 (length-bits_of 8 x)) ∙ ap (drop 8) same
-    ∙ drop_at (bits_of 8 y) (bits_of_bytes b) 8 (length-bits_of 8 y) in
+    let first = rw (take_at (bits_of 8 x) (bits_of_bytes a) 8 (length-bits_of 8 x), take_at (bits_of 8 y) (bits_of_bytes b) 8 (length-bits_of 8 y)) at (ap (take 8) same) in
+    let rest = rw (drop_at (bits_of 8 x) (bits_of_bytes a) 8 (length-bits_of 8 x), drop_at (bits_of 8 y) (bits_of_bytes b) 8 (length-bits_of 8 y)) at (ap (drop 8) same) in
     ap₂ ◌∷◌
     (omega (arith, number_of-bits_of 8 x, number_of-bits_of 8 y, ap number_of first, All-head (λ byte. byte < 256) x a are_a, All-head (λ byte. byte < 256) y b are_b))
     (bytes_of_bits a b (All-tail (λ byte. byte < 256) x a are_a) (All-tail (λ byte. byte < 256) y b are_b) rest)

@@ -1,14 +1,7 @@
 -- A part more.
-use Rattle.std.proofs.Common.{refl, arith}
-use Rattle.des_modes.proofs.Pieces.{GoesOn-none, GoesOn-joined, InPlace-more, InPlace-all}
+use Rattle.std.proofs.Common.{arith}
+use Rattle.des_modes.proofs.Pieces.{GoesOn-joined, InPlace-more, InPlace-all}
 use Rattle.des_modes.proofs.parts.apply_parts.Goals as goal
-
-pub parts-init : goal.parts-init
-parts-init g c = record {
-  within = omega arith;
-  fits = c.requires;
-  so_far = λ iv. record { done = GoesOn-none c.args.direction c.args.place.now; rest = refl };
-}
 
 pub parts-preserved : goal.parts-preserved
 parts-preserved g c = record {

@@ -6,15 +6,6 @@ use Rattle.des_modes.proofs.CfbPlaces.{cfb_stream-front}
 use Rattle.des_modes.proofs.Pieces.{Xors-append, Xors-directed, Xors-whole, bytes_undone}
 use Rattle.des_modes.proofs.stream.apply_in.Goals as goal
 
-pub returns-in-Counter-clause-fits : goal.returns-in-Counter-clause-fits
-returns-in-Counter-clause-fits g c = rw c.in-Counter.is c.apply_parts.ensures.fits
-
-pub returns-in-OutputFeedback-clause-fits : goal.returns-in-OutputFeedback-clause-fits
-returns-in-OutputFeedback-clause-fits g c = rw c.in-OutputFeedback.is c.apply_parts-in-OutputFeedback.ensures.fits
-
-pub returns-in-CipherFeedback-clause-fits : goal.returns-in-CipherFeedback-clause-fits
-returns-in-CipherFeedback-clause-fits g c = rw c.in-CipherFeedback.is c.apply_parts-in-CipherFeedback.ensures.fits
-
 pub returns-in-Counter-clause-after : goal.returns-in-Counter-clause-after
 returns-in-Counter-clause-after g c = rw c.in-Counter.is (λ iv d at. ((c.apply_parts.ensures.goes iv).goes d at).0)
 

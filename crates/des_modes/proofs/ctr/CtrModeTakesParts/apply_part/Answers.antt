@@ -1,4 +1,4 @@
-use Rattle.std.proofs.Common.{◌≡◌, ℕ, ◌+◌, List, length, refl, ap, ◌∙◌, arith, ◌/◌, ◌%◌, ◌^◌, ◌<◌, get_or, bit_xor}
+use Rattle.std.proofs.Common.{◌≡◌, ℕ, ◌+◌, List, length, ap, ◌∙◌, arith, ◌/◌, ◌%◌, ◌^◌, ◌<◌, get_or, bit_xor}
 use Rattle.std.specs.Int.{w64, to_be_bytes, from_be_bytes}
 use Rattle.std.proofs.lemmas.Nat.{from_be_bytes-to_be_bytes_8}
 use Rattle.des_modes.specs.Ctr.{ctr_stream}
@@ -38,6 +38,3 @@ returns-clause-goes g c t = record {
         Xors-counter (g.C.BlockCipherEncrypt.encrypted c.args.cipher.now) t (length d) number _ old _ is same c.apply_outputs.ensures,
       );
 }
-
-pub returns-clause-front : goal.returns-clause-front
-returns-clause-front g c t d at e more i below = refl
