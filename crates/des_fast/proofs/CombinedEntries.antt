@@ -3,16 +3,17 @@ use Rattle.std.proofs.Common.{◌≡◌, ℕ, ◌+◌, ◌*◌, ◌<◌, List, [
 use Rattle.std.specs.Int.Bits.{xor_disjoint}
 use Rattle.std.specs.List.{All}
 use Rattle.std.proofs.lemmas.List.FromFn.{get_or-map-range_with_len}
-use Rattle.std.proofs.lemmas.Nat.{and_assoc, or_disjoint}
+use Rattle.std.proofs.lemmas.Nat.{or_disjoint}
 use Rattle.std.proofs.lemmas.Nat.Bits.{same_from_bits, bit_at_xor}
 use Rattle.des.specs.Bits.{bits_of, number_of, select, xor_bits}
 use Rattle.des.specs.Tables.{selection_functions, expansion, permutation}
 use Rattle.des.specs.CipherFunction.{box_entry, substitute}
 use Rattle.des.specs.Laws.Selections.{length-select}
-use Rattle.des.proofs.LinearWords.{and-xor, and-masked}
+use Rattle.des.proofs.LinearWords.{and-masked}
 use Rattle.des_fast.specs.declared.tables.TheConstants.{TABLES}
-use Rattle.des_fast.specs.Groups.{word_of_groups, in_place}
+use Rattle.des_fast.specs.Groups.{word_of_groups, in_place, bits_of_groups}
 use Rattle.des_fast.specs.CombinedTables.{combined_entry, combined_table, combined_tables}
+use Rattle.des_fast.specs.SideBySide.{IsSubstitutedInto}
 use Rattle.des_fast.proofs.CipherFunctionByGroups.{substitute_by-groups}
 use Rattle.des_fast.proofs.HalfExpansions.{IsExpansionOf, IsExpansionOf-word, IsExpansionOf-xor}
 use Rattle.des_fast.proofs.TableTests.{same_entries}
@@ -52,19 +53,9 @@ entry-expansion i group six within below same =
 
 -- ---- the bits that entries have
 
--- the xor of numbers under a mask is under it
-under-xor : (a b m : ℕ) → bit_and a m ≡ a → bit_and b m ≡ b → bit_and (bit_xor a b) m ≡ bit_xor a b
-under-xor a b m a_under b_under = and-xor a b m ∙ ap₂ bit_xor a_under b_under
-
--- numbers under masks that share no bit have the same or as xor
-or-apart : (a b m n : ℕ) → bit_and m n ≡ 0 → bit_and a m ≡ a → bit_and b n ≡ b → bit_or a b ≡ bit_xor a b
-or-apart a b m n apart a_under b_under =
-    let none = ap₂ bit_and (sym a_under) (sym b_under) ∙ and-masked a b m n apart in
-    or_disjoint a b none ∙ sym (xor_disjoint a b none)
-
--- numbers under a mask are under a wider one
-wider : (a m n : ℕ) → bit_and m n ≡ m → bit_and a m ≡ a → bit_and a n ≡ a
-wider a m n within under = ap (λ x. bit_and x n) (sym under) ∙ and_assoc n a m ∙ ap (bit_and a) within ∙ under
+-- numbers that share no bit have the same or as xor
+or-xor : (a b : ℕ) → bit_and a b ≡ 0 → bit_or a b ≡ bit_xor a b
+or-xor a b apart = or_disjoint a b apart ∙ sym (xor_disjoint a b apart)
 
 -- the bits that the entries of each box, from 0, have
 abbrev box_mask : ℕ → ℕ
@@ -82,18 +73,18 @@ row join x = join (join (join (join (join (join (join (x 7) (x 6)) (x 5)) (x 4))
 -- eight words in a tree, whose first step may be another
 abbrev tree : (ℕ → ℕ → ℕ) → (ℕ → ℕ) → ℕ
 tree join x =
-    bit_xor (bit_xor (join (x 7) (x 5)) (join (x 3) (x 1))) (bit_xor (join (x 6) (x 4)) (join (x 2) (x 0)))
+    bit_xor (bit_xor (join (x 7) (x 6)) (join (x 3) (x 1))) (bit_xor (join (x 2) (x 0)) (join (x 5) (x 4)))
 
 tree-row : (x : ℕ → ℕ) → tree bit_xor x ≡ row bit_xor x
 tree-row x = same_from_bits _ _ (λ i. simp bit_at_xor (omega arith))
 
--- eight words in two rows, of which the second may be joined otherwise
-abbrev rows : (ℕ → ℕ → ℕ) → (ℕ → ℕ) → ℕ
-rows join x =
-    bit_xor (bit_xor (bit_xor (bit_xor (x 7) (x 5)) (x 3)) (x 1)) (join (join (join (x 6) (x 4)) (x 2)) (x 0))
+-- eight words in a row that begins with another, in the order of the code
+abbrev row_from : ℕ → (ℕ → ℕ) → ℕ
+row_from left x =
+    bit_xor (bit_xor (bit_xor (bit_xor (bit_xor (bit_xor (bit_xor (bit_xor left (x 7)) (x 6)) (x 3)) (x 1)) (x 2)) (x 0)) (x 5)) (x 4)
 
-rows-row : (x : ℕ → ℕ) → rows bit_xor x ≡ row bit_xor x
-rows-row x = same_from_bits _ _ (λ i. simp bit_at_xor (omega arith))
+row_from-row : (left : ℕ) (x : ℕ → ℕ) → row_from left x ≡ bit_xor left (row bit_xor x)
+row_from-row left x = same_from_bits _ _ (λ i. simp bit_at_xor (omega arith))
 
 -- the halves that the entries of the boxes stand for, each in its place, make P of the substitution
 row-permuted : (bits : List Bool)
@@ -122,33 +113,35 @@ module _ (bits : List Bool) (groups : List ℕ) (within : All (λ group. group <
       same_entries (λ i group. bit_and (entry i group) (box_mask i)) entry 8 64 i (slice_index groups i) below
       (within i 0 (omega arith)) refl
 
-  -- also in a tree where `|` joins pairs of them, which share no bit
+  -- so two of them share no bit
+  apart : (i j : ℕ) → i < 8 → j < 8 → bit_and (box_mask i) (box_mask j) ≡ 0
+      → bit_and (entry i (slice_index groups i)) (entry j (slice_index groups j)) ≡ 0
+  apart i j first second masks =
+      ap₂ bit_and (sym (under i first)) (sym (under j second)) ∙ and-masked _ _ (box_mask i) (box_mask j) masks
+
+  -- also in a tree where `|` joins pairs of them
   pub IsExpansionOf-entries :
       IsExpansionOf (tree bit_or (λ i. entry i (slice_index groups i))) (select permutation (substitute bits))
   IsExpansionOf-entries =
-      let pair = λ (i j : ℕ) (below : i < 8) (under_eight : j < 8) (apart : bit_and (box_mask i) (box_mask j) ≡ 0).
-      or-apart _ _ (box_mask i) (box_mask j) apart (under i below) (under j under_eight) in
+      let pair = λ (i j : ℕ) (first : i < 8) (second : j < 8) (masks : bit_and (box_mask i) (box_mask j) ≡ 0).
+      or-xor _ _ (apart i j first second masks) in
       rw (
-        pair 7 5 (lit≤ tt) (lit≤ tt) refl,
+        pair 7 6 (lit≤ tt) (lit≤ tt) refl,
         pair 3 1 (lit≤ tt) (lit≤ tt) refl,
-        pair 6 4 (lit≤ tt) (lit≤ tt) refl,
         pair 2 0 (lit≤ tt) (lit≤ tt) refl,
+        pair 5 4 (lit≤ tt) (lit≤ tt) refl,
         tree-row (λ i. entry i (slice_index groups i)),
       ) IsExpansionOf-row
 
-  -- also in two rows, in one of which `|` joins entries, which share no bit
-  pub IsExpansionOf-rows :
-      IsExpansionOf (rows bit_or (λ i. entry i (slice_index groups i))) (select permutation (substitute bits))
-  IsExpansionOf-rows =
-      let six : ℕ = box_mask 6 in
-      let six_four : ℕ = bit_or (box_mask 6) (box_mask 4) in
-      let six_four_two : ℕ = bit_or (bit_or (box_mask 6) (box_mask 4)) (box_mask 2) in
-      let wide = λ (n i : ℕ) (below : i < 8) (within : bit_and (box_mask i) n ≡ box_mask i).
-      wider _ (box_mask i) n within (under i below) in
-      let first = or-apart _ _ six (box_mask 4) refl (under 6 (lit≤ tt)) (under 4 (lit≤ tt)) in
-      let second = or-apart _ _ six_four (box_mask 2) refl
-      (under-xor _ _ six_four (wide six_four 6 (lit≤ tt) refl) (wide six_four 4 (lit≤ tt) refl)) (under 2 (lit≤ tt)) in
-      let third = or-apart _ _ six_four_two (box_mask 0) refl
-      (under-xor _ _ six_four_two (under-xor _ _ six_four_two (wide six_four_two 6 (lit≤ tt) refl)
-      (wide six_four_two 4 (lit≤ tt) refl)) (wide six_four_two 2 (lit≤ tt) refl)) (under 0 (lit≤ tt)) in
-      rw (first, second, third, rows-row (λ i. entry i (slice_index groups i))) IsExpansionOf-row
+-- xored into a word in a row, they make the next word of a round
+pub IsSubstitutedInto-row : (left word : ℕ) (groups : List ℕ) → All (λ group. group < 64) groups → length groups ≡ 8
+    → ((i : ℕ) → i < 8 → bits_of 6 (slice_index groups i) ≡ take 6 (drop (6 * i) (bits_of_groups word)))
+    → IsSubstitutedInto left word (row_from left (λ i. entry i (slice_index groups i)))
+IsSubstitutedInto-row left word groups within eight each =
+    let is = IsExpansionOf-row (bits_of_groups word) groups within eight each in
+    record {
+      change = row bit_xor (λ i. entry i (slice_index groups i));
+      joined = row_from-row left (λ i. entry i (slice_index groups i));
+      expansion = is.is_expansion;
+      substituted = is.has_half;
+    }

@@ -29,7 +29,7 @@ in_direction true keys = reverse keys
 abbrev pub keys_of : {W : Type 0} → Pass (Des W) → List (List Bool)
 keys_of pass = in_direction pass.deciphers (round_keys_of pass.cipher.now.schedule.round_keys)
 
--- two words hold the halves that the rounds of a block of eight bytes begin with
+-- the first words of a pair hold the halves that the rounds of a block of eight bytes begin with
 pub record AreHalvesOf {A : Type 0} (word : ℕ → A → ℕ) (block : List ℕ) (halves : A × A) : Type 0 where
   pub count : length block ≡ 8
   pub first : (half_of (word 0 halves.0), half_of (word 0 halves.1)) ≡ first_halves block

@@ -38,7 +38,7 @@ pub trait BoxLookup: Copy {
         ensures blocks { All IsBlock blocks.old }
         ensures chained { Cbc (A.output passes.now) iv.now blocks.old blocks.new };
 
-    // `lists::decrypt_cbc_part` keeps the blocks before six ciphertext blocks.
+    // CBC decryption keeps the ciphertext block before each block of a part, and has room for six.
     ghost at_most: { MOST ≤ 6 };
 }
 

@@ -1,14 +1,14 @@
 //! CBC encryption with no permutation between two blocks (FIPS 81, cipher block chaining mode).
 //!
 //! The initial permutation of a xor is the xor of two initial permutations, and that of a ciphertext
-//! block gives back the halves that its rounds ended with. So a block's rounds begin with these halves
-//! xored with those of its plaintext: they wait for the rounds before them, and for no permutation.
+//! block gives back the halves that its rounds ended with, exchanged. So a block's rounds begin with
+//! these halves xored with those of its plaintext: they wait for the rounds before them, and for no
+//! permutation.
 
 ghost use Rattle.std.specs.Prelude.{◌≡◌, ℕ, List, bit_xor};
 ghost use Rattle.std.specs.List.{All};
 ghost use Rattle.des.specs.Blocks.{IsBlock};
 ghost use Rattle.des.specs.Cbc.{Cbc, xor_blocks};
-ghost use Rattle.des_fast.specs.HalfBlocks.{first_halves};
 ghost use Rattle.des_fast.specs.SideBySide.{AreExpansions, AreHalvesOf};
 ghost use Rattle.des_fast.specs.Slices.{InEachBlock};
 
@@ -36,7 +36,8 @@ fn halves_of<G: OneWord>(block: &[u8; 8]) -> (G, G)
     G::of_blocks(&[*block])
 }
 
-// Encrypts a block of a chain through passes. From the halves of the block before it to its own.
+// Encrypts a block of a chain through passes. Takes the halves of the ciphertext block before it, and
+// returns its own: those after its rounds, exchanged.
 #[inline(always)]
 fn encrypt_next<G: OneWord, A: BlockTransform>(
     block: &mut [u8; 8],

@@ -264,8 +264,8 @@ pub(crate) fn after_rounds<G: Groups>(
     }
 }
 
-/// The same, with the round keys kept in the halves: quicker if few blocks go side by side, which wait
-/// for their lookups.
+/// The same, with the round keys kept in the halves: quicker for one block, which waits for its
+/// lookups.
 #[inline(always)]
 pub(crate) fn after_keyed_rounds<G: Groups>(
     left: G,

@@ -6,8 +6,8 @@ use crate::chained_halves::OneWord;
 use crate::halves::RoundKey;
 use crate::one_block::{block_of_halves, halves_of_block};
 use crate::permutations::{blocks_of, halves_of};
-use crate::rounds::{Groups, SixteenRounds, after_keyed_rounds};
-use crate::tables::{substitute, substitute_in_rows};
+use crate::rounds::{Groups, SixteenRounds, after_keyed_rounds, after_rounds};
+use crate::tables::{substitute, xor_substituted};
 use std::simd::prelude::*;
 
 /// A word of groups of one block.
@@ -131,8 +131,8 @@ impl Groups for TwoBlocks {
     #[inline(always)]
     fn xor_substituted(self, others: TwoBlocks) -> TwoBlocks {
         TwoBlocks {
-            first: self.first ^ substitute(others.first),
-            second: self.second ^ substitute(others.second),
+            first: xor_substituted(self.first, others.first),
+            second: xor_substituted(self.second, others.second),
         }
     }
 }
@@ -145,7 +145,7 @@ impl SixteenRounds for TwoBlocks {
         round_keys: &[RoundKey; 16],
         deciphers: bool,
     ) -> (TwoBlocks, TwoBlocks) {
-        after_keyed_rounds(left, right, round_keys, deciphers)
+        after_rounds(left, right, round_keys, deciphers)
     }
 }
 
@@ -209,9 +209,9 @@ impl Groups for ThreeBlocks {
     #[inline(always)]
     fn xor_substituted(self, others: ThreeBlocks) -> ThreeBlocks {
         ThreeBlocks {
-            first: self.first ^ substitute_in_rows(others.first),
-            second: self.second ^ substitute_in_rows(others.second),
-            third: self.third ^ substitute_in_rows(others.third),
+            first: xor_substituted(self.first, others.first),
+            second: xor_substituted(self.second, others.second),
+            third: xor_substituted(self.third, others.third),
         }
     }
 }
@@ -224,6 +224,6 @@ impl SixteenRounds for ThreeBlocks {
         round_keys: &[RoundKey; 16],
         deciphers: bool,
     ) -> (ThreeBlocks, ThreeBlocks) {
-        after_keyed_rounds(left, right, round_keys, deciphers)
+        after_rounds(left, right, round_keys, deciphers)
     }
 }

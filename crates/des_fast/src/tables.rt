@@ -4,12 +4,14 @@
 //! groups 1, 3, 5 and 7, then 2, 4, 6 and 8.
 
 ghost use Rattle.std.specs.Prelude.{◌≡◌, ◌*◌, ◌<◌, ℕ, take, drop, slice_index};
+ghost use Rattle.std.specs.Int.{w32, to_be_bytes};
 ghost use Rattle.std.specs.List.{All};
 ghost use Rattle.des.specs.Bits.{bits_of, select};
 ghost use Rattle.des.specs.Tables.{permutation};
 ghost use Rattle.des.specs.CipherFunction.{substitute};
 ghost use Rattle.des_fast.specs.Groups.{IsOfGroups, IsExpansion, bits_of_groups, half_of};
 ghost use Rattle.des_fast.specs.CombinedTables.{combined_tables};
+ghost use Rattle.des_fast.specs.SideBySide.{IsSubstitutedInto};
 
 /// For each box S1 to S8 and each group of six bits, as they stand (the first of them the highest):
 /// the word of groups of E of P of the four bits of the box's entry in their place, with zeros in
@@ -184,30 +186,30 @@ pub(crate) fn substitute(word: u64) -> u64
     let group = groups_of(word);
     // Entries of different boxes share no bit, so `|` joins them as `^` does. Of one operation
     // alone the compiler makes a row, where each waits for the one before it; of both it keeps the
-    // tree.
-    let even = (TABLES[7][group[7]] | TABLES[5][group[5]])
+    // tree. The entries whose groups are known last are joined last.
+    let first = (TABLES[7][group[7]] | TABLES[6][group[6]])
         ^ (TABLES[3][group[3]] | TABLES[1][group[1]]);
-    let odd = (TABLES[6][group[6]] | TABLES[4][group[4]])
-        ^ (TABLES[2][group[2]] | TABLES[0][group[0]]);
-    even ^ odd
+    let last = (TABLES[2][group[2]] | TABLES[0][group[0]])
+        ^ (TABLES[5][group[5]] | TABLES[4][group[4]]);
+    first ^ last
 }
 
-/// Substitutes so, with the entries joined in two rows, which is quicker for three blocks side by
-/// side: fewer steps, of which each waits for the one before it. The compiler begins the row of `^`
-/// with what the caller adds, and keeps that of `|` apart.
+/// A word, with what `substitute` makes of another xored in. The entries are joined in a row, which is
+/// quicker for blocks side by side: fewer instructions, of which each waits for the one before it.
 #[inline]
-pub(crate) fn substitute_in_rows(word: u64) -> u64
-    requires { IsOfGroups word }
-    ensures expansion { IsExpansion result }
-    ensures substituted { half_of result ≡ select permutation (substitute (bits_of_groups word)) }
+pub(crate) fn xor_substituted(left: u64, right: u64) -> u64
+    requires { IsOfGroups right }
+    ensures { IsSubstitutedInto left right result }
 {
-    let group = groups_of(word);
-    let even = TABLES[7][group[7]]
-        ^ TABLES[5][group[5]]
+    let group = groups_of(right);
+    left ^ TABLES[7][group[7]]
+        ^ TABLES[6][group[6]]
         ^ TABLES[3][group[3]]
-        ^ TABLES[1][group[1]];
-    let odd = TABLES[6][group[6]] | TABLES[4][group[4]] | TABLES[2][group[2]] | TABLES[0][group[0]];
-    even ^ odd
+        ^ TABLES[1][group[1]]
+        ^ TABLES[2][group[2]]
+        ^ TABLES[0][group[0]]
+        ^ TABLES[5][group[5]]
+        ^ TABLES[4][group[4]]
 }
 
 // The groups of a word of groups, in their order.
@@ -218,14 +220,23 @@ fn groups_of(word: u64) -> [usize; 8]
     ensures groups { (i : ℕ) → i < 8
         → bits_of 6 (slice_index result i) ≡ take 6 (drop (6 * i) (bits_of_groups word)) }
 {
+    let [first, third, fifth, seventh] = bytes_of((word >> 32) as u32);
+    let [second, fourth, sixth, eighth] = bytes_of((word & 0x00000000ffffffff) as u32);
+    [first, second, third, fourth, fifth, sixth, seventh, eighth]
+}
+
+// The bytes of half a word, the most significant first. x86-64 takes each of the last two bytes of a
+// register in one instruction, and the rotation brings the first two there. The third is taken of it
+// too: were only its last two bytes used, the compiler would make shifts and masks of the rotation.
+#[inline(always)]
+fn bytes_of(half: u32) -> [usize; 4]
+    ensures { result ≡ to_be_bytes w32 half }
+{
+    let rotated = half.rotate_right(16);
     [
-        ((word >> 56) & 0x00000000000000ff) as usize,
-        ((word >> 24) & 0x00000000000000ff) as usize,
-        ((word >> 48) & 0x00000000000000ff) as usize,
-        ((word >> 16) & 0x00000000000000ff) as usize,
-        ((word >> 40) & 0x00000000000000ff) as usize,
-        ((word >> 8) & 0x00000000000000ff) as usize,
-        ((word >> 32) & 0x00000000000000ff) as usize,
-        (word & 0x00000000000000ff) as usize,
+        ((rotated >> 8) & 0x000000ff) as usize,
+        (rotated & 0x000000ff) as usize,
+        ((rotated >> 24) & 0x000000ff) as usize,
+        (half & 0x000000ff) as usize,
     ]
 }
