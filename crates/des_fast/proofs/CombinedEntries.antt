@@ -73,7 +73,7 @@ row join x = join (join (join (join (join (join (join (x 7) (x 6)) (x 5)) (x 4))
 -- eight words in a tree, whose first step may be another
 abbrev tree : (ℕ → ℕ → ℕ) → (ℕ → ℕ) → ℕ
 tree join x =
-    bit_xor (bit_xor (join (x 7) (x 6)) (join (x 3) (x 1))) (bit_xor (join (x 2) (x 0)) (join (x 5) (x 4)))
+    bit_xor (bit_xor (join (x 7) (x 5)) (join (x 3) (x 1))) (bit_xor (join (x 6) (x 4)) (join (x 2) (x 0)))
 
 tree-row : (x : ℕ → ℕ) → tree bit_xor x ≡ row bit_xor x
 tree-row x = same_from_bits _ _ (λ i. simp bit_at_xor (omega arith))
@@ -126,10 +126,10 @@ module _ (bits : List Bool) (groups : List ℕ) (within : All (λ group. group <
       let pair = λ (i j : ℕ) (first : i < 8) (second : j < 8) (masks : bit_and (box_mask i) (box_mask j) ≡ 0).
       or-xor _ _ (apart i j first second masks) in
       rw (
-        pair 7 6 (lit≤ tt) (lit≤ tt) refl,
+        pair 7 5 (lit≤ tt) (lit≤ tt) refl,
         pair 3 1 (lit≤ tt) (lit≤ tt) refl,
+        pair 6 4 (lit≤ tt) (lit≤ tt) refl,
         pair 2 0 (lit≤ tt) (lit≤ tt) refl,
-        pair 5 4 (lit≤ tt) (lit≤ tt) refl,
         tree-row (λ i. entry i (slice_index groups i)),
       ) IsExpansionOf-row
 

@@ -41,6 +41,17 @@ bits_of-in_order word i below =
     bits_of-byte word i below
     ∙ ap (λ bits. take 6 (drop (6 * i) (select group_positions bits))) (bits_of_bytes-to_be word)
 
+-- the bytes by shifts and masks
+abbrev pub masked_bytes : ℕ → List ℕ
+masked_bytes word =
+    let byte : ℕ → ℕ = λ k. bit_and (word / 2 ^ k) 0x00000000000000ff in
+    byte 56 ∷ byte 24 ∷ byte 48 ∷ byte 16 ∷ byte 40 ∷ byte 8 ∷ byte 32 ∷ bit_and word 0x00000000000000ff ∷ []
+
+pub masked_bytes-in_order : (word : ℕ) → masked_bytes word ≡ in_order (to_be_bytes w64 word)
+masked_bytes-in_order word =
+    let masked : (byte : ℕ) → bit_and byte 0x00000000000000ff ≡ byte % 2 ^ 8 = λ byte. and_mask byte 8 in
+    simp masked
+
 -- the bytes of half a word by shifts and masks of it and of its rotation
 abbrev pub rotated_bytes : ℕ → ℕ → List ℕ
 rotated_bytes half rotated =

@@ -186,22 +186,23 @@ pub(crate) fn substitute(word: u64) -> u64
     let group = groups_of(word);
     // Entries of different boxes share no bit, so `|` joins them as `^` does. Of one operation
     // alone the compiler makes a row, where each waits for the one before it; of both it keeps the
-    // tree. The entries whose groups are known last are joined last.
-    let first = (TABLES[7][group[7]] | TABLES[6][group[6]])
+    // tree.
+    let even = (TABLES[7][group[7]] | TABLES[5][group[5]])
         ^ (TABLES[3][group[3]] | TABLES[1][group[1]]);
-    let last = (TABLES[2][group[2]] | TABLES[0][group[0]])
-        ^ (TABLES[5][group[5]] | TABLES[4][group[4]]);
-    first ^ last
+    let odd = (TABLES[6][group[6]] | TABLES[4][group[4]])
+        ^ (TABLES[2][group[2]] | TABLES[0][group[0]]);
+    even ^ odd
 }
 
-/// A word, with what `substitute` makes of another xored in. The entries are joined in a row, which is
-/// quicker for blocks side by side: fewer instructions, of which each waits for the one before it.
+/// A word, with what `substitute` makes of another xored in: quicker for blocks side by side, since it
+/// has fewer instructions, and slower for one, since these wait for one another. The entries are
+/// joined in a row.
 #[inline]
 pub(crate) fn xor_substituted(left: u64, right: u64) -> u64
     requires { IsOfGroups right }
     ensures { IsSubstitutedInto left right result }
 {
-    let group = groups_of(right);
+    let group = groups_of_halves(right);
     left ^ TABLES[7][group[7]]
         ^ TABLES[6][group[6]]
         ^ TABLES[3][group[3]]
@@ -215,6 +216,26 @@ pub(crate) fn xor_substituted(left: u64, right: u64) -> u64
 // The groups of a word of groups, in their order.
 #[inline]
 fn groups_of(word: u64) -> [usize; 8]
+    requires { IsOfGroups word }
+    ensures within { All (λ group. group < 64) result }
+    ensures groups { (i : ℕ) → i < 8
+        → bits_of 6 (slice_index result i) ≡ take 6 (drop (6 * i) (bits_of_groups word)) }
+{
+    [
+        ((word >> 56) & 0x00000000000000ff) as usize,
+        ((word >> 24) & 0x00000000000000ff) as usize,
+        ((word >> 48) & 0x00000000000000ff) as usize,
+        ((word >> 16) & 0x00000000000000ff) as usize,
+        ((word >> 40) & 0x00000000000000ff) as usize,
+        ((word >> 8) & 0x00000000000000ff) as usize,
+        ((word >> 32) & 0x00000000000000ff) as usize,
+        (word & 0x00000000000000ff) as usize,
+    ]
+}
+
+// The same, by the halves of the word.
+#[inline]
+fn groups_of_halves(word: u64) -> [usize; 8]
     requires { IsOfGroups word }
     ensures within { All (λ group. group < 64) result }
     ensures groups { (i : ℕ) → i < 8
