@@ -6,8 +6,9 @@
 #include <string.h>
 
 #if HAS_WIDE
-/* The processor is asked once, since a virtual one may take long to answer. Threads that ask at once all store one answer. */
-static bool processor_is_wide(void) {
+/* Whether the processor has the wide calls. It is asked once, since a virtual one may take long to answer. Threads that ask at once all store
+   one answer. */
+bool cukvashe_internal_is_wide(void) {
   enum { NOT_ASKED, NO, YES };
   static int answer = NOT_ASKED;
   int known = __atomic_load_n(&answer, __ATOMIC_RELAXED);
@@ -18,8 +19,6 @@ static bool processor_is_wide(void) {
   }
   return known == YES;
 }
-
-bool cukvashe_internal_takes_wide(size_t count) { return count > MOST_NARROW && processor_is_wide(); }
 #endif
 
 /* Whether a terminal's state has a future key: one that was never initialised or was wiped has none, nor one after its last transaction. All

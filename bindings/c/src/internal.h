@@ -23,11 +23,12 @@
 /* MACs by the numbers of their algorithms in ISO/IEC 9797-1:2011. CMAC takes padding method 1 or 2 here too, which plays no part. */
 enum algorithm { ALGORITHM_CBC_MAC = 1, ALGORITHM_RETAIL_MAC = 3, ALGORITHM_CMAC = 5 };
 
-/* CHOOSE makes a call of an export of lists, for this many blocks, keys or messages. */
+/* CHOOSE makes a call of an export of lists, for this many blocks, keys or messages. Short lists take no call more for it. */
 #if HAS_WIDE
-bool cukvashe_internal_takes_wide(size_t count);
+bool cukvashe_internal_is_wide(void);
 #define CHOOSE(COUNT, CALL, ...)                                                                                      \
-  (cukvashe_internal_takes_wide(COUNT) ? cukvashe_wide_##CALL(__VA_ARGS__) : cukvashe_internal_##CALL(__VA_ARGS__))
+  ((COUNT) > MOST_NARROW && cukvashe_internal_is_wide() ? cukvashe_wide_##CALL(__VA_ARGS__)                           \
+                                                        : cukvashe_internal_##CALL(__VA_ARGS__))
 
 /* What decides which level of x86-64 a processor has: words that `cpuid` writes, and 0 for those that it does not have. */
 struct processor {
