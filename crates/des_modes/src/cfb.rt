@@ -152,11 +152,11 @@ impl CfbMode {
             → result ≡ C.encrypted cipher.now
             (input_block self.now.segment iv c (length c / self.now.segment)) }
     {
-        if place.used != 0 {
-            return place.output;
+        let mut output = place.output;
+        if place.used == 0 {
+            output = place.register;
+            cipher.encrypt_block(&mut output);
         }
-        let mut output = place.register;
-        cipher.encrypt_block(&mut output);
         output
     }
 
@@ -207,7 +207,8 @@ impl CfbMode {
 
     // Encrypts segments of eight bytes together, of which the last may be cut short. CBC of a block of
     // zeros and the segments P(0), P(1), .., from the shift register, gives the output blocks O(0), O(1),
-    // ..: O(j + 1) = E(C(j)) = E(P(j) ^ O(j)).
+    // ..: O(j + 1) = E(C(j)) = E(P(j) ^ O(j)). Not inlined, so that a text of one block does no work for many.
+    #[inline(never)]
     fn encrypt_segments<C: CbcEncrypt>(&self, place: &mut Place, cipher: &C, bytes: &mut [u8])
         requires blocks { self.now.segment ≡ 8 }
         requires between { place.old.used ≡ 0 }
@@ -231,7 +232,8 @@ impl CfbMode {
         place.output = block_at(part, count / 8);
     }
 
-    // Decrypts segments together, of which the last may be cut short.
+    // Decrypts segments together, of which the last may be cut short. Not inlined, as `encrypt_segments`.
+    #[inline(never)]
     fn decrypt_segments<C: BlockCipherEncrypt>(
         &self,
         place: &mut Place,

@@ -47,7 +47,22 @@ fn apply_output<C: BlockCipherEncrypt>(cipher: &C, counter: u64, used: usize, by
 }
 
 // Encrypts or decrypts bytes by the output blocks of a counter and of those that follow it, from byte
-// `used` of the first on.
+// `used` of the first on. Not inlined, so that a text of one block does no work for many.
+#[inline(never)]
+fn apply_many<C: BlockCipherEncrypt>(cipher: &C, counter: u64, used: usize, bytes: &mut [u8])
+    requires { used + length bytes.old ≤ 2048 }
+    ensures { (i : ℕ) → i < length bytes.old → slice_index bytes.new i
+        ≡ bit_xor (slice_index bytes.old i)
+        (slice_index (C.encrypted cipher.now (to_be_bytes w64 ((counter + (used + i) / 8) % 2 ^ 64)))
+        ((used + i) % 8)) }
+{
+    let mut blocks = [[0; 8]; TOGETHER];
+    let part = &mut blocks[..(used + bytes.len()).div_ceil(8)];
+    write_outputs(cipher, part, counter);
+    xor_blocks_from(bytes, part, used);
+}
+
+// As `apply_many`, but bytes of one block alone.
 fn apply_outputs<C: BlockCipherEncrypt>(cipher: &C, counter: u64, used: usize, bytes: &mut [u8])
     requires { used + length bytes.old ≤ 2048 }
     ensures { (i : ℕ) → i < length bytes.old → slice_index bytes.new i
@@ -56,12 +71,10 @@ fn apply_outputs<C: BlockCipherEncrypt>(cipher: &C, counter: u64, used: usize, b
         ((used + i) % 8)) }
 {
     if used + bytes.len() <= 8 {
-        return apply_output(cipher, counter, used, bytes);
+        apply_output(cipher, counter, used, bytes);
+    } else {
+        apply_many(cipher, counter, used, bytes);
     }
-    let mut blocks = [[0; 8]; TOGETHER];
-    let part = &mut blocks[..(used + bytes.len()).div_ceil(8)];
-    write_outputs(cipher, part, counter);
-    xor_blocks_from(bytes, part, used);
 }
 
 /// The counter mode. The register of a place holds the counter of the block that it stands in.

@@ -1,9 +1,11 @@
 //! Output feedback of 64 bits over any block cipher (FIPS 81, output feedback mode; NIST SP 800-38A,
 //! 6.4).
 
-ghost use Rattle.std.specs.Prelude.{◌≡◌, ◌+◌, ◌-◌, ◌/◌, ℕ, List, nat_eq, if◌then◌else◌};
+ghost use Rattle.std.specs.Prelude.{◌≡◌, ◌<◌, ◌≤◌, ◌+◌, ◌-◌, ◌/◌, ℕ, List, length, nat_eq, if◌then◌else◌, bit_xor};
 ghost use Rattle.des_modes.specs.Ofb.{ofb_stream, output_block};
-ghost use Rattle.des_modes.specs.States.{IsAtOutput};
+ghost use Rattle.des_modes.specs.States.{IsAtOutput, IsPlace};
+ghost use Rattle.des_modes.specs.Streams.{GoesOn};
+ghost use Rattle.des_modes.specs.declared.direction.Direction.{Direction as DirectionOf};
 ghost use Rattle.des_modes.specs.declared.modes.Mode.TheVariants.{OutputFeedback};
 
 use crate::cbc_encrypt::CbcEncrypt;
@@ -27,6 +29,28 @@ fn current<C: BlockCipherEncrypt>(place: &Place, cipher: &C) -> [u8; 8]
     block
 }
 
+// Encrypts or decrypts bytes from the beginning of an output block on. CBC of blocks of zeros gives the
+// output blocks. Not inlined, so that a text of one block does no work for many.
+#[inline(never)]
+fn apply_chained<C: CbcEncrypt>(place: &mut Place, cipher: &C, bytes: &mut [u8])
+    requires between { place.old.used ≡ 0 }
+    requires some { 1 ≤ length bytes.old }
+    requires few { length bytes.old ≤ 2048 }
+    ensures fits { place.new.used < 8 }
+    ensures goes { (direction : DirectionOf) (iv : List ℕ) → GoesOn bit_xor 0
+        (IsPlace OutputFeedback (C.encrypted cipher.now) iv)
+        (λ c. ofb_stream (C.encrypted cipher.now) iv)
+        direction place.old place.new bytes.old bytes.new }
+{
+    let mut outputs = [[0; 8]; TOGETHER];
+    let part = &mut outputs[..bytes.len().div_ceil(8)];
+    cipher.encrypt_cbc(&place.register, part);
+    are_blocks(part);
+    xor_blocks_from(bytes, part, 0);
+    place.register = part[part.len() - 1];
+    place.used = bytes.len() % 8;
+}
+
 /// Output feedback. The register of a place holds the last output block, of which 0 bytes are used if
 /// all are.
 pub(crate) struct OfbMode;
@@ -47,21 +71,13 @@ impl<C: CbcEncrypt> TakesParts<C> for OfbMode {
     }
 
     fn apply_part(&self, _direction: Direction, place: &mut Place, cipher: &C, bytes: &mut [u8]) {
-        let end = place.used + bytes.len();
         if bytes.len() > 8 {
-            // CBC of blocks of zeros gives the output blocks.
-            let mut outputs = [[0; 8]; TOGETHER];
-            let part = &mut outputs[..bytes.len().div_ceil(8)];
-            cipher.encrypt_cbc(&place.register, part);
-            are_blocks(part);
-            xor_blocks_from(bytes, part, 0);
-            place.register = part[part.len() - 1];
-            place.used = end % 8;
+            apply_chained(place, cipher, bytes);
         } else {
             let output = current(place, cipher);
             xor_block_from(bytes, &output, place.used);
             place.register = output;
-            place.used = end % 8;
+            place.used = (place.used + bytes.len()) % 8;
         }
     }
 }

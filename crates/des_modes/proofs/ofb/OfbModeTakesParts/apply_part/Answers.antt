@@ -2,45 +2,15 @@ use Rattle.std.proofs.Common.{◌≡◌, ℕ, ◌+◌, ◌-◌, ◌/◌, ◌%◌
 use Rattle.std.specs.Prelude.{nat_eq, if◌then◌else◌}
 use Rattle.std.proofs.lemmas.Bool.Decides.{nat_tests}
 use Rattle.des_modes.specs.Ofb.{output_block}
-use Rattle.des_modes.proofs.ChainedOutputs.{length-zero_blocks, outputs-of_part}
 use Rattle.des_modes.proofs.Pieces.{length-behind}
 use Rattle.des_modes.proofs.ofb.OfbModeTakesParts.apply_part.Goals as goal
 
--- many bytes come only between blocks, and few are within one
-between : (used count : ℕ) → 9 ≤ count → count ≤ (if nat_eq used 0 then 2048 else (8 - used)) → (used ≡ 0) × (count ≤ 2048)
-between used count many few = grind (arith, nat_tests)
+pub returns-then-bytes-gt8-clause-goes : goal.returns-then-bytes-gt8-clause-goes
+returns-then-bytes-gt8-clause-goes g c = c.apply_chained.ensures.goes c.args._direction
 
+-- few bytes are within a block
 within : (used count : ℕ) → used < 8 → count ≤ 8 → count ≤ (if nat_eq used 0 then 2048 else (8 - used)) → used + count ≤ 8
 within used count fits one few = grind (arith, nat_tests)
-
-pub returns-then-bytes-gt8-clause-goes : goal.returns-then-bytes-gt8-clause-goes
-returns-then-bytes-gt8-clause-goes g c iv = record {
-  goes = λ d at.
-      let E : List ℕ → List ℕ = g.C.BlockCipherEncrypt.encrypted c.args.cipher.now in
-      let bytes : List ℕ = c.args.bytes.now in
-      let n : ℕ = length d in
-      let q : List (List ℕ) = c.encrypt_cbc.new.blocks in
-      let k : ℕ = c.div_ceil.result in
-      let (unused, most) = between c.args.place.now.used (length bytes) (omega arith) c.requires.few in
-      let few : k ≤ 256 = omega (arith, c.div_ceil.ensures, most) in
-      let many : length q ≡ k = c.encrypt_cbc.ensures.count ∙ length-zero_blocks 256 k few in
-      let last : ℕ = length q - 1 in
-      let end : last + 1 + n / 8 ≡ (n + length bytes + 7) / 8 = omega (arith, c.div_ceil.ensures, at.1, unused) in
-      let outputs = outputs-of_part E iv c.args.place.now.register n 256 k q few (omega (arith, at.1, unused)) (omega arith) at.0
-      c.encrypt_cbc.ensures c.are_blocks.ensures in
-      rw (length-behind c.args._direction d bytes _ c.xor_blocks_from.auto.bytes) (
-        (outputs last (omega (arith, c.div_ceil.ensures)) ∙ ap (output_block E iv) end, omega (arith, at.1)),
-        record {
-          count = c.xor_blocks_from.auto.bytes;
-          xored = λ i below.
-              let block : (0 + i) / 8 + 1 + n / 8 ≡ (n + i) / 8 + 1 = omega (arith, at.1, unused) in
-              let byte : (0 + i) % 8 ≡ (n + i) % 8 = omega (arith, at.1, unused) in
-              c.xor_blocks_from.ensures i below
-              ∙ ap₂ (λ (x : List ℕ) (r : ℕ). bit_xor (get_or bytes i 0) (get_or x r 0))
-              (outputs ((0 + i) / 8) (omega (arith, c.div_ceil.ensures)) ∙ ap (output_block E iv) block) byte;
-        },
-      );
-}
 
 pub returns-else-bytes-gt8-clause-goes : goal.returns-else-bytes-gt8-clause-goes
 returns-else-bytes-gt8-clause-goes g c iv = record {
