@@ -212,9 +212,17 @@ pub fn apply_mode<S: Slice>(
         (plaintext direction bytes.old bytes.new) (ciphertext direction bytes.old bytes.new) }
     ensures kept { result ≢ OK → bytes.new ≡ bytes.old }
 {
-    match Stream::new(mode, iv) {
-        Some(mut stream) => apply_stream::<S>(direction, context, &mut stream, bytes),
-        None if opened(NO_MAC, context).is_none() => ERR_CONTEXT,
-        None => ERR_MODE,
-    }
+    let Some((cipher, no_tables)) = opened(NO_MAC, context) else {
+        return ERR_CONTEXT;
+    };
+    let Some(begun) = Stream::new(mode, iv) else {
+        return ERR_MODE;
+    };
+    let mode = begun.mode().unwrap();
+    let mut stream = begun;
+    dispatch_cipher!(
+        cipher,
+        apply_by::<S>(direction, context, no_tables, mode, &mut stream, bytes)
+    );
+    OK
 }
