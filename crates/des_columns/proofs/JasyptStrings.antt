@@ -1,14 +1,14 @@
 -- A string that is written of a text is read as it.
-use Rattle.std.proofs.Common.{◌≡◌, inr, ℕ, zero, suc, ◌+◌, ◌-◌, ◌*◌, ◌/◌, ◌%◌, ◌==◌, ◌&&◌, not, nat_eq, Bool, true, false, if◌then◌else◌, List, [], ◌∷◌, ◌++◌, codes, length, take, drop, replicate, get_or, refl, ap, ◌∙◌, arith, length-append}
+use Rattle.std.proofs.Common.{◌≡◌, inr, ℕ, zero, suc, ◌-◌, ◌==◌, ◌&&◌, not, nat_eq, Bool, true, false, if◌then◌else◌, List, [], ◌∷◌, ◌++◌, codes, length, take, drop, replicate, get_or, refl, ap, ◌∙◌, arith, length-append}
 use Rattle.std.specs.Char.{is_ascii_whitespace}
 use Rattle.std.specs.List.{ends_with, filter, list_all, prefix_len, starts_with, suffix_len}
-use Rattle.std.proofs.lemmas.Bool.{and_from, and_parts, ne_eqb, not-true}
+use Rattle.std.proofs.lemmas.Bool.{and_parts, ne_eqb, not-true}
 use Rattle.std.proofs.lemmas.List.{drop_at, take_all, take_at}
 use Rattle.std.proofs.lemmas.List.Folds.{list_all-append}
 use Rattle.std.proofs.lemmas.List.Sums.{prefix_len_is, suffix_len_is}
 use Rattle.base64.specs.Engines.{standard}
 use Rattle.base64.specs.GeneralPurpose.{encode_of}
-use Rattle.base64.specs.Rfc4648.{encode_symbols, padding_len}
+use Rattle.base64.specs.Rfc4648.{encode_symbols}
 use Rattle.des.specs.Blocks.{AreBytes}
 use Rattle.des_passwords.specs.TextLines.{trimmed, without_blanks_after}
 use Rattle.des_columns.specs.Jasypt.{IsWritten, Reads, WritesBy, characters_of, inside, is_character, relation_by}
@@ -38,14 +38,9 @@ of-table i = symbol-at standard.encode_table i refl
 symbols-encoded : (bytes : List ℕ) → list_all is_symbol (encode_symbols standard.encode_table bytes) ≡ true
 unfolding encode_symbols
 symbols-encoded [] = refl
-symbols-encoded (a ∷ []) = and_from _ _ (of-table (a / 4)) (and_from _ _ (of-table (a % 4 * 16)) refl)
-symbols-encoded (a ∷ b ∷ []) =
-    and_from _ _ (of-table (a / 4))
-    (and_from _ _ (of-table (a % 4 * 16 + b / 16)) (and_from _ _ (of-table (b % 16 * 4)) refl))
-symbols-encoded (a ∷ b ∷ c ∷ bytes) =
-    and_from _ _ (of-table (a / 4))
-    (and_from _ _ (of-table (a % 4 * 16 + b / 16))
-    (and_from _ _ (of-table (b % 16 * 4 + c / 64)) (and_from _ _ (of-table (c % 64)) (symbols-encoded bytes))))
+symbols-encoded (a ∷ []) = simp of-table
+symbols-encoded (a ∷ b ∷ []) = simp of-table
+symbols-encoded (a ∷ b ∷ c ∷ bytes) = simp of-table (symbols-encoded bytes)
 
 equals-signs : (n : ℕ) → list_all is_symbol (replicate n 61) ≡ true
 unfolding is_symbol
@@ -53,10 +48,7 @@ equals-signs zero = refl
 equals-signs (suc n) = equals-signs n
 
 are-symbols : (bytes : List ℕ) → list_all is_symbol (encode_of standard bytes) ≡ true
-are-symbols bytes =
-    let signs : ℕ = padding_len (length bytes) in
-    list_all-append is_symbol (encode_symbols standard.encode_table bytes) (replicate signs 61)
-    ∙ and_from _ _ (symbols-encoded bytes) (equals-signs signs)
+are-symbols bytes = simp (list_all-append is_symbol, symbols-encoded bytes, equals-signs)
 
 -- ---- so they are all of a string
 

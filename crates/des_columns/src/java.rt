@@ -23,7 +23,8 @@ fn digest_with(bytes: &[u8], password: &[u8]) -> [u8; 16]
 }
 
 // What a half of the salt becomes.
-fn digest_half(half: &[u8; 4], password: &[u8], iterations: u32) -> [u8; 16]
+#[tactic(auto, unfolding(crate::specs::JavaTripleDes::digested))]
+fn digest_half(half: &[u8], password: &[u8], iterations: u32) -> [u8; 16]
     requires { 0 < iterations }
     ensures { result ≡ digested iterations password.now half.now }
 {
@@ -38,12 +39,13 @@ fn digest_half(half: &[u8; 4], password: &[u8], iterations: u32) -> [u8; 16]
 fn first_half(salt: &[u8; 8]) -> [u8; 4]
     ensures { result ≡ first_half salt.now }
 {
-    let [a, b, c, d, e, f, g, h] = *salt;
-    if a == e && b == f && c == g && d == h {
-        [d, c, b, a]
-    } else {
-        [a, b, c, d]
+    let (first, second) = salt.split_at(4);
+    let mut half = [0; 4];
+    half.copy_from_slice(first);
+    if first == second {
+        half.reverse();
     }
+    half
 }
 
 /// The key of 24 bytes and the vector of `PBEWithMD5AndTripleDES`. `NoIteration` if `iterations` is
@@ -61,10 +63,7 @@ pub fn key_and_vector(
     if iterations == 0 {
         return Err(DeriveError::NoIteration);
     }
-    let mut bytes = [0; 32];
-    let (first, second) = bytes.split_at_mut(16);
-    first.copy_from_slice(&digest_half(&first_half(salt), password, iterations));
-    let half = [salt[4], salt[5], salt[6], salt[7]];
-    second.copy_from_slice(&digest_half(&half, password, iterations));
-    Ok(split(&bytes))
+    let first = digest_half(&first_half(salt), password, iterations);
+    let second = digest_half(&salt[4..], password, iterations);
+    Ok(split([first, second].as_flattened()))
 }
