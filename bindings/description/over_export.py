@@ -75,7 +75,11 @@ class OverExport:
 
     @property
     def wide_by(self):
-        """By what the width is chosen."""
+        """By what the width is chosen: the blocks that do not wait for each other."""
+        if self.call.name.endswith("_encrypt_mode"):
+            return f"mode == CUKVASHE_CTR ? {BLOCKS} : 0"
+        if self.call.name.endswith("_decrypt_mode"):
+            return f"mode == CUKVASHE_OFB ? 0 : {BLOCKS}"
         return BLOCKS if self.call.name.endswith(BY_BLOCKS) else self.count or BLOCKS
 
     @property

@@ -182,32 +182,38 @@ int cukvashe_tdes_ede3_decrypt_cbc_to(const cukvashe_tdes_ede3 *context, uint8_t
 
 int cukvashe_des_encrypt_mode(const cukvashe_des *context, int mode, const uint8_t iv[8], uint8_t *data,
     size_t length) {
-  return CHOOSE(length / CUKVASHE_BLOCK_SIZE, encrypt_mode, context->words, 17, (uint32_t)mode, iv, data, length);
+  return CHOOSE(mode == CUKVASHE_CTR ? length / CUKVASHE_BLOCK_SIZE : 0, encrypt_mode, context->words, 17,
+    (uint32_t)mode, iv, data, length);
 }
 
 int cukvashe_des_decrypt_mode(const cukvashe_des *context, int mode, const uint8_t iv[8], uint8_t *data,
     size_t length) {
-  return CHOOSE(length / CUKVASHE_BLOCK_SIZE, decrypt_mode, context->words, 17, (uint32_t)mode, iv, data, length);
+  return CHOOSE(mode == CUKVASHE_OFB ? 0 : length / CUKVASHE_BLOCK_SIZE, decrypt_mode, context->words, 17,
+    (uint32_t)mode, iv, data, length);
 }
 
 int cukvashe_tdes_ede2_encrypt_mode(const cukvashe_tdes_ede2 *context, int mode, const uint8_t iv[8], uint8_t *data,
     size_t length) {
-  return CHOOSE(length / CUKVASHE_BLOCK_SIZE, encrypt_mode, context->words, 33, (uint32_t)mode, iv, data, length);
+  return CHOOSE(mode == CUKVASHE_CTR ? length / CUKVASHE_BLOCK_SIZE : 0, encrypt_mode, context->words, 33,
+    (uint32_t)mode, iv, data, length);
 }
 
 int cukvashe_tdes_ede2_decrypt_mode(const cukvashe_tdes_ede2 *context, int mode, const uint8_t iv[8], uint8_t *data,
     size_t length) {
-  return CHOOSE(length / CUKVASHE_BLOCK_SIZE, decrypt_mode, context->words, 33, (uint32_t)mode, iv, data, length);
+  return CHOOSE(mode == CUKVASHE_OFB ? 0 : length / CUKVASHE_BLOCK_SIZE, decrypt_mode, context->words, 33,
+    (uint32_t)mode, iv, data, length);
 }
 
 int cukvashe_tdes_ede3_encrypt_mode(const cukvashe_tdes_ede3 *context, int mode, const uint8_t iv[8], uint8_t *data,
     size_t length) {
-  return CHOOSE(length / CUKVASHE_BLOCK_SIZE, encrypt_mode, context->words, 49, (uint32_t)mode, iv, data, length);
+  return CHOOSE(mode == CUKVASHE_CTR ? length / CUKVASHE_BLOCK_SIZE : 0, encrypt_mode, context->words, 49,
+    (uint32_t)mode, iv, data, length);
 }
 
 int cukvashe_tdes_ede3_decrypt_mode(const cukvashe_tdes_ede3 *context, int mode, const uint8_t iv[8], uint8_t *data,
     size_t length) {
-  return CHOOSE(length / CUKVASHE_BLOCK_SIZE, decrypt_mode, context->words, 49, (uint32_t)mode, iv, data, length);
+  return CHOOSE(mode == CUKVASHE_OFB ? 0 : length / CUKVASHE_BLOCK_SIZE, decrypt_mode, context->words, 49,
+    (uint32_t)mode, iv, data, length);
 }
 
 int cukvashe_des_encrypt_stream(const cukvashe_des *context, cukvashe_stream *stream, uint8_t *data, size_t length) {

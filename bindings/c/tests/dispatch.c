@@ -131,6 +131,10 @@ static cukvashe_stream stream;
     WAS(width, "decrypt_cbc", context, WORDS, A(iv), A(output), blocks, length);                                      \
     CHECK(cukvashe_##NAME##_encrypt_mode(&NAME, 31, iv, output, length) == STATUS);                                   \
     WAS(width, "encrypt_mode", context, WORDS, 31, A(iv), A(output), length);                                         \
+    CHECK(cukvashe_##NAME##_encrypt_mode(&NAME, 32, iv, output, length) == STATUS);                                   \
+    WAS("internal", "encrypt_mode", context, WORDS, 32, A(iv), A(output), length);                                    \
+    CHECK(cukvashe_##NAME##_encrypt_mode(&NAME, 48, iv, output, length) == STATUS);                                   \
+    WAS("internal", "encrypt_mode", context, WORDS, 48, A(iv), A(output), length);                                    \
     CHECK(cukvashe_##NAME##_encrypt_stream(&NAME, &stream, output, length) == STATUS);                                \
     WAS(width, "encrypt_stream", context, WORDS, A(&stream), A(output), length);                                      \
     CHECK(cukvashe_##NAME##_encrypt_stream_bits(&NAME, &stream, output, length) == STATUS);                           \
@@ -138,6 +142,10 @@ static cukvashe_stream stream;
         blocks + (length % 8 != 0), length);                                                                          \
     CHECK(cukvashe_##NAME##_decrypt_mode(&NAME, 31, iv, output, length) == STATUS);                                   \
     WAS(width, "decrypt_mode", context, WORDS, 31, A(iv), A(output), length);                                         \
+    CHECK(cukvashe_##NAME##_decrypt_mode(&NAME, 32, iv, output, length) == STATUS);                                   \
+    WAS("internal", "decrypt_mode", context, WORDS, 32, A(iv), A(output), length);                                    \
+    CHECK(cukvashe_##NAME##_decrypt_mode(&NAME, 48, iv, output, length) == STATUS);                                   \
+    WAS(width, "decrypt_mode", context, WORDS, 48, A(iv), A(output), length);                                         \
     CHECK(cukvashe_##NAME##_decrypt_stream(&NAME, &stream, output, length) == STATUS);                                \
     WAS(width, "decrypt_stream", context, WORDS, A(&stream), A(output), length);                                      \
     CHECK(cukvashe_##NAME##_decrypt_stream_bits(&NAME, &stream, output, length) == STATUS);                           \
