@@ -234,7 +234,8 @@ export type Segment = 1 | 8 | 16 | 24 | 32 | 40 | 48 | 56 | 64;
 
 /**
  * Data that come in pieces of any length, under a cipher. Wherever they are cut, they become what they become as a
- * whole. A stream goes on as long as its cipher is not closed; `close` forgets where it is, but not the cipher's key.
+ * whole. A stream that has encrypted does not decrypt, nor the other way round: Direction. It goes on as long as its
+ * cipher is not closed; `close` forgets where it is, but not the cipher's key.
  */
 declare abstract class Stream extends Keyed {
   /** The bytes that come next, encrypted. */
@@ -248,17 +249,14 @@ declare abstract class Stream extends Keyed {
 /** The counter mode from a first counter block, as encryptCtr. VectorLength. */
 export class Ctr extends Stream {
   constructor(cipher: Cipher, named: { counter: Uint8Array });
-  /** Goes on at a byte of the text, from 0 on, of which no byte before it is needed. Position. */
+  /** Goes on at a byte of the text, from 0 on, of which no byte before it is needed, in either direction. Position. */
   seek(position: number | bigint): void;
 }
 /** Output feedback from an initialization vector, as encryptOfb. VectorLength. */
 export class Ofb extends Stream {
   constructor(cipher: Cipher, named: { iv: Uint8Array });
 }
-/**
- * Cipher feedback from an initialization vector, as encryptCfb. A stream that has encrypted does not decrypt, nor the
- * other way round: Direction. VectorLength, SegmentSize.
- */
+/** Cipher feedback from an initialization vector, as encryptCfb. VectorLength, SegmentSize. */
 export class Cfb extends Stream {
   constructor(cipher: Cipher, named: { iv: Uint8Array; segmentSize: Segment });
   /**

@@ -925,8 +925,8 @@ function begin(stream, cipher, mode, vector) {
 }
 
 /**
- * What a direction, "encrypt" or "decrypt", makes of the bytes that come next; `bits` gives how many bits it takes, if it takes them. CFB
- * goes on in the direction of its first bytes.
+ * What a direction, "encrypt" or "decrypt", makes of the bytes that come next; `bits` gives how many bits it takes, if it takes them. A
+ * stream goes on in the direction of its first bytes.
  */
 function streamed(stream, direction, data, bits = () => []) {
   const bytes = bytesOf(data, "data");
@@ -934,7 +934,7 @@ function streamed(stream, direction, data, bits = () => []) {
     const { kind: of, context: state } = memory.state(stream, Stream);
     const { kind, context } = memory.state(of.cipher, Cipher);
     const counts = bits(of.mode, bytes);
-    if (of.mode >= CFB1 && of.direction !== null && of.direction !== direction) {
+    if (of.direction !== null && of.direction !== direction) {
       throw new Direction(`this stream ${of.direction}s: begin another to ${direction}`);
     }
     const [[at, length], place] = [memory.list(bytes), memory.put(state)];
@@ -988,13 +988,14 @@ export class Ctr extends Stream {
     const place = positionOf(position);
     const rest = place % 8n;
     inside((memory) => {
-      const { kind: { cipher, counter }, context: state } = memory.state(this, Stream);
-      const { kind, context } = memory.state(cipher, Cipher);
+      const { kind: of, context: state } = memory.state(this, Stream);
+      const { kind, context } = memory.state(of.cipher, Cipher);
       const at = memory.allocate(STREAM_SIZE);
-      memory.call("stream_begin_ctr_at", at, memory.put(counter), place / 8n);
+      memory.call("stream_begin_ctr_at", at, memory.put(of.counter), place / 8n);
       const skipped = memory.allocate(Number(rest));
       memory.call("internal_encrypt_stream", ...contextAt(kind, memory.put(context)), at, skipped, rest);
       memory.take(at, state);
+      of.direction = null;
     });
   }
 }

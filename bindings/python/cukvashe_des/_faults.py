@@ -29,7 +29,7 @@ class PositionError(Error, ValueError):
 
 
 class DirectionError(Error, ValueError):
-    """A stream of CFB has encrypted, and is to decrypt, or the other way round."""
+    """A stream has encrypted, and is to decrypt, or the other way round."""
 
 
 class SerialLengthError(Error, ValueError):

@@ -28,8 +28,8 @@ def _number_of(number: int, what: str) -> int:
 
 class Stream(Keyed):
     """Data that come in pieces of any length, under a cipher: what Ctr, Ofb and Cfb have in common, for annotations. Wherever data are cut,
-    they become what they become as a whole. A stream goes on as long as its cipher is not closed. Threads may share one: its calls
-    take turns."""
+    they become what they become as a whole. A stream that has encrypted does not decrypt, nor the other way round: DirectionError. It goes
+    on as long as its cipher is not closed. Threads may share one: its calls take turns."""
 
     __slots__ = ("_cipher", "_mode", "_vector", "_turns", "_direction")
 
@@ -75,8 +75,13 @@ class Stream(Keyed):
             self._call(call, self._open(), place, size)
 
     def _call(self, call: str, state: Any, place: Any, size: int) -> None:
+        direction = call.partition("_")[0]
+        if self._direction not in (None, direction):
+            raise DirectionError(f"this stream {self._direction}s: begin another to {direction}")
         context = self._cipher._open()
         check(context.kind.calls[call](context, state, place, size))
+        if size:
+            self._direction = direction
 
     def copy(self: _Self) -> _Self:
         """A stream that goes on from here by itself."""
@@ -103,7 +108,7 @@ class Ctr(Stream):
         self._start(cipher, CTR, counter_of(counter))
 
     def seek(self, position: int) -> None:
-        """Goes on at a byte of the text, from 0 on, of which no byte before it is needed. PositionError."""
+        """Goes on at a byte of the text, from 0 on, of which no byte before it is needed, in either direction. PositionError."""
         blocks, rest = divmod(_number_of(position, "a position"), 8)
         if not 0 <= blocks < 2**64:
             raise PositionError("a position in a stream is 0 to 2^67 - 1")
@@ -111,8 +116,9 @@ class Ctr(Stream):
         _begin_ctr_at(state, self._vector, blocks)
         with self._turns, wiped_buffer(rest) as skipped:
             self._open()
-            self._call("encrypt_stream", state, skipped, rest)
-            self._context = state
+            context = self._cipher._open()
+            check(context.kind.calls["encrypt_stream"](context, state, skipped, rest))
+            self._context, self._direction = state, None
 
 
 class Ofb(Stream):
@@ -127,8 +133,7 @@ class Ofb(Stream):
 
 class Cfb(Stream):
     """Cipher feedback from an initialization vector of 8 bytes, with segments of 1, 8, 16, 24 .. or 64 bits: by CFB alone PyCryptodome means
-    8, OpenSSL and `cryptography` 64. A stream that has encrypted does not decrypt, nor the other way round: DirectionError.
-    VectorLengthError, SegmentSizeError."""
+    8, OpenSSL and `cryptography` 64. VectorLengthError, SegmentSizeError."""
 
     __slots__ = ()
 
@@ -144,14 +149,6 @@ class Cfb(Stream):
     def decrypt_bits(self, data: ReadableBuffer, bits: int) -> bytes:
         """The data with the first `bits` bits decrypted, as `encrypt_bits` encrypts. SegmentSizeError, DataLengthError."""
         return self._apply_bits("decrypt_stream_bits", copy_of(data), bits)
-
-    def _call(self, call: str, state: Any, place: Any, size: int) -> None:
-        direction = call.partition("_")[0]
-        if self._direction not in (None, direction):
-            raise DirectionError(f"this stream {self._direction}s: begin another to {direction}")
-        super()._call(call, state, place, size)
-        if size:
-            self._direction = direction
 
     def _apply_bits(self, call: str, given: bytearray, bits: int) -> bytes:
         if self._mode != CFB1:

@@ -236,23 +236,23 @@ class Refused(unittest.TestCase):
         self.assertEqual(stream.encrypt(TEXT), TdesEde3(KEY).encrypt_cfb(TEXT, iv=IV, segment_size=1))
 
     def test_directions(self):
-        """CFB goes in one direction, once a byte or a bit has, and a copy in the same; CTR and OFB go in either."""
+        """A stream goes in one direction, once a byte or a bit has, and a copy in the same; CTR in either from a position on."""
         for mode, segment in modes():
             encrypt, decrypt, begun = calls_of(TdesEde3(KEY), mode, segment, IV)
             for direction, other, whole in (("encrypt", "decrypt", encrypt), ("decrypt", "encrypt", decrypt)):
                 stream = begun()
                 getattr(stream, other)(b"")
                 first = getattr(stream, direction)(TEXT[:5])
-                if mode == "cfb":
-                    for one in (stream, stream.copy()):
-                        data = bytearray(TEXT)
-                        calls = [(getattr(one, other), data), (getattr(one, other), b""), (getattr(one, f"{other}_into"), data)]
-                        calls += [(getattr(one, f"{other}_bits"), data, 3)] if segment == 1 else []
-                        for call, *arguments in calls:
-                            says = f"^this stream {direction}s: begin another to {other}$"
-                            self.assertRaisesRegex(DirectionError, says, call, *arguments)
-                        self.assertEqual((data, first + getattr(one, direction)(TEXT[5:])), (TEXT, whole(TEXT)))
-                else:
+                for one in (stream, stream.copy()):
+                    data = bytearray(TEXT)
+                    calls = [(getattr(one, other), data), (getattr(one, other), b""), (getattr(one, f"{other}_into"), data)]
+                    calls += [(getattr(one, f"{other}_bits"), data, 3)] if segment == 1 else []
+                    for call, *arguments in calls:
+                        says = f"^this stream {direction}s: begin another to {other}$"
+                        self.assertRaisesRegex(DirectionError, says, call, *arguments)
+                    self.assertEqual((data, first + getattr(one, direction)(TEXT[5:])), (TEXT, whole(TEXT)))
+                if mode == "ctr":
+                    stream.seek(5)
                     self.assertEqual(first + getattr(stream, other)(TEXT[5:]), whole(TEXT))
         stream = Cfb(TdesEde3(KEY), iv=IV, segment_size=1)
         stream.encrypt_bits(TEXT, 0)
@@ -375,9 +375,9 @@ class Objects(WatchesWiping):
         cipher, locked = TdesEde3(KEY), []
         stream = Cfb(cipher, iv=IV, segment_size=1)
         counter = Ctr(cipher, counter=IV)
-        other = stream.copy()
-        calls = [(it.encrypt, TEXT) for it in (stream, counter)] + [(it.decrypt_into, bytearray(TEXT)) for it in (other, counter)]
-        calls += [(stream.encrypt_bits, TEXT, 3), (other.decrypt_bits, TEXT, 3), (counter.seek, 3)]
+        others = stream.copy(), counter.copy()
+        calls = [(it.encrypt, TEXT) for it in (stream, counter)] + [(it.decrypt_into, bytearray(TEXT)) for it in others]
+        calls += [(stream.encrypt_bits, TEXT, 3), (others[0].decrypt_bits, TEXT, 3), (counter.seek, 3)]
         for call, *arguments in calls:
             def of_call(*_, lock=call.__self__._turns):
                 locked.append(lock.locked())
