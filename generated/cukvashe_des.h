@@ -12,22 +12,22 @@
  *
  * Every length and size is in bytes, every count in elements: keys, messages, records, or blocks of 8 bytes. A call of
  * lists takes both, and refuses what does not agree (CUKVASHE_ERR_COUNTS). Bit 1 of FIPS 46-3 is the highest bit of
- * the first byte. Bytes and texts may stand at any address, all else where its type may. Texts that you pass need no
- * zero byte; after those that calls write stands one, which no length counts.
+ * the first byte. Bytes and texts may stand at any address, all else at any that suits its type. Texts that you pass
+ * need no zero byte; after those that calls write stands one, which no length counts.
  *
  * POINTERS
  *
- * A pointer may be null if the length, count or size beside it is 0, or the capacity where it has one; no other may be.
+ * A pointer may be null if the length, count or size beside it is 0, or the capacity if it has one; no other may be.
  * What a call writes must not overlap any other argument, but `input` and `output` of a call named _to may be one
  * pointer.
  *
  * STATUSES
  *
- * A call that can refuse its arguments returns CUKVASHE_OK, or a CUKVASHE_ERR_.., and then it has changed nothing, except
- * that a wrong wrapped key leaves zeros (see KEY WRAP), and that CUKVASHE_ERR_VALUES comes with the values that can be
- * read (see OLD RECORDS). Each section names its errors in order: the first that applies is returned. CUKVASHE_OK is 0,
- * so `if` is true for a wrong tag or PIN where it asks verify: let it ask is_tag or is_pin, which are true for the right
- * one alone.
+ * A call that can refuse its arguments returns CUKVASHE_OK, or a CUKVASHE_ERR_.., and then it has changed nothing,
+ * except that a wrong wrapped key leaves zeros (see KEY WRAP), and that CUKVASHE_ERR_VALUES comes with the values that
+ * can be read (see OLD RECORDS). Each section names its errors in order: the first that applies is returned. CUKVASHE_OK
+ * is 0, so an `if` on verify is true for a wrong tag or PIN: use is_tag or is_pin, which are true for the right one
+ * alone.
  *
  * WHAT YOU MUST UPHOLD
  *
@@ -39,11 +39,11 @@
  *
  * SECRETS AND TIME
  *
- * The calls of a context of init may read tables, those of one of init_no_tables read none; both answer alike, and a
- * copy is of its kind. With tables, these read them at addresses that depend on the key and the data: MACs, CBC and CFB
- * encryption, OFB and CFB1, which go block by block; ECB, CTR, and CBC and CFB decryption if the number of blocks modulo
- * 128 is 1 to 31. Without tables no call does, and these take up to four times as long. Take contexts without tables if
- * others run programs on the processor.
+ * The calls of a context of init may read tables, those of one of init_no_tables read none; the results are the same,
+ * and a copy is of its kind. With tables, these read them at addresses that depend on the key and the data: MACs, CBC
+ * and CFB encryption, OFB and CFB1, which go block by block; ECB, CTR, and CBC and CFB decryption if the number of
+ * blocks modulo 128 is 1 to 31. Without tables no call does, and these take up to four times as long. Take contexts
+ * without tables if others run programs on the processor.
  *
  * Other calls, and those of records, read none. Calls branch on lengths, on the status that they return, and on account
  * and key serial numbers, dates, codes, fill digits and decimalization tables, which are not secret here; on anything
@@ -76,7 +76,7 @@
  *
  * WHAT IS PROVED
  *
- * The exports are proved safe, and proved to answer as this header says, if you uphold the above: by FIPS 46-3, FIPS 81
+ * The exports are proved safe, and proved to do what this header says, if you uphold the above: by FIPS 46-3, FIPS 81
  * (CBC, CFB, OFB) and the standards named below. bytes_to_key and open_salted follow OpenSSL. No standard defines the
  * calls of KEYS, check values, components, PIN verification and card verification values: their rules are the words
  * below. The proof is for Linux on x86-64 and aarch64; code for riscv64 and Windows is compiled from that for x86-64,
@@ -231,15 +231,15 @@ enum cukvashe_status {
 /*
  * THE LIBRARY ITSELF
  *
- * version gives the version of the library, as CUKVASHE_VERSION gives that of the header. CUKVASHE_VERSION_MAJOR,
- * _MINOR and _PATCH are its three numbers.
+ * version returns the version of the library; CUKVASHE_VERSION is that of the header. CUKVASHE_VERSION_MAJOR, _MINOR
+ * and _PATCH are its three numbers.
  *
- * strerror gives a constant sentence for each status, and for other numbers. wipe writes zeros over `size` bytes, and
- * no compiler leaves that out.
+ * strerror returns a constant sentence for each status, and for other numbers. wipe writes zeros over `size` bytes,
+ * and no compiler leaves that out.
  *
- * is_supported says whether this processor has all that the library's code takes: on x86-64 the features of x86-64-v2,
- * elsewhere always. Where it is false, call nothing but version, strerror and wipe: other calls would end the program at
- * an instruction that the processor does not have.
+ * is_supported says whether this processor has all that the library's code needs: on x86-64 the features of x86-64-v2,
+ * elsewhere always. If it is false, call nothing but version, strerror and wipe: other calls would end the program at an
+ * instruction that the processor does not have.
  */
 bool cukvashe_is_supported(void);
 const char *cukvashe_version(void);
@@ -325,8 +325,8 @@ CUKVASHE_CHECK int cukvashe_tdes_ede3_decrypt_ecb_to(const cukvashe_tdes_ede3 *c
  *                                  size_t length)
  *
  * Encrypts or decrypts whole blocks by cipher block chaining (FIPS 81) from the initialization vector. `iv` becomes the
- * last ciphertext block, the vector of the record's next piece; if `length` is 0, it stays. Keep a copy if you need it
- * again. Errors: CUKVASHE_ERR_CONTEXT, _BLOCKS.
+ * last ciphertext block, the vector of the record's next piece; if `length` is 0, it is unchanged. Keep a copy if you
+ * need it again. Errors: CUKVASHE_ERR_CONTEXT, _BLOCKS.
  */
 CUKVASHE_CHECK int cukvashe_des_encrypt_cbc(const cukvashe_des *context, uint8_t iv[8], uint8_t *data, size_t length);
 CUKVASHE_CHECK int cukvashe_des_decrypt_cbc(const cukvashe_des *context, uint8_t iv[8], uint8_t *data, size_t length);
@@ -355,7 +355,7 @@ CUKVASHE_CHECK int cukvashe_tdes_ede3_decrypt_cbc_to(const cukvashe_tdes_ede3 *c
  * MODES WITHOUT PADDING
  *
  * Counter mode (CTR), output feedback (OFB) and cipher feedback (CFB) by NIST SP 800-38A and FIPS 81: they take any
- * number of bytes, and give as many. `mode` is one of
+ * number of bytes, and make as many. `mode` is one of
  *
  *     CUKVASHE_CTR     counter mode: `iv` is the first counter block, which goes up by 1 modulo 2^64
  *     CUKVASHE_OFB     output feedback of 64 bits
@@ -374,8 +374,8 @@ CUKVASHE_CHECK int cukvashe_tdes_ede3_decrypt_cbc_to(const cukvashe_tdes_ede3 *c
  * int cukvashe_NAME_decrypt_mode(const cukvashe_NAME *context, int mode, const uint8_t iv[8], uint8_t *data,
  *                                size_t length)
  *
- * Encrypts or decrypts a whole text in place. Unlike in CBC, `iv` stays. Errors of encrypt_mode and decrypt_mode:
- * CUKVASHE_ERR_CONTEXT, _MODE.
+ * Encrypts or decrypts a whole text in place. Unlike in CBC, `iv` is unchanged. Errors of encrypt_mode and
+ * decrypt_mode: CUKVASHE_ERR_CONTEXT, _MODE.
  *
  * int cukvashe_stream_begin(cukvashe_stream *stream, int mode, const uint8_t iv[8])
  * void cukvashe_stream_begin_ctr_at(cukvashe_stream *stream, const uint8_t counter[8], uint64_t blocks)
@@ -397,8 +397,8 @@ CUKVASHE_CHECK int cukvashe_tdes_ede3_decrypt_cbc_to(const cukvashe_tdes_ede3 *c
  *                                       size_t bits)
  *
  * The same for the first `bits` bits at `data`, from the highest bit of the first byte on, in a stream of CUKVASHE_CFB1;
- * the other bits of the last byte stay. Errors of encrypt_stream_bits and decrypt_stream_bits: CUKVASHE_ERR_CONTEXT,
- * _STREAM; _MODE if the stream is of another mode.
+ * the other bits of the last byte are unchanged. Errors of encrypt_stream_bits and decrypt_stream_bits:
+ * CUKVASHE_ERR_CONTEXT, _STREAM; _MODE if the stream is of another mode.
  *
  * void cukvashe_stream_position(const cukvashe_stream *stream, uint8_t iv[8], size_t *used)
  *
@@ -454,8 +454,8 @@ void cukvashe_stream_position(const cukvashe_stream *stream, uint8_t iv[8], size
  * KEY WRAP
  *
  * A key encrypted and authenticated under a protection key, one of triple DES of 16 or 24 bytes: by the key wrap of CMS
- * (RFC 3217, of keys of any number of blocks), and by TKW (NIST SP 800-38F, 7). Parity stays as it is, and nothing
- * looks at it. No call reads a table (see SECRETS AND TIME).
+ * (RFC 3217, of keys of any number of blocks), and by TKW (NIST SP 800-38F, 7). Parity bits are neither changed nor
+ * tested. No call reads a table (see SECRETS AND TIME).
  *
  * int cukvashe_cms_wrap_key(const uint8_t *protection, size_t protection_length, const uint8_t iv[8],
  *                           const uint8_t *key, size_t key_length, uint8_t *wrapped, size_t capacity,
@@ -547,7 +547,7 @@ CUKVASHE_CHECK int cukvashe_tdes_ede3_decrypt_cbc_records(const cukvashe_tdes_ed
  * unpad writes to `unpadded_length` how many of `length` bytes stand before the padding. The time taken may show which
  * byte of the last block decides. Errors of unpad: CUKVASHE_ERR_PADDING_METHOD, _BLOCKS; _PADDING also if `length` is 0.
  * An attacker who learns whether unpad accepts what he sent can decrypt CBC without the key (a padding oracle): verify a
- * MAC of the ciphertext first, and answer all faults alike.
+ * MAC of the ciphertext first, and report all faults alike.
  */
 CUKVASHE_CHECK int cukvashe_pad(uint8_t *buffer, size_t length, size_t capacity, int method, size_t *padded_length);
 CUKVASHE_CHECK int cukvashe_unpad(const uint8_t *buffer, size_t length, int method, size_t *unpadded_length);
@@ -612,7 +612,7 @@ typedef struct {
  * int cukvashe_MAC_init_no_tables(cukvashe_MAC *context, const uint8_t *key, size_t key_length, int method)
  *
  * Makes the context of a key and an empty message, with or without tables. `method` is the sender's,
- * CUKVASHE_MAC_PADDING_1 or _2: the other one makes another tag. CMAC takes none. Errors: CUKVASHE_ERR_KEY_LENGTH,
+ * CUKVASHE_MAC_PADDING_1 or _2: the other makes a different tag. CMAC takes none. Errors: CUKVASHE_ERR_KEY_LENGTH,
  * _PADDING_METHOD.
  */
 CUKVASHE_CHECK int cukvashe_cbc_mac_des_init(cukvashe_cbc_mac_des *context, const uint8_t *key, size_t key_length,
@@ -778,7 +778,7 @@ CUKVASHE_CHECK int cukvashe_tdes_ede2_check_value(const uint8_t *key, size_t key
 CUKVASHE_CHECK int cukvashe_tdes_ede3_check_value(const uint8_t *key, size_t key_length, uint8_t value[3]);
 
 /*
- * The check value of a key or component of 8, 16 or 24 bytes: by DES or, where it is longer, triple DES (EDE). Errors:
+ * The check value of a key or component, by its length: by DES of 8 bytes, by triple DES (EDE) of 16 or 24. Errors:
  * CUKVASHE_ERR_KEY_LENGTH.
  */
 CUKVASHE_CHECK int cukvashe_key_check_value(const uint8_t *key, size_t key_length, uint8_t value[3]);
@@ -824,27 +824,28 @@ CUKVASHE_CHECK int cukvashe_combine_24(const uint8_t first[24], const uint8_t se
  *
  * A transaction's counter is not 0 and has at most ten one bits: is_usable says whether that holds. The other counters
  * have keys here too, counter 0 the initial key itself: so ask is_usable of each key serial number that you are sent.
- * next_serial gives the next usable one. Errors of next_serial: CUKVASHE_ERR_NO_SERIAL.
+ * next_serial writes the next usable one. Errors of next_serial: CUKVASHE_ERR_NO_SERIAL.
  */
 CUKVASHE_CHECK bool cukvashe_dukpt_is_usable(const uint8_t serial[10]);
 CUKVASHE_CHECK int cukvashe_dukpt_next_serial(const uint8_t serial[10], uint8_t next[10]);
 
 /*
- * The initial key of a terminal, from the base derivation key and any of the terminal's key serial numbers, whose
- * counter plays no part.
+ * The initial key (IK, IPEK) of a terminal, from the base derivation key (BDK) and any of the terminal's key serial
+ * numbers (KSN), whose counter plays no part.
  */
 void cukvashe_dukpt_initial_key(const uint8_t base[16], const uint8_t serial[10], uint8_t key[16]);
 
 /*
- * The key of a transaction, which encrypts nothing itself, from the terminal's initial key, not the base derivation key,
- * and the transaction's key serial number. It takes every counter: ask first whether a transaction has this one.
+ * The key of a transaction, which encrypts nothing itself, from the terminal's initial key (IK, IPEK), not the base
+ * derivation key (BDK), and the transaction's key serial number (KSN). It takes every counter: ask first whether a
+ * transaction has this one.
  */
 void cukvashe_dukpt_transaction_key(const uint8_t initial[16], const uint8_t serial[10], uint8_t key[16]);
 
 /*
- * transaction_keys_from_base takes the base derivation key, not the initial key, and writes for each of `count` key
- * serial numbers, one after the other, what transaction_key makes of initial_key. Errors: CUKVASHE_ERR_COUNTS if
- * `serials_length` or `keys_length` is not that of `count` key serial numbers or keys.
+ * transaction_keys_from_base takes the base derivation key (BDK), not the initial key (IK, IPEK), and writes for each
+ * of `count` key serial numbers (KSN), one after the other, what transaction_key makes of initial_key. Errors:
+ * CUKVASHE_ERR_COUNTS if `serials_length` or `keys_length` is not that of `count` key serial numbers or keys.
  */
 CUKVASHE_CHECK int cukvashe_dukpt_transaction_keys_from_base(const uint8_t base[16], const uint8_t *serials,
                                                              size_t serials_length, uint8_t *keys, size_t keys_length,
@@ -878,7 +879,7 @@ void cukvashe_dukpt_data_variant(const uint8_t transaction[16], bool is_response
  * transaction and 21 future keys, which make the keys of all transactions to come: keep it secret. You may store its
  * bytes, and go on from them: store them before you use a key, or it is used twice.
  *
- * init makes the state from the initial key (IK, IPEK) and any of the terminal's key serial numbers: the first
+ * init makes the state from the initial key (IK, IPEK) and any of the terminal's key serial numbers (KSN): the first
  * transaction has counter 1. next_key writes the next transaction's key serial number, and its key, that of
  * cukvashe_dukpt_transaction_key, and clears it in the state. Errors: CUKVASHE_ERR_NO_SERIAL after the last
  * transaction, the 1,048,575th. A state without future keys, as one of zeros, has the same error.
@@ -929,8 +930,8 @@ CUKVASHE_CHECK int cukvashe_pin_decode_3(const uint8_t block[8], const char *acc
  *
  * Decrypts a PIN block under the incoming key, makes the block of format 0, 1 or 3 of its PIN, and encrypts that under
  * the outgoing key; the PIN does not come out. Keys have 8, 16 or 24 bytes: DES, or triple DES (EDE). The account
- * number, that of both blocks, and `fill` are as of PIN blocks. Set the fields by name: what you leave out is 0 or
- * null, which is format 0, and else refused by a call that looks at it.
+ * number, that of both blocks, and `fill` are as for PIN blocks. Set the fields by name: what you leave out is 0 or
+ * null, which is format 0, and otherwise refused by a call that looks at it.
  *
  * Errors of pin_translate_to_0 and _to_3: CUKVASHE_ERR_KEY_LENGTH, _FORMATS, _ACCOUNT_LENGTH, _ACCOUNT_DIGIT; _FILL of
  * _to_3 alone; then _PIN_BLOCK, whatever is wrong with the block. pin_translate_to_1 keeps the transaction digits.
@@ -962,16 +963,16 @@ CUKVASHE_CHECK int cukvashe_pin_translate_to_3(const cukvashe_pin_translation *t
  * cukvashe_pvv writes the PIN verification value (PVV), four ASCII digits, of an account number of 12 to 19 digits and
  * the first four digits of a PIN, under a pair of keys with an index from 1 to 6. The block of the eleven rightmost
  * digits of the account number without its check digit, the index and the digits of the PIN is encrypted by triple DES
- * (EDE); of the sixteen digits of the answer those from 0 to 9 are taken in order, then the others in order, less ten:
- * the first four are the value. Errors of pvv and pvv_verify: CUKVASHE_ERR_PIN_LENGTH, _PIN_DIGIT, _ACCOUNT_LENGTH,
+ * (EDE); of the sixteen digits of the ciphertext those from 0 to 9 are taken in order, then the others in order, less
+ * ten: the first four are the value. Errors of pvv and pvv_verify: CUKVASHE_ERR_PIN_LENGTH, _PIN_DIGIT, _ACCOUNT_LENGTH,
  * _ACCOUNT_DIGIT, _KEY_INDEX; then _WRONG_PIN of pvv_verify alone, if `value` is not that of the PIN.
  * cukvashe_pvv_is_pin and cukvashe_pin_offset_is_pin are true for the right PIN, and false for a wrong one and for every
  * error.
  *
  * The other calls are by the method of the IBM 3624. Validation data, sixteen digits in 8 bytes that the issuer
- * chooses, are encrypted under a key as of translation. Each digit of the answer becomes the one at its place in the
- * decimalization table, and the first ones, as many as the PIN has, are the natural PIN. The offset, which the host
- * keeps, is digit by digit, modulo ten, the PIN less the natural PIN.
+ * chooses, are encrypted under a key as for translation. Each digit of the ciphertext becomes the one at its place in
+ * the decimalization table, and the first ones, as many as the PIN has, are the natural PIN. The offset, which the
+ * host keeps, is digit by digit, modulo ten, the PIN less the natural PIN.
  *
  * cukvashe_decimal_table_init takes the table as a text of sixteen ASCII digits, those that stand for 0 to 15 in this
  * order. An attacker who chooses the table finds PINs out. decimal_table_init_any takes any variety, for old systems.
@@ -1013,8 +1014,8 @@ CUKVASHE_CHECK bool cukvashe_pin_offset_is_pin(const uint8_t *key, size_t key_le
 /*
  * CARD VERIFICATION VALUES
  *
- * The card verification value, three ASCII digits, under a key pair of 16 bytes, of an account number of 12 to 19
- * digits, an expiry date of four, in the order that the issuer takes, and a service code of three. Errors:
+ * The card verification value (CVV), three ASCII digits, under a key pair of 16 bytes, of an account number (PAN) of
+ * 12 to 19 digits, an expiry date of four, in the order that the issuer takes, and a service code of three. Errors:
  * CUKVASHE_ERR_ACCOUNT_LENGTH, _ACCOUNT_DIGIT, _EXPIRY_LENGTH, _EXPIRY_DIGIT, _SERVICE_LENGTH, _SERVICE_DIGIT.
  *
  * The account number, the date and the code are texts as those of PIN blocks.
@@ -1031,34 +1032,35 @@ CUKVASHE_CHECK int cukvashe_cvv(const uint8_t key[16], const char *account, size
 
 /*
  * The key of a card (A1.4.1, option A), with odd parity, from the issuer's master key (IMK), an account number (PAN) of
- * 8 to 19 digits and a sequence number (PSN) of two, `00` where the card has none. Errors: CUKVASHE_ERR_ACCOUNT_LENGTH,
+ * 8 to 19 digits and a sequence number (PSN) of two, `00` if the card has none. Errors: CUKVASHE_ERR_ACCOUNT_LENGTH,
  * _ACCOUNT_DIGIT, _SEQUENCE_LENGTH, _SEQUENCE_DIGIT.
  */
 CUKVASHE_CHECK int cukvashe_emv_card_key(const uint8_t issuer[16], const char *account, size_t account_length,
                                          const char *sequence, size_t sequence_length, uint8_t key[16]);
 
 /*
- * The key of a card by option B (A1.4.2), which differs where the account number has more than sixteen digits: take it
- * if the card scheme asks for it. Errors: CUKVASHE_ERR_ACCOUNT_LENGTH, _ACCOUNT_DIGIT, _SEQUENCE_LENGTH,
+ * The key of a card by option B (A1.4.2), which differs if the account number (PAN) has more than sixteen digits: use
+ * it if the card scheme asks for it. Errors: CUKVASHE_ERR_ACCOUNT_LENGTH, _ACCOUNT_DIGIT, _SEQUENCE_LENGTH,
  * _SEQUENCE_DIGIT.
  */
 CUKVASHE_CHECK int cukvashe_emv_card_key_b(const uint8_t issuer[16], const char *account, size_t account_length,
                                            const char *sequence, size_t sequence_length, uint8_t key[16]);
 
 /*
- * The session key for application cryptograms, from the card's key and the application transaction counter, two bytes.
+ * The session key for application cryptograms, from the card's key and the application transaction counter (ATC), two
+ * bytes.
  */
 void cukvashe_emv_application_key(const uint8_t card[16], const uint8_t counter[2], uint8_t key[16]);
 
 /*
  * The session key for other uses (A1.3), from the card's key and eight bytes that are different for each session: for
- * secure messaging the application cryptogram. The third of them plays no part.
+ * secure messaging the application cryptogram (ARQC). The third of them plays no part.
  */
 void cukvashe_emv_session_key(const uint8_t card[16], const uint8_t block[8], uint8_t key[16]);
 
 /*
- * The application cryptogram (8.1.2), 8 bytes, under a session key, of the data that the card scheme names: the retail
- * MAC with padding method 2.
+ * The application cryptogram (ARQC, TC or AAC; 8.1.2), 8 bytes, under a session key, of the data that the card scheme
+ * names: the retail MAC with padding method 2.
  *
  * To check one that a card sent, give the data to a context of retail_mac_des, and ask cukvashe_retail_mac_des_is_tag.
  */
@@ -1066,15 +1068,15 @@ void cukvashe_emv_application_cryptogram(const uint8_t session[16], const uint8_
                                          uint8_t cryptogram[8]);
 
 /*
- * The issuer's response by method 1 (8.2.1), 8 bytes, to an application cryptogram, with a response code of two ASCII
- * characters.
+ * The issuer's response (ARPC) by method 1 (8.2.1), 8 bytes, to an application cryptogram (ARQC), with a response code
+ * of two ASCII characters.
  */
 void cukvashe_emv_response_1(const uint8_t session[16], const uint8_t cryptogram[8], const uint8_t code[2],
                              uint8_t response[8]);
 
 /*
- * The issuer's response by method 2 (8.2.2), 4 bytes, to an application cryptogram, with a card status update of four
- * bytes and at most 8 bytes of the issuer's. Errors: CUKVASHE_ERR_DATA_LENGTH.
+ * The issuer's response (ARPC) by method 2 (8.2.2), 4 bytes, to an application cryptogram (ARQC), with a card status
+ * update of four bytes and at most 8 bytes of the issuer's. Errors: CUKVASHE_ERR_DATA_LENGTH.
  */
 CUKVASHE_CHECK int cukvashe_emv_response_2(const uint8_t session[16], const uint8_t cryptogram[8],
                                            const uint8_t status[4], const uint8_t *data, size_t length,
@@ -1096,11 +1098,11 @@ CUKVASHE_CHECK int cukvashe_emv_response_2(const uint8_t session[16], const uint
  * wrap writes the block of its parts and a zero byte, and into `length` how many characters the block has: without
  * optional blocks at most 96. `capacity` is the number of bytes at `block`, for the zero byte too. `padding` are random
  * bytes of yours, new each time: CUKVASHE_KEY_DATA_SIZE - 2 - key_length of them hide how long the key is. Set the
- * parts by name: what you leave out is 0 or null, which is refused, but of `optional`.
+ * parts by name: what you leave out is 0 or null, which is refused except for `optional`.
  *
  * `optional` are the optional blocks, one after the other. Each is a name of two letters or digits, its whole length in
  * two hexadecimal digits in upper case, as KS1800604B120F9292800000, and its content, of printable ASCII, 0x20 to 0x7E;
- * one that is longer than 255 characters has 0002 and four digits in their place. Each is written with the shorter form
+ * one that is longer than 255 characters has 0002 and four digits instead of two. Each is written with the shorter form
  * of its length. If they do not end at a multiple of eight characters, a block `PB` of zeros is added; a `PB` of yours
  * is taken only as the last, if they end there with it.
  *
@@ -1172,11 +1174,11 @@ CUKVASHE_CHECK int cukvashe_key_block_optional_block(const char *block, size_t b
  * `capacity` is the number of bytes at `plain`: `length` - 16 are always enough. `bytes` are the whole file: Salted__,
  * a salt of 8 bytes and the ciphertext, not Base64 (`-a`). `hash` is that of `-md`: by default CUKVASHE_SHA256, before
  * OpenSSL 1.1.0 CUKVASHE_MD5. `iterations` is that of `-iter`; 10000 if only `-pbkdf2` was given; 0, not 1, if neither
- * was: then bytes_to_key is taken, and else PBKDF2.
+ * was: then bytes_to_key is used, and otherwise PBKDF2.
  *
  * It branches on the padding. Errors of open_salted: CUKVASHE_ERR_HASH, _NOT_SALTED, _SALT_LENGTH, _ITERATIONS, _BLOCKS,
- * _PADDING, _CAPACITY. A wrong password, hash function or number of iterations is _PADDING, but for one in 256, which gives
- * CUKVASHE_OK and wrong bytes: nothing here authenticates. Tell nobody who sends you files which error they gave.
+ * _PADDING, _CAPACITY. A wrong password, hash function or number of iterations is _PADDING, except for one in 256, which
+ * gives CUKVASHE_OK and wrong bytes: nothing here authenticates. Tell nobody who sends you files which error they gave.
  */
 CUKVASHE_CHECK int cukvashe_pbkdf2(int hash, size_t iterations, const uint8_t *password, size_t password_length,
                                    const uint8_t *salt, size_t salt_length, uint8_t *key, size_t key_length);
@@ -1212,8 +1214,8 @@ CUKVASHE_CHECK int cukvashe_tdes_ede3_open_salted(int hash, size_t iterations, c
 
 /*
  * Reads what DES_ENCRYPT of MySQL, up to 5.7, and of MariaDB wrote under a key string. An empty value is an empty text.
- * Statuses of values: CUKVASHE_ERR_NOT_ENCRYPTED, where the server gives the value back as it is; _PADDING, where the
- * server gives NULL, as mostly under a wrong key. Errors: CUKVASHE_ERR_COUNTS if the sum of the lengths is not `length`;
+ * Statuses of values: CUKVASHE_ERR_NOT_ENCRYPTED, if the server would return the value unchanged; _PADDING, if it would
+ * return NULL, as mostly under a wrong key. Errors: CUKVASHE_ERR_COUNTS if the sum of the lengths is not `length`;
  * _VALUES.
  */
 CUKVASHE_CHECK int cukvashe_mysql_decrypt_values(const uint8_t *password, size_t password_length, const uint8_t *values,
@@ -1222,11 +1224,11 @@ CUKVASHE_CHECK int cukvashe_mysql_decrypt_values(const uint8_t *password, size_t
 
 /*
  * Reads what DES_ENCRYPT wrote under keys of the server's file (des-key-file), each value under the key that its first
- * byte names. `keys` are the bytes of that file, read as the server does: of a number the last line counts, a line without
- * its end does not, and lines that are no key are passed over. This branches on the bytes of the file. Statuses of values:
- * CUKVASHE_ERR_NOT_ENCRYPTED; _KEY_NUMBER, if the file has no key of the value's number, as of a value under a key string;
- * _PADDING. All else is as of cukvashe_mysql_decrypt_values. Errors: CUKVASHE_ERR_COUNTS if the sum of the lengths is not
- * `length`; _VALUES.
+ * byte names. `keys` are the bytes of that file, read as the server reads it: the last line of a number counts, a line
+ * without its end does not, and lines that are no key are passed over. This branches on the bytes of the file. Statuses
+ * of values: CUKVASHE_ERR_NOT_ENCRYPTED; _KEY_NUMBER, if the file has no key of the value's number, as for a value under
+ * a key string; _PADDING. All else is as for cukvashe_mysql_decrypt_values. Errors: CUKVASHE_ERR_COUNTS if the sum of
+ * the lengths is not `length`; _VALUES.
  */
 CUKVASHE_CHECK int cukvashe_mysql_decrypt_values_by_file(const uint8_t *keys, size_t keys_length, const uint8_t *values,
                                                          size_t length, const size_t *lengths, size_t values_count,
@@ -1236,9 +1238,9 @@ CUKVASHE_CHECK int cukvashe_mysql_decrypt_values_by_file(const uint8_t *keys, si
  * Reads what encrypt and encrypt_iv of PostgreSQL's pgcrypto wrote. `algorithm` is theirs, in any case of letters: des,
  * 3des, or one of these with -cbc or -ecb, and then perhaps /pad:pkcs or /pad:none, as 3des-ecb/pad:none. Without these
  * it is -cbc and /pad:pkcs. Key and vector have any length, as there: they are cut, or filled with zeros, so that a key
- * of 16 bytes of 3des is none of two parts; encrypt has an `iv` of no bytes. Statuses of values: CUKVASHE_ERR_BLOCKS, also
- * of an empty value with padding; _PADDING, as mostly under a wrong key. Errors: CUKVASHE_ERR_ALGORITHM; _COUNTS if the
- * sum of the lengths is not `length`; _VALUES.
+ * of 16 bytes of 3des is none of two parts; encrypt has an `iv` of no bytes. Statuses of values: CUKVASHE_ERR_BLOCKS,
+ * also for an empty value with padding; _PADDING, as mostly under a wrong key. Errors: CUKVASHE_ERR_ALGORITHM; _COUNTS
+ * if the sum of the lengths is not `length`; _VALUES.
  */
 CUKVASHE_CHECK int cukvashe_pgcrypto_decrypt_values(const char *algorithm, size_t algorithm_length, const uint8_t *key,
                                                     size_t key_length, const uint8_t *iv, size_t iv_length,
@@ -1257,9 +1259,9 @@ CUKVASHE_CHECK int cukvashe_mysql_encrypt_values(const uint8_t *password, size_t
                                                  size_t texts_count, uint8_t *values, size_t values_length);
 
 /*
- * Writes what encrypt and encrypt_iv of pgcrypto do, by an algorithm, a key and a vector as of pgcrypto_decrypt_values. A
- * text of n bytes has a value of (n / 8 + 1) * 8, and with /pad:none one of n. Errors: CUKVASHE_ERR_ALGORITHM; _COUNTS if
- * the sum of the lengths is not `length`, or that of the values' lengths not `values_length`; _BLOCKS if there is no
+ * Writes what encrypt and encrypt_iv of pgcrypto do, by an algorithm, a key and a vector as for pgcrypto_decrypt_values.
+ * A text of n bytes has a value of (n / 8 + 1) * 8, and with /pad:none one of n. Errors: CUKVASHE_ERR_ALGORITHM; _COUNTS
+ * if the sum of the lengths is not `length`, or that of the values' lengths not `values_length`; _BLOCKS if there is no
  * padding and a text is not whole blocks of 8 bytes.
  */
 CUKVASHE_CHECK int cukvashe_pgcrypto_encrypt_values(const char *algorithm, size_t algorithm_length, const uint8_t *key,
@@ -1276,7 +1278,7 @@ CUKVASHE_CHECK int cukvashe_pgcrypto_encrypt_values(const char *algorithm, size_
  *     PBEWithSHA1AndDESede or pbeWithSHAAnd3-KeyTripleDES-CBC, pbeWithSHAAnd2-KeyTripleDES-CBC  PKCS #12 (RFC 7292, B)
  *     PBEWithMD5AndTripleDES                                                                    Java's own rule
  *
- * For PKCS #12 the password is UTF-8, and else bytes. Errors: CUKVASHE_ERR_ALGORITHM, _KEY_LENGTH, _ITERATIONS;
+ * For PKCS #12 the password is UTF-8, otherwise bytes. Errors: CUKVASHE_ERR_ALGORITHM, _KEY_LENGTH, _ITERATIONS;
  * _SALT_LENGTH if Java's rule has a salt of other than 8 bytes.
  */
 CUKVASHE_CHECK int cukvashe_pbe_key(const char *algorithm, size_t algorithm_length, size_t iterations,
@@ -1286,7 +1288,7 @@ CUKVASHE_CHECK int cukvashe_pbe_key(const char *algorithm, size_t algorithm_leng
 /*
  * Reads strings of Jasypt, as settings have them inside ENC( and ): Base64 of a salt of 8 bytes, and of what was padded
  * and encrypted by CBC. The values are text, with ENC( and ) or without; white space around these and within does not
- * count. `algorithm` is as of pbe_key, and the password too. Jasypt's own are PBEWithMD5AndDES and 1,000 iterations. The
+ * count. `algorithm` and the password are as for pbe_key. Jasypt's own are PBEWithMD5AndDES and 1,000 iterations. The
  * key of each value is derived by itself, which takes most of the time. Statuses of values: CUKVASHE_ERR_BASE64;
  * _SALT_LENGTH if the value ends within the salt; _BLOCKS, also if nothing is encrypted; _PADDING, as mostly under a
  * wrong password. Errors: CUKVASHE_ERR_ALGORITHM, _ITERATIONS; _COUNTS if the sum of the lengths is not `length`;
@@ -1299,11 +1301,11 @@ CUKVASHE_CHECK int cukvashe_jasypt_decrypt_values(const char *algorithm, size_t 
                                                   int *statuses);
 
 /*
- * Writes strings of Jasypt, without ENC( and ) around, by an algorithm, iterations and a password as of
- * jasypt_decrypt_values: text k from the k-th of `salts`, of 8 bytes each, which are to be random. A text of n bytes has a
- * value of ((n / 8 + 2) * 8 + 2) / 3 * 4. Errors: CUKVASHE_ERR_COUNTS if `salts_length` is not that of `texts_count` salts;
- * then _ALGORITHM, _ITERATIONS; _COUNTS if the sum of the lengths is not `length`, or that of the values' lengths not
- * `values_length`.
+ * Writes strings of Jasypt, without ENC( and ) around, by an algorithm, iterations and a password as for
+ * jasypt_decrypt_values: text k from the k-th of `salts`, of 8 bytes each, which are to be random. A text of n bytes has
+ * a value of ((n / 8 + 2) * 8 + 2) / 3 * 4. Errors: CUKVASHE_ERR_COUNTS if `salts_length` is not that of `texts_count`
+ * salts; then _ALGORITHM, _ITERATIONS; _COUNTS if the sum of the lengths is not `length`, or that of the values' lengths
+ * not `values_length`.
  */
 CUKVASHE_CHECK int cukvashe_jasypt_encrypt_values(const char *algorithm, size_t algorithm_length, size_t iterations,
                                                   const uint8_t *password, size_t password_length,

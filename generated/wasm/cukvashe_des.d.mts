@@ -15,9 +15,9 @@ export const TAG_SIZE: 8;
 export function isSupported(): boolean;
 
 /**
- * Loads the module beside cukvashe_des.mjs: cukvashe_des.wasm, or where the engine has no 64-bit memory for it
+ * Loads the module beside cukvashe_des.mjs: cukvashe_des.wasm, or if the engine has no 64-bit memory for it
  * cukvashe_des_32.wasm; or the bytes of one of them. Await it before any other call. NotSupported; ModuleMismatch,
- * where the bytes are not those that cukvashe_des.mjs was built with. Where `crypto.subtle` is missing, as on pages by
+ * if the bytes are not those that cukvashe_des.mjs was built with. If `crypto.subtle` is missing, as on pages by
  * http, they are not compared.
  */
 export function load(module?: Uint8Array | ArrayBuffer): Promise<void>;
@@ -66,7 +66,7 @@ export class UnreadableValues extends CukvasheError {
 }
 /**
  * The cipher, MAC or terminal was closed, so that its key is gone; or it, or a decimalization table, is of before a
- * call of the module that did not end, as where the engine's stack ends within it: make it anew.
+ * call of the module that did not end, as when the engine's stack ends within it: make it anew.
  */
 export class Closed extends CukvasheError {}
 // The errors of the statuses of cukvashe_des.h, with the sentence of each: made of it by bindings/describe.
@@ -189,7 +189,7 @@ declare abstract class Cipher extends Keyed {
    */
   encryptCbc(data: Uint8Array, named: { iv: Uint8Array }): Uint8Array;
   /**
-   * The data, decrypted by cipher block chaining from an initialization vector of 8 bytes. Padding stays. For a record
+   * The data, decrypted by cipher block chaining from an initialization vector of 8 bytes. Padding is not removed. For a record
    * in pieces, the last block of `data` is the vector of the next piece. VectorLength, BlockLength.
    */
   decryptCbc(data: Uint8Array, named: { iv: Uint8Array }): Uint8Array;
@@ -234,7 +234,8 @@ export type Segment = 1 | 8 | 16 | 24 | 32 | 40 | 48 | 56 | 64;
 
 /**
  * Data that come in pieces of any length, under a cipher. Wherever they are cut, they become what they become as a
- * whole. A stream goes on as long as its cipher is not closed; `close` forgets where it is, but not the cipher's key.
+ * whole. A stream that has encrypted does not decrypt, nor the other way round: Direction. It goes on as long as its
+ * cipher is not closed; `close` forgets where it is, but not the cipher's key.
  */
 declare abstract class Stream extends Keyed {
   /** The bytes that come next, encrypted. */
@@ -248,17 +249,14 @@ declare abstract class Stream extends Keyed {
 /** The counter mode from a first counter block, as encryptCtr. VectorLength. */
 export class Ctr extends Stream {
   constructor(cipher: Cipher, named: { counter: Uint8Array });
-  /** Goes on at a byte of the text, from 0 on, of which no byte before it is needed. Position. */
+  /** Goes on at a byte of the text, from 0 on, of which no byte before it is needed, in either direction. Position. */
   seek(position: number | bigint): void;
 }
 /** Output feedback from an initialization vector, as encryptOfb. VectorLength. */
 export class Ofb extends Stream {
   constructor(cipher: Cipher, named: { iv: Uint8Array });
 }
-/**
- * Cipher feedback from an initialization vector, as encryptCfb. A stream that has encrypted does not decrypt, nor the
- * other way round: Direction. VectorLength, SegmentSize.
- */
+/** Cipher feedback from an initialization vector, as encryptCfb. VectorLength, SegmentSize. */
 export class Cfb extends Stream {
   constructor(cipher: Cipher, named: { iv: Uint8Array; segmentSize: Segment });
   /**
@@ -303,15 +301,15 @@ declare abstract class Cmac extends Mac {
   constructor(key: Uint8Array, data?: Uint8Array);
 }
 
-/** CBC-MAC over DES, under a key of 8 bytes. It is safe only where every message has one length. */
+/** CBC-MAC over DES, under a key of 8 bytes. It is safe only if every message has one length. */
 export class CbcMacDes extends PaddedMac {
   static readonly keySize: 8;
 }
-/** CBC-MAC over triple DES, under a key of 16 bytes. It is safe only where every message has one length. */
+/** CBC-MAC over triple DES, under a key of 16 bytes. It is safe only if every message has one length. */
 export class CbcMacTdesEde2 extends PaddedMac {
   static readonly keySize: 16;
 }
-/** CBC-MAC over triple DES, under a key of 24 bytes. It is safe only where every message has one length. */
+/** CBC-MAC over triple DES, under a key of 24 bytes. It is safe only if every message has one length. */
 export class CbcMacTdesEde3 extends PaddedMac {
   static readonly keySize: 24;
 }
@@ -343,7 +341,7 @@ export type CmacClass = typeof CmacTdesEde2 | typeof CmacTdesEde3;
  */
 export function pad(data: Uint8Array, method: "pkcs7" | "iso7816"): Uint8Array;
 /**
- * The data before the padding. PaddingMethod, BlockLength; PaddingMismatch where they do not end with it: an attacker
+ * The data before the padding. PaddingMethod, BlockLength; PaddingMismatch if they do not end with it: an attacker
  * who sends you data and learns which throw it, by a message or by the time taken, can decrypt. Verify a MAC first.
  */
 export function unpad(data: Uint8Array, method: "pkcs7" | "iso7816"): Uint8Array;
@@ -371,7 +369,7 @@ export function combine(first: Uint8Array, second: Uint8Array, ...others: Uint8A
 
 // ---- Keys of a transaction: DUKPT with triple DES (ANSI X9.24-1:2009). Keys have 16 bytes, key serial numbers ten
 
-/** The next key serial number with at most ten one bits in its counter, or null where there is none. SerialLength. */
+/** The next key serial number with at most ten one bits in its counter, or null if there is none. SerialLength. */
 export function dukptNextSerial(serial: Uint8Array): Uint8Array | null;
 /**
  * Whether a transaction has this key serial number: its counter is not 0 and has at most ten one bits. SerialLength.
@@ -416,7 +414,7 @@ export function pinEncode2(pin: Digits): Uint8Array;
 export function pinEncode3(pin: Digits, account: Digits, fill: Uint8Array): Uint8Array;
 /**
  * The PIN of a block of format 0. The error reveals something of the PIN: show it to nobody. BlockLength, Format,
- * PinLength where the second digit is not the length of a PIN, PinDigit, Fill, AccountLength, AccountDigit.
+ * PinLength if the second digit is not the length of a PIN, PinDigit, Fill, AccountLength, AccountDigit.
  */
 export function pinDecode0(block: Uint8Array, account: Digits): string;
 /** The PIN of a block of format 1. BlockLength, Format, PinLength, PinDigit. */
@@ -490,7 +488,7 @@ export function pinOffsetVerify(
 
 // Calls like those of cukvashe_des.h: made of it by bindings/describe.
 /**
- * The check value of a key or component of 8, 16 or 24 bytes: by DES or, where it is longer, triple DES (EDE).
+ * The check value of a key or component, by its length: by DES of 8 bytes, by triple DES (EDE) of 16 or 24.
  * KeyLength.
  */
 export function keyCheckValue(key: Uint8Array): Uint8Array;
@@ -500,14 +498,14 @@ export function keyCheckValue(key: Uint8Array): Uint8Array;
  */
 export function shortKeyCheckValue(key: Uint8Array): Uint8Array;
 /**
- * The initial key of a terminal, from the base derivation key and any of the terminal's key serial numbers, whose
- * counter plays no part. KeyLength, SerialLength.
+ * The initial key (IK, IPEK) of a terminal, from the base derivation key (BDK) and any of the terminal's key serial
+ * numbers (KSN), whose counter plays no part. KeyLength, SerialLength.
  */
 export function dukptInitialKey(base: Uint8Array, serial: Uint8Array): Uint8Array;
 /**
- * The key of a transaction, which encrypts nothing itself, from the terminal's initial key, not the base derivation
- * key, and the transaction's key serial number. It takes every counter: ask first whether a transaction has this
- * one. KeyLength, SerialLength.
+ * The key of a transaction, which encrypts nothing itself, from the terminal's initial key (IK, IPEK), not the base
+ * derivation key (BDK), and the transaction's key serial number (KSN). It takes every counter: ask first whether a
+ * transaction has this one. KeyLength, SerialLength.
  */
 export function dukptTransactionKey(initial: Uint8Array, serial: Uint8Array): Uint8Array;
 /** The key that encrypts PIN blocks, from the transaction's key. KeyLength. */
@@ -522,46 +520,46 @@ export function dukptDataKey(transaction: Uint8Array, isResponse?: boolean): Uin
  */
 export function dukptDataVariant(transaction: Uint8Array, isResponse?: boolean): Uint8Array;
 /**
- * The card verification value, three ASCII digits, under a key pair of 16 bytes, of an account number of 12 to 19
- * digits, an expiry date of four, in the order that the issuer takes, and a service code of three. KeyLength,
- * AccountLength, AccountDigit, ExpiryLength, ExpiryDigit, ServiceLength, ServiceDigit.
+ * The card verification value (CVV), three ASCII digits, under a key pair of 16 bytes, of an account number (PAN)
+ * of 12 to 19 digits, an expiry date of four, in the order that the issuer takes, and a service code of three.
+ * KeyLength, AccountLength, AccountDigit, ExpiryLength, ExpiryDigit, ServiceLength, ServiceDigit.
  */
 export function cvv(key: Uint8Array, account: Digits, expiry: Digits, service: Digits): string;
 /**
  * The key of a card (A1.4.1, option A), with odd parity, from the issuer's master key (IMK), an account number
- * (PAN) of 8 to 19 digits and a sequence number (PSN) of two, `00` where the card has none. KeyLength,
- * AccountLength, AccountDigit, SequenceLength, SequenceDigit.
+ * (PAN) of 8 to 19 digits and a sequence number (PSN) of two, `00` if the card has none. KeyLength, AccountLength,
+ * AccountDigit, SequenceLength, SequenceDigit.
  */
 export function emvCardKey(issuer: Uint8Array, account: Digits, sequence: Digits): Uint8Array;
 /**
- * The key of a card by option B (A1.4.2), which differs where the account number has more than sixteen digits: take
- * it if the card scheme asks for it. KeyLength, AccountLength, AccountDigit, SequenceLength, SequenceDigit.
+ * The key of a card by option B (A1.4.2), which differs if the account number (PAN) has more than sixteen digits:
+ * use it if the card scheme asks for it. KeyLength, AccountLength, AccountDigit, SequenceLength, SequenceDigit.
  */
 export function emvCardKeyB(issuer: Uint8Array, account: Digits, sequence: Digits): Uint8Array;
 /**
- * The session key for application cryptograms, from the card's key and the application transaction counter, two
- * bytes. KeyLength, DataLength.
+ * The session key for application cryptograms, from the card's key and the application transaction counter (ATC),
+ * two bytes. KeyLength, DataLength.
  */
 export function emvApplicationKey(card: Uint8Array, counter: Uint8Array): Uint8Array;
 /**
  * The session key for other uses (A1.3), from the card's key and eight bytes that are different for each session:
- * for secure messaging the application cryptogram. The third of them plays no part. KeyLength, BlockLength.
+ * for secure messaging the application cryptogram (ARQC). The third of them plays no part. KeyLength, BlockLength.
  */
 export function emvSessionKey(card: Uint8Array, block: Uint8Array): Uint8Array;
 /**
- * The application cryptogram (8.1.2), 8 bytes, under a session key, of the data that the card scheme names: the
- * retail MAC with padding method 2. To check one that a card sent call new RetailMacDes(session, 2,
- * data).verify(cryptogram). KeyLength.
+ * The application cryptogram (ARQC, TC or AAC; 8.1.2), 8 bytes, under a session key, of the data that the card
+ * scheme names: the retail MAC with padding method 2. To check one that a card sent call new RetailMacDes(session,
+ * 2, data).verify(cryptogram). KeyLength.
  */
 export function emvApplicationCryptogram(session: Uint8Array, data: Uint8Array): Uint8Array;
 /**
- * The issuer's response by method 1 (8.2.1), 8 bytes, to an application cryptogram, with a response code of two
- * ASCII characters. KeyLength, BlockLength, DataLength.
+ * The issuer's response (ARPC) by method 1 (8.2.1), 8 bytes, to an application cryptogram (ARQC), with a response
+ * code of two ASCII characters. KeyLength, BlockLength, DataLength.
  */
 export function emvResponse1(session: Uint8Array, cryptogram: Uint8Array, code: Uint8Array): Uint8Array;
 /**
- * The issuer's response by method 2 (8.2.2), 4 bytes, to an application cryptogram, with a card status update of
- * four bytes and at most 8 bytes of the issuer's. KeyLength, BlockLength, DataLength.
+ * The issuer's response (ARPC) by method 2 (8.2.2), 4 bytes, to an application cryptogram (ARQC), with a card
+ * status update of four bytes and at most 8 bytes of the issuer's. KeyLength, BlockLength, DataLength.
  */
 export function emvResponse2(
   session: Uint8Array, cryptogram: Uint8Array, status: Uint8Array, data?: Uint8Array,
@@ -582,7 +580,7 @@ interface KeyBlockHeader {
 }
 /**
  * The header and the key of a key block of version A, B or C, under a protection key (KBPK) of 16 or 24 bytes. Look at
- * the header before you use the key. KeyBlockMac where the block was changed, or is under another key.
+ * the header before you use the key. KeyBlockMac if the block was changed, or is under another key.
  * ProtectionKeyLength, KeyBlockLength, KeyBlockVersion, KeyBlockField, OptionalBlock, KeyDataLength, KeyBlockDigit,
  * KeyLength.
  */
@@ -592,8 +590,8 @@ export function unwrapKeyBlock(
 /**
  * The key block of a key of 8, 16 or 24 bytes under a protection key (KBPK) of 16 or 24 bytes, of version B or C.
  * `header` has the fields that unwrapKeyBlock gives; no call compares them with the key's length. `optional` has pairs
- * of a name of two letters or digits and its content, printable ASCII, after which a block PB is added where they do
- * not end at a multiple of eight characters, and taken only as the last, where with it they do: OptionalBlock.
+ * of a name of two letters or digits and its content, printable ASCII, after which a block PB is added if they do
+ * not end at a multiple of eight characters, and taken only as the last, if with it they do: OptionalBlock.
  * `padding` is 6, 14 or 22 random bytes that hide how long the key is: without it they come from the engine.
  * KeyBlockVersion, ProtectionKeyLength, KeyBlockField, KeyLength, PaddingLength, KeyBlockLength.
  */
@@ -728,7 +726,7 @@ export function openSalted(
 
 /**
  * The blocks, each of 8 bytes encrypted under the key at its place. `cipher` is a class, as TdesEde2. KeyLength,
- * BlockLength; CountMismatch where the numbers of keys and blocks differ.
+ * BlockLength; CountMismatch if the numbers of keys and blocks differ.
  */
 export function encryptEach(cipher: CipherClass, keys: Uint8Array, blocks: Uint8Array): Uint8Array;
 /** The blocks, each decrypted under the key at its place. Errors as of encryptEach. */
@@ -749,7 +747,7 @@ export function dukptTransactionKeysFromBase(base: Uint8Array, serials: Uint8Arr
 export function encryptCbcRecords(
   cipher: Cipher, blocks: Uint8Array, named: { vectors: Uint8Array; counts: Iterable<number> },
 ): Uint8Array;
-/** Records, each decrypted by cipher block chaining. Padding stays. Arguments and errors as of encryptCbcRecords. */
+/** Records, each decrypted by cipher block chaining. Padding is not removed. Arguments and errors as of encryptCbcRecords. */
 export function decryptCbcRecords(
   cipher: Cipher, blocks: Uint8Array, named: { vectors: Uint8Array; counts: Iterable<number> },
 ): Uint8Array;
@@ -774,7 +772,7 @@ export function macsEach(
 ): Uint8Array;
 /**
  * The places of the tags, of 8 bytes each, that are not the one at their place in `expected`, the tags that `macs` or
- * `macsEach` made. Every byte is compared. Ask `length`: an array without elements, where all are right, is true in an
+ * `macsEach` made. Every byte is compared. Ask `length`: an array without elements, if all are right, is true in an
  * `if`. CountMismatch.
  */
 export function wrongTags(tags: Uint8Array, expected: Uint8Array): number[];

@@ -21,8 +21,8 @@ export const BLOCK_SIZE = 8;
 export const TAG_SIZE = 8;
 
 // The SHA-256 of the modules that this file was built with: the one of a 64-bit memory, and the same of a 32-bit memory.
-const MODULE_SUM = "f16ad0cb4d6a83f98fee79f7aa02e174370d8e426fd26f6389495a26f8810add";
-const NARROW_SUM = "c67545e51b845349ddca324a547f44876e97d3f72cb6f50d09c5cabaa5eaa6cd";
+const MODULE_SUM = "455f62aa76a592dedc01bc9a23c6444d54fb0b37ba7daeaf4d5cde5417a92b6d";
+const NARROW_SUM = "aaed960c26f8a7e873e48305e3dad563d2132eab1b32bc47432422a1a0716671";
 
 // The bytes of the module's stack, which lies at its address 0. `build` links it so.
 const STACK_SIZE = 131072;
@@ -569,7 +569,7 @@ let workspace = null;
 let compiled = null;
 
 /**
- * Runs calls in the module's memory, and wipes it. An exception that is none of the library's, as where the engine's own
+ * Runs calls in the module's memory, and wipes it. An exception that is none of the library's, as when the engine's own
  * stack ends or the module traps, leaves its instance within a call, with a part of its stack in use for good. So the next
  * call has a new one.
  */
@@ -925,8 +925,8 @@ function begin(stream, cipher, mode, vector) {
 }
 
 /**
- * What a direction, "encrypt" or "decrypt", makes of the bytes that come next; `bits` gives how many bits it takes, if it takes them. CFB
- * goes on in the direction of its first bytes.
+ * What a direction, "encrypt" or "decrypt", makes of the bytes that come next; `bits` gives how many bits it takes, if it takes them. A
+ * stream goes on in the direction of its first bytes.
  */
 function streamed(stream, direction, data, bits = () => []) {
   const bytes = bytesOf(data, "data");
@@ -934,7 +934,7 @@ function streamed(stream, direction, data, bits = () => []) {
     const { kind: of, context: state } = memory.state(stream, Stream);
     const { kind, context } = memory.state(of.cipher, Cipher);
     const counts = bits(of.mode, bytes);
-    if (of.mode >= CFB1 && of.direction !== null && of.direction !== direction) {
+    if (of.direction !== null && of.direction !== direction) {
       throw new Direction(`this stream ${of.direction}s: begin another to ${direction}`);
     }
     const [[at, length], place] = [memory.list(bytes), memory.put(state)];
@@ -988,13 +988,14 @@ export class Ctr extends Stream {
     const place = positionOf(position);
     const rest = place % 8n;
     inside((memory) => {
-      const { kind: { cipher, counter }, context: state } = memory.state(this, Stream);
-      const { kind, context } = memory.state(cipher, Cipher);
+      const { kind: of, context: state } = memory.state(this, Stream);
+      const { kind, context } = memory.state(of.cipher, Cipher);
       const at = memory.allocate(STREAM_SIZE);
-      memory.call("stream_begin_ctr_at", at, memory.put(counter), place / 8n);
+      memory.call("stream_begin_ctr_at", at, memory.put(of.counter), place / 8n);
       const skipped = memory.allocate(Number(rest));
       memory.call("internal_encrypt_stream", ...contextAt(kind, memory.put(context)), at, skipped, rest);
       memory.take(at, state);
+      of.direction = null;
     });
   }
 }
@@ -1964,7 +1965,7 @@ function errorsOf(errors) {
   throw new TypeError('errors: "throw" or "null" is needed');
 }
 
-/** The texts in the rows of their values. Where some could not be read, that is thrown, or null stands in their rows. */
+/** The texts in the rows of their values. If some could not be read, that is thrown, or null stands in their rows. */
 function told(column, found, faults, errors) {
   const answer = spread(column, found);
   if (faults.size === 0 || errors === "null") return answer;
@@ -1973,7 +1974,7 @@ function told(column, found, faults, errors) {
   throw Object.assign(new UnreadableValues(text), { faults, texts: answer });
 }
 
-/** The error of a value's status, with its own sentence where it has one. */
+/** The error of a value's status, with its own sentence if it has one. */
 function valueFaultOf(status, sentences) {
   const Fault = FAULTS.get(status);
   return sentences.has(status) ? new Fault(sentences.get(status)) : faultOf(status);
@@ -2048,7 +2049,7 @@ function jasyptOf(algorithm, iterations) {
   };
 }
 
-// The sentences of strings, where those of the statuses are of other bytes too.
+// The sentences of strings, if those of the statuses are of other bytes too.
 const OF_A_STRING = new Map([
   [SALT_LENGTH, "the value ends within the salt"],
   [BLOCKS, "what is encrypted is not whole blocks of 8 bytes"],
