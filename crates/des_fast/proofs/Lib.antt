@@ -61,3 +61,4 @@ pub mod PassDirections
 pub mod RelatedCbc
 mod RelatedTriples
 pub mod XoredHalves
+pub mod OutputBlocks

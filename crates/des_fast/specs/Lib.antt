@@ -21,5 +21,6 @@ pub mod GroupBytes
 pub mod SideBySide
 pub mod Beside
 pub mod TableBlocks
+pub mod Feedback
 pub mod JoinedEntries
 pub mod ChosenTerms

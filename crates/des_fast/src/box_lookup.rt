@@ -4,6 +4,7 @@ ghost use Rattle.std.specs.Prelude.{◌≡◌, ◌≤◌, ℕ, length, map};
 ghost use Rattle.std.specs.List.{All};
 ghost use Rattle.des.specs.Blocks.{IsBlock};
 ghost use Rattle.des.specs.Cbc.{Cbc};
+ghost use Rattle.des_fast.specs.Feedback.{AreOutputs};
 
 use crate::beside::Beside;
 use crate::chained_halves;
@@ -38,6 +39,16 @@ pub trait BoxLookup: Copy {
         ensures blocks { All IsBlock blocks.old }
         ensures chained { Cbc (A.output passes.now) iv.now blocks.old blocks.new };
 
+    /// Writes the output blocks of a feedback from `iv` along a plaintext, each through passes (FIPS 81,
+    /// output and cipher feedback mode).
+    fn write_outputs<A: BlockTransform>(
+        outputs: &mut [[u8; 8]],
+        iv: &[u8; 8],
+        plaintext: &[[u8; 8]],
+        passes: &A,
+    )
+        ensures { AreOutputs (A.output passes.now) iv.now plaintext.now outputs.new };
+
     // CBC decryption keeps the ciphertext block before each block of a part, and has room for six.
     ghost at_most: { MOST ≤ 6 };
 }
@@ -49,8 +60,8 @@ type Five = Beside<Four, OneBlock>;
 
 type Six = Beside<Four, TwoBlocks>;
 
-/// By tables. The rounds of a block wait for its lookups, and those of others go on meanwhile, so
-/// that six take less than twice as long as one. More than six would not have their words in
+/// By tables. The rounds of a block wait for its lookups, and those of others go on meanwhile: six
+/// blocks take two to three times as long as one. More than six would not have their words in
 /// registers.
 #[derive(Clone, Copy)]
 pub struct Tables;
@@ -93,6 +104,15 @@ impl BoxLookup for Tables {
         chained_halves::cbc_encrypt::<OneBlock, A>(blocks, iv, passes);
     }
 
+    fn write_outputs<A: BlockTransform>(
+        outputs: &mut [[u8; 8]],
+        iv: &[u8; 8],
+        plaintext: &[[u8; 8]],
+        passes: &A,
+    ) {
+        chained_halves::write_outputs::<OneBlock, A>(outputs, iv, plaintext, passes);
+    }
+
     ghost at_most = { lit≤ tt };
 }
 
@@ -129,6 +149,15 @@ impl BoxLookup for NoTables {
 
     fn cbc_encrypt<A: BlockTransform>(blocks: &mut [[u8; 8]], iv: &[u8; 8], passes: &A) {
         chained_halves::cbc_encrypt::<u64, A>(blocks, iv, passes);
+    }
+
+    fn write_outputs<A: BlockTransform>(
+        outputs: &mut [[u8; 8]],
+        iv: &[u8; 8],
+        plaintext: &[[u8; 8]],
+        passes: &A,
+    ) {
+        chained_halves::write_outputs::<u64, A>(outputs, iv, plaintext, passes);
     }
 
     ghost at_most = { lit≤ tt };

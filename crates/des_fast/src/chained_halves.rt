@@ -1,4 +1,5 @@
-//! CBC encryption with no permutation between two blocks (FIPS 81, cipher block chaining mode).
+//! CBC encryption, and the output blocks of OFB and CFB, with no permutation between two blocks (FIPS
+//! 81).
 //!
 //! The initial permutation of a xor is the xor of two initial permutations, and that of a ciphertext
 //! block gives back the halves that its rounds ended with, exchanged. So a block's rounds begin with
@@ -9,6 +10,9 @@ ghost use Rattle.std.specs.Prelude.{◌≡◌, ℕ, List, bit_xor};
 ghost use Rattle.std.specs.List.{All};
 ghost use Rattle.des.specs.Blocks.{IsBlock};
 ghost use Rattle.des.specs.Cbc.{Cbc, xor_blocks};
+ghost use Rattle.des_fast.specs.Groups.{half_of};
+ghost use Rattle.des_fast.specs.HalfBlocks.{last_block};
+ghost use Rattle.des_fast.specs.Feedback.{AreOutputs};
 ghost use Rattle.des_fast.specs.SideBySide.{AreExpansions, AreHalvesOf};
 ghost use Rattle.des_fast.specs.Slices.{InEachBlock};
 
@@ -36,28 +40,31 @@ fn halves_of<G: OneWord>(block: &[u8; 8]) -> (G, G)
     G::of_blocks(&[*block])
 }
 
-// Encrypts a block of a chain through passes. Takes the halves of the ciphertext block before it, and
-// returns its own: those after its rounds, exchanged.
+// The halves of the xor of a block with the block of these.
 #[inline(always)]
-fn encrypt_next<G: OneWord, A: BlockTransform>(
-    block: &mut [u8; 8],
-    before: (G, G),
-    passes: &A,
-) -> (G, G)
-    requires left { AreExpansions G.BLOCKS G.word before.0 }
-    requires right { AreExpansions G.BLOCKS G.word before.1 }
+fn xored<G: OneWord>(halves: (G, G), block: &[u8; 8]) -> (G, G)
+    requires left { AreExpansions G.BLOCKS G.word halves.0 }
+    requires right { AreExpansions G.BLOCKS G.word halves.1 }
     ensures left { AreExpansions G.BLOCKS G.word result.0 }
     ensures right { AreExpansions G.BLOCKS G.word result.1 }
-    ensures encrypted { (previous : List ℕ) → AreHalvesOf G.word previous before
-        → block.new ≡ A.output passes.now (xor_blocks block.old previous) }
-    ensures halves { AreHalvesOf G.word block.new result }
+    ensures halves { (other : List ℕ) → AreHalvesOf G.word other halves
+        → AreHalvesOf G.word (xor_blocks block.now other) result }
 {
     let (left, right) = halves_of::<G>(block);
-    let (last_left, last_right) = passes.process_halves(left.xor(before.0), right.xor(before.1));
-    let mut one = [*block];
-    G::write_blocks(&mut one, last_left, last_right);
-    *block = one[0];
-    (last_right, last_left)
+    (left.xor(halves.0), right.xor(halves.1))
+}
+
+// The block of the halves after its rounds, which exchanged are its own.
+#[inline(always)]
+fn block_after<G: OneWord>(left: G, right: G) -> [u8; 8]
+    requires left { AreExpansions G.BLOCKS G.word left }
+    requires right { AreExpansions G.BLOCKS G.word right }
+    ensures block { result ≡ last_block (half_of (G.word 0 left), half_of (G.word 0 right)) }
+    ensures halves { AreHalvesOf G.word result (right, left) }
+{
+    let mut one = [[0; 8]];
+    G::write_blocks(&mut one, left, right);
+    one[0]
 }
 
 /// Encrypts blocks by CBC from `iv`, each through passes. Not inlined: with both lookups in one
@@ -74,6 +81,32 @@ pub(crate) fn cbc_encrypt<G: OneWord, A: BlockTransform>(
     are_blocks(blocks);
     let mut halves = halves_of::<G>(iv);
     for block in blocks.iter_mut() {
-        halves = encrypt_next(block, halves, passes);
+        let (first_left, first_right) = xored(halves, block);
+        let (left, right) = passes.process_halves(first_left, first_right);
+        *block = block_after(left, right);
+        halves = (right, left);
+    }
+}
+
+/// Writes the output blocks of a feedback from `iv` along a plaintext, each through passes. Not
+/// inlined, as `cbc_encrypt`.
+#[inline(never)]
+pub(crate) fn write_outputs<G: OneWord, A: BlockTransform>(
+    outputs: &mut [[u8; 8]],
+    iv: &[u8; 8],
+    plaintext: &[[u8; 8]],
+    passes: &A,
+)
+    ensures { AreOutputs (A.output passes.now) iv.now plaintext.now outputs.new }
+{
+    let mut halves = halves_of::<G>(iv);
+    for j in 0..outputs.len() {
+        let (left, right) = passes.process_halves(halves.0, halves.1);
+        // What the next block waits for comes first.
+        halves = match plaintext.get(j) {
+            Some(block) => xored((right, left), block),
+            None => (right, left),
+        };
+        outputs[j] = block_after(left, right);
     }
 }

@@ -23,6 +23,7 @@ ghost use Rattle.std.specs.List.{All};
 ghost use Rattle.des.specs.Blocks.{AnswersEach, IsBlock};
 ghost use Rattle.des.specs.Cbc.{Cbc, CbcUnder, CbcDecrypts, xor_blocks};
 ghost use Rattle.des.specs.Relations.{IsTheOne};
+ghost use Rattle.des_fast.specs.Feedback.{AreOutputs};
 ghost use Rattle.des_fast.specs.SpreadKeys.{AreSlicesFor};
 
 mod batches;
@@ -75,7 +76,7 @@ fn process<S: Slice>(blocks: &mut [[u8; 8]], passes: &[PassSlices<S>])
 
 /// A block cipher that treats many blocks of a list together. No call changes the cipher.
 ///
-/// A type writes the four calls of a list, which say what the relation of the key makes of it too.
+/// A type writes the calls of a list, which say what the relation of the key makes of it too.
 /// The others rest on them, read no table, and say less. The calls of the five ciphers of this
 /// crate take no memory, but for batches keep the halves C and D of their keys on the stack, spread
 /// over slices: 1,800 bytes for each pass of DES over vectors of two words, 3,600 over vectors of
@@ -110,6 +111,20 @@ pub trait ManyBlocks: Relating {
         ensures chained { Cbc (Self.encrypted self.now) iv.now blocks.old blocks.new }
         ensures related { (key : List ℕ) → Self.is_made_from self.now key
             → CbcUnder (Self.relation key) iv.now blocks.old blocks.new };
+
+    /// Writes the output blocks of a feedback (FIPS 81, output and cipher feedback mode), block after
+    /// block: the first is the encryption of the initialization vector, and each other that of the
+    /// one before it xored with the plaintext block there, or, if the plaintext has ended, of the one
+    /// before it alone. Those of CFB of 64 bits are written along its plaintext, and those of OFB
+    /// along none.
+    fn write_output_list(
+        &self,
+        no_tables: bool,
+        iv: &[u8; 8],
+        plaintext: &[[u8; 8]],
+        outputs: &mut [[u8; 8]],
+    )
+        ensures { AreOutputs (Self.encrypted self.now) iv.now plaintext.now outputs.new };
 
     /// Decrypts in place a list of blocks of 8 bytes that CBC chained from the initialization
     /// vector, as `decrypt_cbc` does, in batches of `S::BATCH` blocks and the few that are left over

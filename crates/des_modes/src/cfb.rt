@@ -9,7 +9,7 @@ ghost use Rattle.des_modes.specs.Streams.{GoesOn};
 ghost use Rattle.des_modes.specs.declared.direction.Direction.TheVariants.{Encrypt, Decrypt};
 ghost use Rattle.des_modes.specs.declared.modes.Mode.TheVariants.{CipherFeedback};
 
-use crate::cbc_encrypt::CbcEncrypt;
+use crate::feedback::{Feedback, block_at};
 use crate::direction::Direction;
 use crate::parts::{TOGETHER, TakesParts};
 use crate::place::Place;
@@ -37,18 +37,6 @@ fn write_blocks(blocks: &mut [[u8; 8]], bytes: &[u8])
 {
     let (inputs, _) = bytes.as_chunks::<8>();
     blocks.copy_from_slice(&inputs[..blocks.len()]);
-}
-
-// Writes the first eight bytes into the second block, the next eight into the third, and so on.
-fn write_after_first(blocks: &mut [[u8; 8]], bytes: &[u8])
-    requires some { 1 ≤ length blocks.old }
-    requires few { 8 * length blocks.old ≤ 8 + length bytes.now }
-    ensures first { slice_index_or blocks.new 0 [] ≡ slice_index_or blocks.old 0 [] }
-    ensures others { (j : ℕ) → j + 1 < length blocks.old
-        → slice_index_or blocks.new (j + 1) [] ≡ take 8 (drop (8 * j) bytes.now) }
-{
-    let (_, others) = blocks.split_at_mut(1);
-    write_blocks(others, bytes);
 }
 
 // Writes eight bytes into each block, from the beginning of its segment on.
@@ -80,16 +68,6 @@ fn write_outputs<C: BlockCipherEncrypt>(
 {
     write_inputs(blocks, bytes, segment);
     cipher.encrypt_blocks(blocks);
-}
-
-// The block at a place, if it is there.
-fn block_at(blocks: &[[u8; 8]], place: usize) -> [u8; 8]
-    ensures { place < length blocks.now → result ≡ slice_index_or blocks.now place [] }
-{
-    match blocks.get(place) {
-        Some(block) => *block,
-        None => [0; 8],
-    }
 }
 
 // Writes the bytes of a register, and others behind them.
@@ -205,11 +183,10 @@ impl CfbMode {
         }
     }
 
-    // Encrypts segments of eight bytes together, of which the last may be cut short. CBC of a block of
-    // zeros and the segments P(0), P(1), .., from the shift register, gives the output blocks O(0), O(1),
-    // ..: O(j + 1) = E(C(j)) = E(P(j) ^ O(j)). Not inlined, so that a text of one block does no work for many.
+    // Encrypts segments of eight bytes together, of which the last may be cut short. Not inlined, so that
+    // a text of one block does no work for many.
     #[inline(never)]
-    fn encrypt_segments<C: CbcEncrypt>(&self, place: &mut Place, cipher: &C, bytes: &mut [u8])
+    fn encrypt_segments<C: Feedback>(&self, place: &mut Place, cipher: &C, bytes: &mut [u8])
         requires blocks { self.now.segment ≡ 8 }
         requires between { place.old.used ≡ 0 }
         requires some { 8 ≤ length bytes.old }
@@ -223,8 +200,8 @@ impl CfbMode {
         let count = bytes.len();
         let mut outputs = [[0; 8]; TOGETHER];
         let part = &mut outputs[..count_of(count, 8)];
-        write_after_first(part, bytes);
-        cipher.encrypt_cbc(&place.register, part);
+        let (plaintext, _) = bytes.as_chunks::<8>();
+        cipher.write_outputs(&place.register, plaintext, part);
         are_blocks(part);
         xor_blocks_from(bytes, part, 0);
         place.register.copy_from_slice(&bytes[count - 8..]);
@@ -262,13 +239,13 @@ impl CfbMode {
     }
 }
 
-impl<C: CbcEncrypt> TakesParts<C> for CfbMode {
+impl<C: Feedback> TakesParts<C> for CfbMode {
     ghost mode = { λ cfb. CipherFeedback cfb.segment };
 
     ghost key_stream = { λ cfb encryption iv c. cfb_stream cfb.segment encryption iv c };
 
-    // The bytes that are left of a segment; between two, 256 segments of ciphertext, or one of plaintext,
-    // but of eight bytes 256.
+    // The bytes that are left of a segment that has begun. Else 256 segments to decrypt, or to encrypt if
+    // they have eight bytes, and one to encrypt if they have fewer.
     ghost limit = { λ cfb direction used.
         if nat_eq used 0 then
         (plaintext direction (if nat_eq cfb.segment 8 then 2048 else cfb.segment)

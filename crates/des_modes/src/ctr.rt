@@ -6,8 +6,8 @@ ghost use Rattle.std.specs.Int.{w64, to_be_bytes};
 ghost use Rattle.des_modes.specs.Ctr.{ctr_stream};
 ghost use Rattle.des_modes.specs.declared.modes.Mode.TheVariants.{Counter};
 
-use crate::cbc_encrypt::CbcEncrypt;
 use crate::direction::Direction;
+use crate::feedback::Feedback;
 use crate::parts::{TOGETHER, TakesParts};
 use crate::place::Place;
 use crate::xored::{xor_block_from, xor_blocks_from};
@@ -62,7 +62,7 @@ fn apply_many<C: BlockCipherEncrypt>(cipher: &C, counter: u64, used: usize, byte
     xor_blocks_from(bytes, part, used);
 }
 
-// As `apply_many`, but bytes of one block alone.
+// As `apply_many`, with a shorter way for bytes of one block.
 fn apply_outputs<C: BlockCipherEncrypt>(cipher: &C, counter: u64, used: usize, bytes: &mut [u8])
     requires { used + length bytes.old ≤ 2048 }
     ensures { (i : ℕ) → i < length bytes.old → slice_index bytes.new i
@@ -80,7 +80,7 @@ fn apply_outputs<C: BlockCipherEncrypt>(cipher: &C, counter: u64, used: usize, b
 /// The counter mode. The register of a place holds the counter of the block that it stands in.
 pub(crate) struct CtrMode;
 
-impl<C: CbcEncrypt> TakesParts<C> for CtrMode {
+impl<C: Feedback> TakesParts<C> for CtrMode {
     ghost mode = { λ ctr. Counter };
 
     ghost key_stream = { λ ctr encryption t c. ctr_stream encryption t };

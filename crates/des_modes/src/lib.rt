@@ -8,13 +8,13 @@
 #![tactic(auto)]
 
 pub mod by_key;
-pub mod cbc_encrypt;
 mod cfb;
 mod cfb_bits;
 mod checks;
 pub mod cms_key_wrap;
 mod ctr;
 pub mod direction;
+pub mod feedback;
 pub mod lists;
 pub mod modes;
 mod ofb;
@@ -25,6 +25,6 @@ pub mod tkw;
 pub mod unwrap_error;
 mod xored;
 
-pub use cbc_encrypt::CbcEncrypt;
 pub use direction::Direction;
+pub use feedback::Feedback;
 pub use unwrap_error::UnwrapError;

@@ -3,7 +3,7 @@
 
 ghost use Rattle.std.specs.Prelude.{◌≡◌};
 
-use crate::cbc_encrypt::CbcEncrypt;
+use crate::feedback::Feedback;
 use des::cipher::{BlockCipherEncrypt, OneBlockAtATime};
 use des_fast::many::{ManyBlocks, Slice};
 use std::marker::PhantomData;
@@ -20,7 +20,8 @@ impl<'a, C: ManyBlocks, S: Slice> ByLists<'a, C, S> {
     /// The cipher, by its calls for lists. If `no_tables` is true, no table is read at an index that
     /// depends on the key or on a block.
     pub fn new(cipher: &'a C, no_tables: bool) -> ByLists<'a, C, S>
-        ensures { result.cipher.now ≡ cipher.now }
+        ensures cipher { result.cipher.now ≡ cipher.now }
+        ensures no_tables { result.no_tables ≡ no_tables }
     {
         ByLists {
             cipher,
@@ -48,8 +49,9 @@ impl<'a, C: ManyBlocks, S: Slice> BlockCipherEncrypt for ByLists<'a, C, S> {
     }
 }
 
-impl<'a, C: ManyBlocks, S: Slice> CbcEncrypt for ByLists<'a, C, S> {
-    fn encrypt_cbc(&self, iv: &[u8; 8], blocks: &mut [[u8; 8]]) {
-        self.cipher.encrypt_cbc_list(self.no_tables, iv, blocks);
+impl<'a, C: ManyBlocks, S: Slice> Feedback for ByLists<'a, C, S> {
+    fn write_outputs(&self, iv: &[u8; 8], plaintext: &[[u8; 8]], outputs: &mut [[u8; 8]]) {
+        self.cipher
+            .write_output_list(self.no_tables, iv, plaintext, outputs);
     }
 }

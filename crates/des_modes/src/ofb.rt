@@ -8,8 +8,8 @@ ghost use Rattle.des_modes.specs.Streams.{GoesOn};
 ghost use Rattle.des_modes.specs.declared.direction.Direction.{Direction as DirectionOf};
 ghost use Rattle.des_modes.specs.declared.modes.Mode.TheVariants.{OutputFeedback};
 
-use crate::cbc_encrypt::CbcEncrypt;
 use crate::direction::Direction;
+use crate::feedback::Feedback;
 use crate::parts::{TOGETHER, TakesParts};
 use crate::place::Place;
 use crate::xored::{xor_block_from, xor_blocks_from};
@@ -29,10 +29,10 @@ fn current<C: BlockCipherEncrypt>(place: &Place, cipher: &C) -> [u8; 8]
     block
 }
 
-// Encrypts or decrypts bytes from the beginning of an output block on. CBC of blocks of zeros gives the
-// output blocks. Not inlined, so that a text of one block does no work for many.
+// Encrypts or decrypts bytes from the beginning of an output block on. Not inlined, so that a text of
+// one block does no work for many.
 #[inline(never)]
-fn apply_chained<C: CbcEncrypt>(place: &mut Place, cipher: &C, bytes: &mut [u8])
+fn apply_chained<C: Feedback>(place: &mut Place, cipher: &C, bytes: &mut [u8])
     requires between { place.old.used ≡ 0 }
     requires some { 1 ≤ length bytes.old }
     requires few { length bytes.old ≤ 2048 }
@@ -44,18 +44,18 @@ fn apply_chained<C: CbcEncrypt>(place: &mut Place, cipher: &C, bytes: &mut [u8])
 {
     let mut outputs = [[0; 8]; TOGETHER];
     let part = &mut outputs[..bytes.len().div_ceil(8)];
-    cipher.encrypt_cbc(&place.register, part);
+    cipher.write_outputs(&place.register, &[], part);
     are_blocks(part);
     xor_blocks_from(bytes, part, 0);
     place.register = part[part.len() - 1];
     place.used = bytes.len() % 8;
 }
 
-/// Output feedback. The register of a place holds the last output block, of which 0 bytes are used if
-/// all are.
+/// Output feedback. The register of a place holds the last output block; `used` is 0 again when all its
+/// bytes are used.
 pub(crate) struct OfbMode;
 
-impl<C: CbcEncrypt> TakesParts<C> for OfbMode {
+impl<C: Feedback> TakesParts<C> for OfbMode {
     ghost mode = { λ ofb. OutputFeedback };
 
     ghost key_stream = { λ ofb encryption iv c. ofb_stream encryption iv };

@@ -1,4 +1,4 @@
-//! Texts of any length, by modes that take so many bytes at a time.
+//! Texts of any length, by modes that take a limited number of bytes at a time.
 
 ghost use Rattle.std.specs.Prelude.{◌≡◌, ◌<◌, ◌≤◌, ◌++◌, ℕ, List, length, bit_xor};
 ghost use Rattle.des_modes.specs.Streams.{GoesOn};
@@ -6,22 +6,22 @@ ghost use Rattle.des_modes.specs.States.{IsPlace, size_of};
 ghost use Rattle.des_modes.specs.declared.direction.Direction.{Direction as DirectionOf};
 ghost use Rattle.des_modes.specs.declared.modes.Mode.{Mode as ModeOf};
 
-use crate::cbc_encrypt::CbcEncrypt;
 use crate::direction::Direction;
+use crate::feedback::Feedback;
 use crate::place::Place;
 
-/// The blocks that go through the cipher together, at most. A chain of them waits once for its beginning
-/// and its end.
+/// The most blocks that go through the cipher together. A part costs something beside its blocks, which
+/// is then shared by many.
 pub(crate) const TOGETHER: usize = 256;
 
-/// A mode that goes on from place to place, by so many bytes at a time.
-pub(crate) trait TakesParts<C: CbcEncrypt> {
+/// A mode that goes on from place to place, by a limited number of bytes at a time.
+pub(crate) trait TakesParts<C: Feedback> {
     ghost mode: { Self → ModeOf };
 
     // The key stream under an encryption, from an initialization vector, along the ciphertext.
     ghost key_stream: { Self → (List ℕ → List ℕ) → List ℕ → List ℕ → ℕ → ℕ };
 
-    // The most bytes that may go together, where so many of an output block are used.
+    // The most bytes that may go together, if that number of an output block is used.
     ghost limit: { Self → DirectionOf → ℕ → ℕ };
 
     /// The most bytes that may be encrypted or decrypted together.
@@ -44,8 +44,8 @@ pub(crate) trait TakesParts<C: CbcEncrypt> {
             ≡ key_stream self.now (C.encrypted cipher.now) iv d i };
 }
 
-/// Encrypts or decrypts the bytes that come next in place, a part after another.
-pub(crate) fn apply_parts<C: CbcEncrypt, P: TakesParts<C>>(
+/// Encrypts or decrypts the bytes that come next in place, part after part.
+pub(crate) fn apply_parts<C: Feedback, P: TakesParts<C>>(
     mode: &P,
     direction: Direction,
     place: &mut Place,

@@ -11,7 +11,7 @@ ghost use Rattle.des_modes.specs.States.{HasBegun, HoldsLastBits, IsBitStreamAt,
 ghost use Rattle.des_modes.specs.declared.modes.Mode.TheVariants.{BitFeedback};
 ghost use Rattle.des_modes.specs.declared.modes.TheConstants.{CFB1, CTR};
 
-use crate::cbc_encrypt::CbcEncrypt;
+use crate::feedback::Feedback;
 use crate::cfb::CfbMode;
 use crate::cfb_bits;
 use crate::ctr::CtrMode;
@@ -26,7 +26,7 @@ use des::cipher::{BlockCipherEncrypt, are_bytes};
 pub const MARK: u32 = 0x57e4a317;
 
 // Encrypts or decrypts the bytes that come next in a mode.
-fn apply_in<C: CbcEncrypt>(
+fn apply_in<C: Feedback>(
     mode: Mode,
     direction: Direction,
     place: &mut Place,
@@ -77,8 +77,8 @@ pub struct Stream {
 }
 
 impl Stream {
-    /// The beginning of a stream in the mode of a number, if it is that of one, from an initialization
-    /// vector, or for the counter mode the first counter block.
+    /// The beginning of a stream in the mode that has this number, from an initialization vector, or for
+    /// the counter mode the first counter block. `None` if no mode has it.
     pub fn new(number: u32, iv: &[u8; 8]) -> Option<Stream>
         ensures none { IfNone result (¬ (IsMode number)) }
         ensures some { IfSome result (λ stream. IsMode number × ((encryption : List ℕ → List ℕ)
@@ -171,7 +171,7 @@ impl Stream {
     /// Encrypts or decrypts the bytes that come next in place, in the mode of the stream, which
     /// `mode` gave: any number of them. Pieces become what the whole becomes, wherever it is cut. A
     /// ciphertext has one plaintext, so that decryption undoes encryption.
-    pub fn apply<C: CbcEncrypt>(
+    pub fn apply<C: Feedback>(
         &mut self,
         direction: Direction,
         mode: Mode,

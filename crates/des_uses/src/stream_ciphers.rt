@@ -8,11 +8,11 @@ ghost use Rattle.des_modes.specs.Modes.{InMode, IsMode, mode_by};
 
 use des::cipher::are_bytes;
 use des_modes::stream::Stream;
-use des_modes::{CbcEncrypt, Direction};
+use des_modes::{Direction, Feedback};
 
 /// Encrypts a text that comes in two pieces, in the mode of a number: together they become what the text
 /// becomes as one. `false` if no mode has the number; nothing is changed then.
-pub fn encrypt_in_two_pieces<C: CbcEncrypt>(
+pub fn encrypt_in_two_pieces<C: Feedback>(
     cipher: &C,
     number: u32,
     iv: &[u8; 8],
@@ -35,7 +35,7 @@ pub fn encrypt_in_two_pieces<C: CbcEncrypt>(
 
 /// Encrypts a text in two pieces, the first of `count` bytes, and decrypts what they became as one: the
 /// text comes back. `false` if no mode has the number.
-pub fn text_again<C: CbcEncrypt>(
+pub fn text_again<C: Feedback>(
     cipher: &C,
     number: u32,
     iv: &[u8; 8],
@@ -67,7 +67,7 @@ pub fn text_again<C: CbcEncrypt>(
 
 /// Decrypts a part of what the counter mode made of a text, with no other part of it: `block` is the
 /// first counter block, and `blocks` blocks stand before the part.
-pub fn decrypt_part_of_ctr<C: CbcEncrypt>(cipher: &C, block: &[u8; 8], blocks: u64, part: &mut [u8])
+pub fn decrypt_part_of_ctr<C: Feedback>(cipher: &C, block: &[u8; 8], blocks: u64, part: &mut [u8])
     ensures { (before text encrypted : List ℕ) → length before ≡ 8 * blocks → AreBytes encrypted
         → Ctr (C.encrypted cipher.now) block.now before encrypted
         → Ctr (C.encrypted cipher.now) block.now (before ++ text) (encrypted ++ part.old)

@@ -1,4 +1,4 @@
-use Rattle.std.proofs.Common.{rules, ◌≡◌, ℕ, ◌+◌, ◌<◌, ◌≤◌, List, [], refl, length, get_or, set}
+use Rattle.std.proofs.Common.{rules, ◌≡◌, ℕ, ◌+◌, ◌<◌, ◌≤◌, List, [], ◌∙◌, refl, length, get_or, set, arith}
 use Rattle.des.specs.Cbc.{xor_blocks, block_at, block_before}
 use Rattle.des_fast.specs.SideBySide.{AreHalvesOf}
 use Rattle.des_fast.proofs.chained_halves.cbc_encrypt.Goals as goal
@@ -17,16 +17,18 @@ loop-block-preserved g c =
     let iv : List ℕ = c.args.iv.now in
     let blocks : List (List ℕ) = c.loop-block.blocks in
     let k : ℕ = c.loop-block.block-index in
-    let answer : List ℕ = c.encrypt_next-halves.new.block in
+    let answer : List ℕ = c.block_after.result in
     let f : List ℕ → List ℕ = g.A.BlockTransform.output c.args.passes.now in
     let previous : List ℕ = block_before iv blocks (k + 1) in
+    let one : 0 < g.G.Groups.BLOCKS = omega (arith, g.met.G.OneWord.is_one) in
+    let begins = c.xored-first_left.ensures.halves previous c.loop-block.invariant.halves in
     let made : answer ≡ f (xor_blocks (get_or blocks k []) previous) =
-    c.encrypt_next-halves.ensures.encrypted previous c.loop-block.invariant.halves in
+    c.block_after.ensures.block ∙ c.process_halves-left.ensures.output 0 one (xor_blocks (get_or blocks k []) previous) begins.first in
     let last : answer ≡ block_before iv (set blocks k answer) (k + 1 + 1) = search rules in
-    let halves : AreHalvesOf g.G.Groups.word (block_before iv (set blocks k answer) (k + 1 + 1)) c.encrypt_next-halves.result =
-    rw last at c.encrypt_next-halves.ensures.halves in record {
-      left = c.encrypt_next-halves.ensures.left;
-      right = c.encrypt_next-halves.ensures.right;
+    let halves : AreHalvesOf g.G.Groups.word (block_before iv (set blocks k answer) (k + 1 + 1)) _ =
+    rw last at c.block_after.ensures.halves in record {
+      left = c.process_halves-left.ensures.right;
+      right = c.process_halves-left.ensures.left;
       halves = halves;
       chained = chained-next f iv previous answer c.args.blocks.now blocks k (search rules) refl made (search rules)
           c.loop-block.invariant.chained;

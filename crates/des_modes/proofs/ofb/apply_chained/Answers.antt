@@ -10,15 +10,14 @@ returns-clause-goes g c direction iv = record {
       let E : List ℕ → List ℕ = g.C.BlockCipherEncrypt.encrypted c.args.cipher.now in
       let bytes : List ℕ = c.args.bytes.now in
       let n : ℕ = length d in
-      let q : List (List ℕ) = c.encrypt_cbc.new.blocks in
+      let q : List (List ℕ) = c.write_outputs.new.outputs in
       let k : ℕ = c.div_ceil.result in
-      let whole : n % 8 ≡ 0 = omega (arith, at.1, c.requires.between) in
       let few : k ≤ 256 = omega (arith, c.div_ceil.ensures, c.requires.few) in
-      let many : length q ≡ k = c.encrypt_cbc.ensures.count ∙ length-zero_blocks 256 k few in
+      let many : length q ≡ k = c.write_outputs.auto.outputs ∙ length-zero_blocks 256 k few in
+      let whole : n % 8 ≡ 0 = omega (arith, at.1, c.requires.between) in
       let last : ℕ = length q - 1 in
       let end : last + 1 + n / 8 ≡ (n + length bytes + 7) / 8 = omega (arith, c.div_ceil.ensures) in
-      let outputs = outputs-of_part E iv c.args.place.now.register n 256 k q few whole (omega arith) at.0
-      c.encrypt_cbc.ensures c.are_blocks.ensures in
+      let outputs = outputs-of_part E iv c.args.place.now.register n q whole at.0 c.write_outputs.ensures c.are_blocks.ensures in
       rw (length-behind direction d bytes _ c.xor_blocks_from.auto.bytes) (
         (outputs last (omega (arith, c.div_ceil.ensures)) ∙ ap (output_block E iv) end, omega arith),
         record {

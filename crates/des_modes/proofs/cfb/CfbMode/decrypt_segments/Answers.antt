@@ -1,6 +1,6 @@
 -- The input blocks stand in the register and the ciphertext behind it.
-use Rattle.std.proofs.Common.{◌≡◌, ℕ, ◌-◌, ◌/◌, ◌<◌, List, length, drop, ap, ◌∙◌, refl, arith, length-drop, length-take-le}
-use Rattle.std.proofs.lemmas.List.{take_all}
+use Rattle.std.proofs.Common.{◌≡◌, ℕ, ◌-◌, ◌/◌, ◌<◌, List, [], length, drop, ap, ◌∙◌, refl, arith, length-drop, length-take-le}
+use Rattle.std.proofs.lemmas.List.{get_or_default, take_all}
 use Rattle.des_modes.proofs.CfbPlaces.{goes-beyond}
 use Rattle.des_modes.proofs.cfb.CfbMode.decrypt_segments.Goals as goal
 
@@ -19,5 +19,5 @@ returns-clause-goes g c iv = record {
       ∙ ap (drop n) c.write_joined.ensures) refl
       (λ begun.
       let inside : n / c.args.self.now.segment < length blocks = rw many (c.count_of.ensures.last begun) in
-      (inside, c.block_at-place.ensures inside));
+      (inside, c.block_at-place.ensures ∙ get_or_default c.write_outputs.new.blocks _ _ [] inside));
 }

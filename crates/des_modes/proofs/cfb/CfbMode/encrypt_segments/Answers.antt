@@ -1,8 +1,9 @@
--- The input blocks stand in the register and the ciphertext behind it, as CBC makes their output blocks.
-use Rattle.std.proofs.Common.{◌≡◌, ℕ, ◌+◌, ◌-◌, ◌/◌, ◌%◌, ◌<◌, ◌≤◌, ◌++◌, List, length, drop, ap, sym, ◌∙◌, arith, length-drop, drop_at}
-use Rattle.std.proofs.lemmas.List.{take_all, drop-drop}
+-- The input blocks stand in the register and the ciphertext behind it.
+use Rattle.std.proofs.Common.{◌≡◌, ℕ, ◌+◌, ◌-◌, ◌/◌, ◌%◌, ◌<◌, ◌≤◌, ◌++◌, List, [], length, get_or, drop, ap, sym, ◌∙◌, arith, length-drop, drop_at}
+use Rattle.std.proofs.lemmas.List.{get_or_default, take_all, drop-drop}
+use Rattle.des.proofs.KeyParts.{get_or-first_chunks}
 use Rattle.des_modes.proofs.CfbPlaces.{goes-beyond}
-use Rattle.des_modes.proofs.ChainedOutputs.{length-zero_blocks, zeros-at, outputs-of_plaintext}
+use Rattle.des_modes.proofs.ChainedOutputs.{length-zero_blocks, outputs-of_plaintext}
 use Rattle.des_modes.proofs.cfb.CfbMode.encrypt_segments.Goals as goal
 
 pub returns-clause-goes : goal.returns-clause-goes
@@ -11,32 +12,33 @@ returns-clause-goes g c =
     let register : List ℕ = c.args.place.now.register in
     let old : List ℕ = c.args.bytes.now in
     let new : List ℕ = c.xor_blocks_from.new.bytes in
-    let q : List (List ℕ) = c.encrypt_cbc.new.blocks in
+    let q : List (List ℕ) = c.write_outputs.new.outputs in
     let k : ℕ = c.count_of.result in
     let same : length new ≡ length old = c.xor_blocks_from.auto.bytes in
     let some : 1 ≤ k = omega (arith, c.count_of.ensures.enough, c.requires.some) in
     let last = c.count_of.ensures.begun (k - 1) (omega (arith, some)) in
     let few : k ≤ 256 = omega (arith, last, c.requires.few) in
-    let many : length q ≡ k = omega (arith, length-zero_blocks 256 k few, c.encrypt_cbc.ensures.count) in
+    let many : length q ≡ k = c.write_outputs.auto.outputs ∙ length-zero_blocks 256 k few in
     let m : ℕ = length old - 8 in
     let split : length new ≡ 8 + m = omega (arith, same, c.requires.some) in
     let shifted : drop (length new) (register ++ new) ≡ drop m new =
     ap (λ (n : ℕ). drop n (register ++ new)) split
     ∙ sym (drop-drop m 8 (register ++ new))
     ∙ ap (drop m) (drop_at register new 8 (omega arith)) in
-    let outputs = outputs-of_plaintext E register old new _ q c.encrypt_cbc.ensures (omega arith) same
-    (omega (arith, many, c.encrypt_cbc.ensures.count, last)) (c.write_after_first.ensures.first ∙ zeros-at 256 k 0 some few)
-    (λ n below. c.write_after_first.ensures.others n (omega (arith, length-zero_blocks 256 k few, c.write_after_first.auto.blocks)))
+    let outputs = outputs-of_plaintext E register old new c.as_chunks.result.0.now q c.write_outputs.ensures (omega arith) same
+    (omega (arith, c.as_chunks.ensures.front_len)) (omega (arith, many, last))
+    (λ n below. ap (λ (blocks : List (List ℕ)). get_or blocks n []) c.as_chunks.ensures.front
+    ∙ get_or-first_chunks _ n old (omega (arith, c.as_chunks.ensures.front_len)))
     c.are_blocks.ensures (λ i below. c.xor_blocks_from.ensures i below) in
     rw c.requires.blocks (λ iv. record {
       goes = λ d is.
           goes-beyond 8 E iv d c.args.place.now (omega arith) (omega arith) is new old new q c.requires.between (sym same)
           (omega (arith, many, same, c.count_of.ensures.enough))
-          (λ j below. outputs j (omega (arith, c.encrypt_cbc.ensures.count)))
+          outputs
           (record { count = same; xored = λ i below. c.xor_blocks_from.ensures i below })
           (c.copy_from_slice.ensures.after ∙ take_all (length new - m) (drop m new) (omega (arith, length-drop m new)) ∙ sym shifted)
           (ap (λ (n : ℕ). n % 8) (sym same))
           (λ begun.
           let inside : length old / 8 < length q = rw many (c.count_of.ensures.last begun) in
-          rw same (inside, c.block_at-place.ensures inside));
+          rw same (inside, c.block_at-place.ensures ∙ get_or_default q _ _ [] inside));
     })

@@ -1,0 +1,37 @@
+use Rattle.std.proofs.Common.{rules, ℕ, ◌<◌, List, ◌∙◌, length, arith}
+use Rattle.des_fast.specs.Feedback.{register_before}
+use Rattle.des_fast.specs.SideBySide.{AreHalvesOf}
+use Rattle.des_fast.proofs.OutputBlocks.{outputs-next, register-next, register-behind}
+use Rattle.des_fast.proofs.chained_halves.write_outputs.Goals as goal
+use Rattle.des_fast.proofs.chained_halves.write_outputs.Goals.{in-Some, in-None}
+
+pub loop-j-preserved : goal.loop-j-preserved
+loop-j-preserved g c =
+    let iv : List ℕ = c.args.iv.now in
+    let p : List (List ℕ) = c.args.plaintext.now in
+    let o : List (List ℕ) = c.loop-j.outputs in
+    let j : ℕ = c.loop-j.j in
+    let answer : List ℕ = c.block_after.result in
+    let one : 0 < g.G.Groups.BLOCKS = omega (arith, g.met.G.OneWord.is_one) in
+    let within : j < length o = search rules in
+    let own : AreHalvesOf g.G.Groups.word answer _ = c.block_after.ensures.halves in
+    let written = outputs-next (g.A.BlockTransform.output c.args.passes.now) iv answer p o j within
+    (c.block_after.ensures.block
+    ∙ c.process_halves-left.ensures.output 0 one (register_before iv p o j) c.loop-j.invariant.halves.first)
+    c.loop-j.invariant.written in
+    elim c.match-get.branch [
+      | in-Some w ↦
+          let is = w.halves-is in record {
+            left = rw is w.xored-halves.ensures.left;
+            right = rw is w.xored-halves.ensures.right;
+            halves = rw (is, register-next iv answer w.in-Some.block.now p o j within (search rules) (search rules)) (w.xored-halves.ensures.halves answer own);
+            written = written;
+          }
+      | in-None w ↦
+          let is = w.halves-is in record {
+            left = rw is c.process_halves-left.ensures.right;
+            right = rw is c.process_halves-left.ensures.left;
+            halves = rw (is, register-behind iv answer p o j within (search rules) own.count) own;
+            written = written;
+          }
+    ]
