@@ -68,9 +68,9 @@ block_bit-at (byte ∷ bytes) (suc j) r i same within below =
     get_or-append_right (bits_of 8 byte) (bits_of_bytes bytes) 8 i false (length-bits_of 8 byte) (omega arith)
     ∙ block_bit-at bytes j r (i - 8) (omega arith) (omega arith) below
 
-pub block_bit-of_byte : (bytes : List ℕ) (i : ℕ) → i < 8 * length bytes
+pub block_bit_of_byte : (bytes : List ℕ) (i : ℕ) → i < 8 * length bytes
     → block_bit bytes i ≡ (bit_at (get_or bytes (i / 8) 0) (7 - i % 8) == 1)
-block_bit-of_byte bytes i within = block_bit-at bytes (i / 8) (i % 8) i (omega arith) (omega arith) (omega arith)
+block_bit_of_byte bytes i within = block_bit-at bytes (i / 8) (i % 8) i (omega arith) (omega arith) (omega arith)
 
 -- ---- a bit that is changed
 
@@ -87,10 +87,10 @@ xor-none : (bit : Bool) → xor bit false ≡ bit
 xor-none true = refl
 xor-none false = refl
 
-pub bits-xored : (bytes : List ℕ) (place : ℕ) (bit : Bool) → place < 8 * length bytes
+pub bits_xored : (bytes : List ℕ) (place : ℕ) (bit : Bool) → place < 8 * length bytes
     → bits_of_bytes (set bytes (place / 8) (bit_xor (get_or bytes (place / 8) 0) (bool_byte bit * 2 ^ (7 - place % 8) % 256)))
     ≡ set (bits_of_bytes bytes) place (xor (block_bit bytes place) bit)
-bits-xored bytes place bit within =
+bits_xored bytes place bit within =
     let j : ℕ = place / 8 in
     let a : ℕ = 7 - place % 8 in
     let mask : ℕ = bool_byte bit * 2 ^ a % 256 in
@@ -103,8 +103,8 @@ bits-xored bytes place bit within =
     (omega (arith, length-bits_of_bytes (set bytes j byte), length-bits_of_bytes bytes, length-set bits place y)) (λ i below.
     let inside : i < 8 * length bytes = omega (arith, length-bits_of_bytes (set bytes j byte)) in
     let k : ℕ = 7 - i % 8 in
-    let now = block_bit-of_byte (set bytes j byte) i (omega arith) in
-    let was = block_bit-of_byte bytes i inside in
+    let now = block_bit_of_byte (set bytes j byte) i (omega arith) in
+    let was = block_bit_of_byte bytes i inside in
     let xored : i / 8 ≡ j → block_bit (set bytes j byte) i ≡ xor (block_bit bytes i) (bit_at mask k == 1) = λ here.
     rw (now, was, here, get_or-set_same bytes j byte 0 (omega arith)) (bit_at-xor (get_or bytes j 0) mask k) in
     elim (cases_eq i place) [
@@ -128,10 +128,10 @@ unfolding bits_of
 last_bit true = refl
 last_bit false = refl
 
-pub bits-shifted : (register : List ℕ) (bit : Bool) → IsBlock register
+pub bits_shifted : (register : List ℕ) (bit : Bool) → IsBlock register
     → bits_of_bytes (to_be_bytes w64 (bit_or (from_be_bytes w64 register * 2 ^ 1 % 2 ^ 64) (bool_byte bit)))
     ≡ drop 1 (bits_of_bytes register ++ bit ∷ [])
-bits-shifted register bit is_block =
+bits_shifted register bit is_block =
     let word : ℕ = from_be_bytes w64 register in
     let small : bool_byte bit < 2 ^ 1 = grind (arith, nat_tests) in
     bits_of_bytes-to_be (bit_or (word * 2 ^ 1 % 2 ^ 64) (bool_byte bit))

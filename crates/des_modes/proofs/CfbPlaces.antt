@@ -41,11 +41,11 @@ window-front {X} w n iv c more wide begun =
 length-iv : (iv c register : List ℕ) → length register ≡ 8 → register ≡ drop (length c) (iv ++ c) → length iv ≡ 8
 length-iv iv c register wide is = omega (arith, ap length is, length-drop (length c) (iv ++ c), length-append iv c)
 
-pub cfb_stream-front : (s : ℕ) (E : List ℕ → List ℕ) (iv c register : List ℕ) → length register ≡ 8
-    → register ≡ drop (length c) (iv ++ c) → GoesByFront (cfb_stream s E iv)
-cfb_stream-front s E iv c register wide is t more i below =
+pub cfb_stream-front : {s : ℕ} {E : List ℕ → List ℕ} {iv c register output : List ℕ} {used : ℕ}
+    → IsAtSegment s E iv c register output used → length register ≡ 8 → GoesByFront (cfb_stream s E iv)
+cfb_stream-front {s} {E} {iv} {c} {register} is wide t more i below =
     ap (λ (block : List ℕ). get_or (E block) (i % s) 0)
-    (window-front 8 (s * (i / s)) iv t more (length-iv iv c register wide is) (omega (arith, mul-div-le i s)))
+    (window-front 8 (s * (i / s)) iv t more (length-iv iv c register wide is.register) (omega (arith, mul-div-le i s)))
 
 module _ (s : ℕ) (E : List ℕ → List ℕ) (iv c : List ℕ) (place : Place) (wide : length place.register ≡ 8) (some : 1 ≤ s)
     (is : IsAtSegment s E iv c place.register place.output place.used) where

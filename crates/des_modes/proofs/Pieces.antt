@@ -183,13 +183,16 @@ module _ {S X : Type 0} {op : X → X → X} {d : X} {At : List X → S → Type
         );
   }
 
--- what goes on from a text makes the whole
-pub Xors-whole : {X : Type 0} {op : X → X → X} {d : X} {k : List X → ℕ → X} {p c more answers : List X} → GoesByFront k
-    → Xors op d 0 (k c) p c → Xors op d (length c) (k (c ++ answers)) more answers
-    → Xors op d 0 (k (c ++ answers)) (p ++ more) (c ++ answers)
-Xors-whole {X} {op} {d} {k} {p} {c} {more} {answers} front begun made =
-    Xors-append 0 (length c) (k (c ++ answers)) p c more answers (omega (arith, begun.count))
-    (Xors-other 0 (k c) (k (c ++ answers)) p c (λ i below. sym (front c answers (0 + i) (omega (arith, begun.count)))) begun) made
+  -- what goes on from a text makes the whole
+  pub GoesOn-whole : (direction : Direction) {before after : S} {old now : List X} → UndoesItself op
+      → ((t : List X) → At t before → GoesByFront k) → GoesOn op d At k direction before after old now
+      → (p c : List X) → At c before → Xors op d 0 (k c) p c
+      → Xors op d 0 (k (c ++ ciphertext direction old now)) (p ++ plaintext direction old now) (c ++ ciphertext direction old now)
+  GoesOn-whole direction {old = old} {now = now} undone front goes p c at begun =
+      let all : List X = c ++ ciphertext direction old now in
+      Xors-append 0 (length c) (k all) p c _ _ (omega (arith, begun.count))
+      (Xors-other 0 (k c) (k all) p c (λ i below. sym (front c at c _ (0 + i) (omega (arith, begun.count)))) begun)
+      (Xors-directed direction _ _ _ _ undone (goes.goes c at).1)
 
 -- ---- key streams that do not depend on the texts
 

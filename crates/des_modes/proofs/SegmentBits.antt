@@ -10,7 +10,7 @@ use Rattle.std.specs.Int.{bit_at}
 use Rattle.des.specs.Bits.{bits_of_bytes}
 use Rattle.des.specs.Laws.BitLists.{length-bits_of_bytes}
 use Rattle.des.proofs.BitParts.{bit_at-xor}
-use Rattle.des_modes.proofs.BitPlaces.{bits-window, block_bit-at, block_bit-of_byte}
+use Rattle.des_modes.proofs.BitPlaces.{bits-window, block_bit-at, block_bit_of_byte}
 
 -- the registers are blocks
 pub IsBlock-input_block : (s : ℕ) (iv c : List ℕ) (j : ℕ) → IsBlock iv → AreBytes c → s * j ≤ length c
@@ -51,7 +51,7 @@ CfbBits-from_Cfb s E iv p c some short is_iv are_bytes makes_blocks cfb = record
       let stream : cfb_bits (8 * s) E iv (bits_of_bytes c) (0 + i) ≡ (bit_at (get_or output (b % s) 0) k == 1) =
       rw (here, ← div-div-eq-div-mul i 8 s, place_of_bit s i some, input_bits-bits s iv c (b / s) is_iv are_bytes begun)
       (block_bit-at output (b % s) (i % 8) _ refl (omega (arith, is_block.0, mod-lt b some)) (omega arith)) in
-      let block = block_bit-of_byte c i (omega (arith, length-bits_of_bytes p, cfb.count)) in
-      rw (stream, block, block_bit-of_byte p i (omega (arith, length-bits_of_bytes p)), cfb.xored b inside, byte)
+      let block = block_bit_of_byte c i (omega (arith, length-bits_of_bytes p, cfb.count)) in
+      rw (stream, block, block_bit_of_byte p i (omega (arith, length-bits_of_bytes p)), cfb.xored b inside, byte)
       (bit_at-xor (get_or p b 0) (get_or output (b % s) 0) k);
 }

@@ -12,6 +12,7 @@ use crate::direction::Direction;
 use des::cipher::{BlockCipherEncrypt, are_bytes};
 
 // The bit at a place.
+#[tactic(auto, using(crate::proofs::BitPlaces::block_bit_of_byte))]
 fn bit_at(bytes: &[u8], place: u128) -> bool
     requires { place < 8 * length bytes.now }
     ensures { result ≡ block_bit bytes.now place }
@@ -20,6 +21,7 @@ fn bit_at(bytes: &[u8], place: u128) -> bool
 }
 
 // The bit at a place becomes its xor with another.
+#[tactic(auto, using(crate::proofs::BitPlaces::bits_xored))]
 fn xor_bit(bytes: &mut [u8], place: u128, bit: bool)
     requires { place < 8 * length bytes.old }
     ensures { bits_of_bytes bytes.new
@@ -41,6 +43,7 @@ fn key_bit<C: BlockCipherEncrypt>(register: &[u8; 8], cipher: &C) -> bool
 }
 
 // Shifts a bit of the ciphertext into the register from the right.
+#[tactic(auto, using(crate::proofs::BitPlaces::bits_shifted))]
 fn advance(register: &mut [u8; 8], bit: bool)
     ensures { bits_of_bytes register.new ≡ drop 1 (bits_of_bytes register.old ++ bit ∷ []) }
 {

@@ -5,7 +5,7 @@ use Rattle.des.specs.Bits.{bits_of_bytes, xor}
 use Rattle.des.specs.Laws.BitLists.{length-bits_of_bytes}
 use Rattle.des_modes.specs.Cfb.{first_bits}
 use Rattle.des_modes.specs.Directions.{ciphertext}
-use Rattle.des_modes.proofs.Pieces.{GoesOn-none, GoesOn-joined, texts-map, InPlace-set, Xors-directed, Xors-whole, bits_undone}
+use Rattle.des_modes.proofs.Pieces.{GoesOn-none, GoesOn-joined, texts-map, GoesOn-whole, InPlace-set, bits_undone}
 use Rattle.des_modes.proofs.CfbPlaces.{GoesOn-bit, cfb_bits-front}
 use Rattle.des_modes.proofs.cfb_bits.apply.Goals as goal
 
@@ -33,9 +33,7 @@ returns g c =
     let texts = texts-map (first_bits c.args.bits) c.args.direction c.args.bytes.now c.bits.bytes in
     record {
       after = λ iv d is. rw texts.1 ((so_far iv).done.goes d is).0;
-      made = λ iv p d is begun.
-          rw (texts.0, texts.1)
-          (Xors-whole (cfb_bits-front E iv d c.args.register.now (omega arith) is) begun
-          (Xors-directed c.args.direction _ _ _ _ bits_undone ((so_far iv).done.goes d is).1));
+      made = λ iv. rw (texts.0, texts.1)
+          (GoesOn-whole c.args.direction bits_undone (λ t. cfb_bits-front E iv t c.args.register.now (omega arith)) (so_far iv).done);
       rest = (so_far []).rest;
     }

@@ -1,9 +1,9 @@
-use Rattle.std.proofs.Common.{length, arith}
+use Rattle.std.proofs.Common.{refl, arith}
 use Rattle.des.specs.Bits.{bits_of_bytes}
 use Rattle.des_modes.specs.Directions.{plaintext, ciphertext}
 use Rattle.des_modes.proofs.BitPlaces.{bits-append, first_bits-all}
 use Rattle.des_modes.proofs.CfbPlaces.{cfb_stream-front}
-use Rattle.des_modes.proofs.Pieces.{Xors-append, Xors-directed, Xors-whole, bytes_undone}
+use Rattle.des_modes.proofs.Pieces.{GoesOn-whole, bytes_undone}
 use Rattle.des_modes.proofs.stream.apply_in.Goals as goal
 
 pub returns-in-Counter-clause-after : goal.returns-in-Counter-clause-after
@@ -11,9 +11,7 @@ returns-in-Counter-clause-after g c = rw c.in-Counter.is (λ iv d at. ((c.apply_
 
 pub returns-in-Counter-clause-made : goal.returns-in-Counter-clause-made
 returns-in-Counter-clause-made g c =
-    rw c.in-Counter.is (λ iv p d at made.
-    Xors-append 0 (length d) _ p d _ _ (omega (arith, made.count)) made
-    (Xors-directed c.args.direction _ _ _ _ bytes_undone ((c.apply_parts.ensures.goes iv).goes d at).1))
+    rw c.in-Counter.is (λ iv. GoesOn-whole c.args.direction bytes_undone (λ t at d more i below. refl) (c.apply_parts.ensures.goes iv))
 
 pub returns-in-OutputFeedback-clause-after : goal.returns-in-OutputFeedback-clause-after
 returns-in-OutputFeedback-clause-after g c =
@@ -21,9 +19,8 @@ returns-in-OutputFeedback-clause-after g c =
 
 pub returns-in-OutputFeedback-clause-made : goal.returns-in-OutputFeedback-clause-made
 returns-in-OutputFeedback-clause-made g c =
-    rw c.in-OutputFeedback.is (λ iv p d at made.
-    Xors-append 0 (length d) _ p d _ _ (omega (arith, made.count)) made
-    (Xors-directed c.args.direction _ _ _ _ bytes_undone ((c.apply_parts-in-OutputFeedback.ensures.goes iv).goes d at).1))
+    rw c.in-OutputFeedback.is (λ iv.
+    GoesOn-whole c.args.direction bytes_undone (λ t at d more i below. refl) (c.apply_parts-in-OutputFeedback.ensures.goes iv))
 
 pub returns-in-CipherFeedback-clause-after : goal.returns-in-CipherFeedback-clause-after
 returns-in-CipherFeedback-clause-after g c =
@@ -31,10 +28,8 @@ returns-in-CipherFeedback-clause-after g c =
 
 pub returns-in-CipherFeedback-clause-made : goal.returns-in-CipherFeedback-clause-made
 returns-in-CipherFeedback-clause-made g c =
-    rw c.in-CipherFeedback.is (λ iv p d at begun.
-    Xors-whole
-    (cfb_stream-front c.in-CipherFeedback.segment (g.C.BlockCipherEncrypt.encrypted c.args.cipher.now) iv d c.args.place.now.register (omega arith) at.register) begun
-    (Xors-directed c.args.direction _ _ _ _ bytes_undone ((c.apply_parts-in-CipherFeedback.ensures.goes iv).goes d at).1))
+    rw c.in-CipherFeedback.is (λ iv. GoesOn-whole c.args.direction bytes_undone
+    (λ t at. cfb_stream-front at (omega arith)) (c.apply_parts-in-CipherFeedback.ensures.goes iv))
 
 pub returns-in-BitFeedback-clause-after_bits : goal.returns-in-BitFeedback-clause-after_bits
 returns-in-BitFeedback-clause-after_bits g c same iv d at unused = (
@@ -55,8 +50,9 @@ returns-in-BitFeedback-clause-after g c =
 
 pub returns-in-BitFeedback-clause-made : goal.returns-in-BitFeedback-clause-made
 returns-in-BitFeedback-clause-made g c =
-    let old = c.args.bytes.now in
-    let new = c.apply.new.bytes in
     rw c.in-BitFeedback.is (λ iv p d at made.
-    rw (bits-append p (plaintext c.args.direction old new), bits-append d (ciphertext c.args.direction old new))
+    rw (
+      bits-append p (plaintext c.args.direction c.args.bytes.now c.apply.new.bytes),
+      bits-append d (ciphertext c.args.direction c.args.bytes.now c.apply.new.bytes),
+    )
     (returns-in-BitFeedback-clause-made_bits g c c.in-BitFeedback.is iv (bits_of_bytes p) (bits_of_bytes d) at.0 at.1 made))

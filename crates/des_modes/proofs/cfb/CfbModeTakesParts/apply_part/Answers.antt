@@ -6,16 +6,13 @@ pub returns-in-Encrypt-clause-goes : goal.returns-in-Encrypt-clause-goes
 returns-in-Encrypt-clause-goes g c = rw c.in-Encrypt.is c.encrypt_segments.ensures.goes
 
 pub returns-in-Encrypt-clause-front : goal.returns-in-Encrypt-clause-front
-returns-in-Encrypt-clause-front g c iv d is =
-    cfb_stream-front c.args.self.now.segment (g.C.BlockCipherEncrypt.encrypted c.args.cipher.now) iv d c.args.place.now.register (omega arith) is.register
+returns-in-Encrypt-clause-front g c iv d is = cfb_stream-front is (omega arith)
 
 pub returns-in-Decrypt-clause-goes : goal.returns-in-Decrypt-clause-goes
 returns-in-Decrypt-clause-goes g c = rw c.in-Decrypt.is c.decrypt_segments.ensures.goes
 
 pub returns-in-Decrypt-clause-front : goal.returns-in-Decrypt-clause-front
-returns-in-Decrypt-clause-front g c iv d is =
-    cfb_stream-front c.args.self.now.segment (g.C.BlockCipherEncrypt.encrypted c.args.cipher.now) iv d c.args.place.now.register (omega arith) is.register
+returns-in-Decrypt-clause-front g c iv d is = cfb_stream-front is (omega arith)
 
 pub returns-in_default-clause-front : goal.returns-in_default-clause-front
-returns-in_default-clause-front g c iv d is =
-    cfb_stream-front c.args.self.now.segment (g.C.BlockCipherEncrypt.encrypted c.args.cipher.now) iv d c.args.place.now.register (omega arith) is.register
+returns-in_default-clause-front g c iv d is = cfb_stream-front is (omega arith)
