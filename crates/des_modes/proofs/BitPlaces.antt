@@ -11,7 +11,7 @@ use mir.Val.{bool_byte}
 use Rattle.des.specs.Bits.{bits_of, bits_of_bytes, xor}
 use Rattle.des.specs.Blocks.{IsBlock}
 use Rattle.des.specs.Laws.BitLists.{length-bits_of, length-bits_of_bytes, bits_of_bytes-to_be, bits_of_bytes-from_be}
-use Rattle.des.specs.Laws.BlockBits.{slice_index-lt}
+use Rattle.des.specs.Laws.BlockBits.{block_of_bits-bits_of_bytes, slice_index-lt}
 use Rattle.des.proofs.BitParts.{get_or-bits_of, bit_at-xor, drop-bits_of, bits_of-or_shl}
 use Rattle.des_modes.specs.Cfb.{block_bit, first_bits}
 use Rattle.des_modes.specs.Directions.{plaintext, ciphertext}
@@ -71,6 +71,8 @@ block_bit-at (byte ∷ bytes) (suc j) r i same within below =
 pub block_bit_of_byte : (bytes : List ℕ) (i : ℕ) → i < 8 * length bytes
     → block_bit bytes i ≡ (bit_at (get_or bytes (i / 8) 0) (7 - i % 8) == 1)
 block_bit_of_byte bytes i within = block_bit-at bytes (i / 8) (i % 8) i (omega arith) (omega arith) (omega arith)
+
+pub ruleset bits_of_a_block = (block_of_bits-bits_of_bytes)
 
 -- ---- a bit that is changed
 

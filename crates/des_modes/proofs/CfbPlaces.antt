@@ -6,7 +6,6 @@ use Rattle.std.proofs.Math.Nat.{mul-div-le, mul-add, mul-add-div, mod-add-mod, d
 use Rattle.des_modes.specs.Streams.{GoesOn, Xors}
 use Rattle.des_modes.specs.Cfb.{block_bit, cfb_bits, cfb_stream, input_block}
 use Rattle.des_modes.specs.States.{HoldsLastBits, IsAtSegment}
-use Rattle.des_modes.specs.declared.place.Place.{Place}
 use Rattle.des_modes.proofs.Pieces.{GoesByFront, Xors-single, texts-map}
 use Rattle.des.specs.Bits.{bits_of_bytes, xor}
 use Rattle.des.specs.Blocks.{block_of_bits}
@@ -47,92 +46,92 @@ cfb_stream-front {s} {E} {iv} {c} {register} is wide t more i below =
     ap (λ (block : List ℕ). get_or (E block) (i % s) 0)
     (window-front 8 (s * (i / s)) iv t more (length-iv iv c register wide is.register) (omega (arith, mul-div-le i s)))
 
-module _ (s : ℕ) (E : List ℕ → List ℕ) (iv c : List ℕ) (place : Place) (wide : length place.register ≡ 8) (some : 1 ≤ s)
-    (is : IsAtSegment s E iv c place.register place.output place.used) where
+module _ {s : ℕ} {E : List ℕ → List ℕ} {iv c register output : List ℕ} {used : ℕ}
+    (is : IsAtSegment s E iv c register output used) (wide : length register ≡ 8) (some : 1 ≤ s) where
   -- the output block of the segment does not depend on what comes
   same_block : (more : List ℕ) → E (input_block s iv c (length c / s)) ≡ E (input_block s iv (c ++ more) (length c / s))
-  same_block more = ap E (sym (window-front 8 (s * (length c / s)) iv c more (length-iv iv c place.register wide is.register) (mul-div-le (length c) s)))
+  same_block more = ap E (sym (window-front 8 (s * (length c / s)) iv c more (length-iv iv c register wide is.register) (mul-div-le (length c) s)))
 
   -- between segments the register is the input block of the next
-  between : place.used ≡ 0 → length c ≡ s * (length c / s)
+  between : used ≡ 0 → length c ≡ s * (length c / s)
   between unused = omega (arith, is.used, div-add-mod (length c) s)
 
-  pub input_block-next : place.used ≡ 0 → place.register ≡ input_block s iv c (length c / s)
-  input_block-next unused = rw (← between unused, ← is.register) (sym (take_all 8 place.register (omega arith)))
+  pub input_block-next : used ≡ 0 → register ≡ input_block s iv c (length c / s)
+  input_block-next unused = rw (← between unused, ← is.register) (sym (take_all 8 register (omega arith)))
 
   -- so is the one before a segment of what comes
-  input_block-beyond : (bytes : List ℕ) (j : ℕ) → place.used ≡ 0
-      → take 8 (drop (s * j) (place.register ++ bytes)) ≡ input_block s iv (c ++ bytes) (length c / s + j)
+  input_block-beyond : (bytes : List ℕ) (j : ℕ) → used ≡ 0
+      → take 8 (drop (s * j) (register ++ bytes)) ≡ input_block s iv (c ++ bytes) (length c / s + j)
   input_block-beyond bytes j unused =
       let at : length c + s * j ≡ s * (length c / s + j) = omega (arith, between unused, mul-add s (length c / s) j) in
       rw (is.register, ← drop-further iv c bytes (length c) (s * j) (omega (arith, length-append iv c)), at) refl
 
   -- i bytes further on
-  segment_at : (i : ℕ) → length c / s + (place.used + i) / s ≡ (length c + i) / s
+  segment_at : (i : ℕ) → length c / s + (used + i) / s ≡ (length c + i) / s
   segment_at i =
-      rw (← mul-add-div some (length c / s) (place.used + i))
+      rw (← mul-add-div some (length c / s) (used + i))
       (ap (λ (m : ℕ). m / s) (omega (arith, is.used, div-add-mod (length c) s)))
 
-  place_at : (i : ℕ) → (place.used + i) % s ≡ (length c + i) % s
+  place_at : (i : ℕ) → (used + i) % s ≡ (length c + i) % s
   place_at i = ap (λ (m : ℕ). (m + i) % s) is.used ∙ mod-add-mod (length c) s i
 
-  IsAtSegment-further : {register output : List ℕ} {used : ℕ} (bytes : List ℕ)
-      → register ≡ drop (length bytes) (place.register ++ bytes) → used ≡ (place.used + length bytes) % s
-      → (1 ≤ used → output ≡ E (input_block s iv (c ++ bytes) ((length c + length bytes) / s)))
-      → IsAtSegment s E iv (c ++ bytes) register output used
-  IsAtSegment-further bytes shifted taken made = record {
-    register = register-further iv c bytes place.register _ is.register shifted;
-    used = rw (length-append c bytes) (taken ∙ place_at (length bytes));
+  IsAtSegment-further : {new block : List ℕ} {taken : ℕ} (bytes : List ℕ)
+      → new ≡ drop (length bytes) (register ++ bytes) → taken ≡ (used + length bytes) % s
+      → (1 ≤ taken → block ≡ E (input_block s iv (c ++ bytes) ((length c + length bytes) / s)))
+      → IsAtSegment s E iv (c ++ bytes) new block taken
+  IsAtSegment-further bytes shifted of made = record {
+    register = register-further iv c bytes register _ is.register shifted;
+    used = rw (length-append c bytes) (of ∙ place_at (length bytes));
     output = rw (length-append c bytes) made;
   }
 
   -- in a segment
-  pub IsAtSegment-within : {register output : List ℕ} {used : ℕ} (bytes : List ℕ)
-      → output ≡ E (input_block s iv c (length c / s)) → register ≡ drop (length bytes) (place.register ++ bytes)
-      → used ≡ (place.used + length bytes) % s → (1 ≤ used → place.used + length bytes < s)
-      → IsAtSegment s E iv (c ++ bytes) register output used
-  IsAtSegment-within bytes made shifted taken inside =
-      IsAtSegment-further bytes shifted taken (λ more.
+  pub IsAtSegment-within : {new block : List ℕ} {taken : ℕ} (bytes : List ℕ)
+      → block ≡ E (input_block s iv c (length c / s)) → new ≡ drop (length bytes) (register ++ bytes)
+      → taken ≡ (used + length bytes) % s → (1 ≤ taken → used + length bytes < s)
+      → IsAtSegment s E iv (c ++ bytes) new block taken
+  IsAtSegment-within bytes made shifted of inside =
+      IsAtSegment-further bytes shifted of (λ more.
       let here : length c / s ≡ (length c + length bytes) / s = omega (arith, segment_at (length bytes), div-eq_of_lt (inside more)) in
       rw (← here) (made ∙ same_block bytes))
 
-  pub Xors-within : (more output old new : List ℕ) → place.used + length old ≤ s
-      → output ≡ E (input_block s iv c (length c / s)) → length new ≡ length old
-      → ((i : ℕ) → i < length old → get_or new i 0 ≡ bit_xor (get_or old i 0) (get_or output (place.used + i) 0))
+  pub Xors-within : {block : List ℕ} (more old new : List ℕ) → block ≡ E (input_block s iv c (length c / s))
+      → used + length old ≤ s → length new ≡ length old
+      → ((i : ℕ) → i < length old → get_or new i 0 ≡ bit_xor (get_or old i 0) (get_or block (used + i) 0))
       → Xors bit_xor 0 (length c) (cfb_stream s E iv (c ++ more)) old new
-  Xors-within more output old new within made same xored = record {
+  Xors-within more old new made within same xored = record {
     count = same;
     xored = λ i below.
-        let inside : place.used + i < s = omega arith in
-        let split : length c + i ≡ length c / s * s + (place.used + i) = omega (arith, is.used, div-add-mod' (length c) s) in
-        let at = div-mul-add (length c / s) s (place.used + i) inside in
-        rw (split, at, mod-mul-add (length c / s) s (place.used + i) inside, ← same_block more, ← made) (xored i below);
+        let inside : used + i < s = omega arith in
+        let split : length c + i ≡ length c / s * s + (used + i) = omega (arith, is.used, div-add-mod' (length c) s) in
+        let at = div-mul-add (length c / s) s (used + i) inside in
+        rw (split, at, mod-mul-add (length c / s) s (used + i) inside, ← same_block more, ← made) (xored i below);
   }
 
   -- from the beginning of a segment on, by output blocks of the register and the ciphertext `bytes`
-  pub goes-beyond : {register output : List ℕ} {used : ℕ} (bytes old new : List ℕ) (blocks : List (List ℕ)) → place.used ≡ 0
+  pub goes-beyond : {after block : List ℕ} {taken : ℕ} (bytes old new : List ℕ) (blocks : List (List ℕ)) → used ≡ 0
       → length old ≡ length bytes → length bytes ≤ s * length blocks
-      → ((j : ℕ) → j < length blocks → get_or blocks j [] ≡ E (take 8 (drop (s * j) (place.register ++ bytes))))
+      → ((j : ℕ) → j < length blocks → get_or blocks j [] ≡ E (take 8 (drop (s * j) (register ++ bytes))))
       → Xors bit_xor 0 0 (λ i. get_or (get_or blocks (i / s) []) (i % s) 0) old new
-      → register ≡ drop (length bytes) (place.register ++ bytes) → used ≡ length bytes % s
-      → (1 ≤ used → (length bytes / s < length blocks) × (output ≡ get_or blocks (length bytes / s) []))
-      → IsAtSegment s E iv (c ++ bytes) register output used × Xors bit_xor 0 (length c) (cfb_stream s E iv (c ++ bytes)) old new
-  goes-beyond bytes old new blocks unused same enough made xors shifted taken last =
-      let end : length bytes ≡ place.used + length bytes = omega arith in
+      → after ≡ drop (length bytes) (register ++ bytes) → taken ≡ length bytes % s
+      → (1 ≤ taken → (length bytes / s < length blocks) × (block ≡ get_or blocks (length bytes / s) []))
+      → IsAtSegment s E iv (c ++ bytes) after block taken × Xors bit_xor 0 (length c) (cfb_stream s E iv (c ++ bytes)) old new
+  goes-beyond bytes old new blocks unused same enough made xors shifted of last =
+      let end : length bytes ≡ used + length bytes = omega arith in
       let output_at = λ (j : ℕ) (inside : j < length blocks). made j inside ∙ ap E (input_block-beyond bytes j unused) in (
-        IsAtSegment-further bytes shifted (taken ∙ ap (λ (m : ℕ). m % s) end) (λ more.
+        IsAtSegment-further bytes shifted (of ∙ ap (λ (m : ℕ). m % s) end) (λ more.
             (last more).1 ∙ output_at (length bytes / s) (last more).0
             ∙ ap (λ (m : ℕ). E (input_block s iv (c ++ bytes) m))
             (ap (λ (m : ℕ). length c / s + m / s) end ∙ segment_at (length bytes))),
         record {
           count = xors.count;
           xored = λ i below.
-              let at : 0 + i ≡ place.used + i = omega arith in
-              let j : ℕ = (place.used + i) / s in
+              let at : 0 + i ≡ used + i = omega arith in
+              let j : ℕ = (used + i) / s in
               xors.xored i below
               ∙ ap (λ (m : ℕ). bit_xor (get_or old i 0) (get_or (get_or blocks (m / s) []) (m % s) 0)) at
               ∙ ap₂ (λ (block : List ℕ) (n : ℕ). bit_xor (get_or old i 0) (get_or block n 0))
-              (output_at j (div_below (place.used + i) s (length blocks) some (omega arith))
+              (output_at j (div_below (used + i) s (length blocks) some (omega arith))
               ∙ ap (λ (n : ℕ). E (input_block s iv (c ++ bytes) n)) (segment_at i)) (place_at i);
         },
       )

@@ -40,9 +40,8 @@ All-reverse P xs all = grind (arith, get_or-reverse, length-reverse)
 
 All-reversed : (iv : List ℕ) (blocks : List (List ℕ)) → IsBlock iv → All IsBlock blocks → All IsBlock (reversed (iv ∷ blocks))
 All-reversed iv blocks is are =
-    let turned : All IsBlock (reverse (iv ∷ blocks)) = All-reverse IsBlock (iv ∷ blocks) (All-cons IsBlock iv blocks is are) in
     All-map IsBlock reverse (reverse (iv ∷ blocks)) (λ i d within.
-    let it : IsBlock (get_or (reverse (iv ∷ blocks)) i d) = turned i d within in
+    let it = All-reverse IsBlock (iv ∷ blocks) (All-cons IsBlock iv blocks is are) i d within in
     (length-reverse _ ∙ it.0, All-reverse (λ byte. byte < 256) _ it.1))
 
 -- ---- what was enclosed

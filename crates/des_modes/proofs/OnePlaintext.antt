@@ -17,10 +17,14 @@ bytes_of_bits [] [] are_a are_b same = refl
 bytes_of_bits [] (y ∷ b) are_a are_b same = absurd (omega (arith, ap length same, length-append (bits_of 8 y) (bits_of_bytes b), length-bits_of 8 y))
 bytes_of_bits (x ∷ a) [] are_a are_b same = absurd (omega (arith, ap length same, length-append (bits_of 8 x) (bits_of_bytes a), length-bits_of 8 x))
 bytes_of_bits (x ∷ a) (y ∷ b) are_a are_b same =
-    let first = rw (take_at (bits_of 8 x) (bits_of_bytes a) 8 (length-bits_of 8 x), take_at (bits_of 8 y) (bits_of_bytes b) 8 (length-bits_of 8 y)) at (ap (take 8) same) in
-    let rest = rw (drop_at (bits_of 8 x) (bits_of_bytes a) 8 (length-bits_of 8 x), drop_at (bits_of 8 y) (bits_of_bytes b) 8 (length-bits_of 8 y)) at (ap (drop 8) same) in
+    let same_byte : bits_of 8 x ≡ bits_of 8 y = cc (
+      ap (take 8) same,
+      take_at (bits_of 8 x) (bits_of_bytes a) 8 (length-bits_of 8 x),
+      take_at (bits_of 8 y) (bits_of_bytes b) 8 (length-bits_of 8 y),
+    ) in
+    let rest = append_cancel_left (bits_of 8 y) (bits_of_bytes a) (bits_of_bytes b) (rw same_byte at same) in
     ap₂ ◌∷◌
-    (omega (arith, number_of-bits_of 8 x, number_of-bits_of 8 y, ap number_of first, All-head (λ byte. byte < 256) x a are_a, All-head (λ byte. byte < 256) y b are_b))
+    (omega (arith, number_of-bits_of 8 x, number_of-bits_of 8 y, ap number_of same_byte, are_a 0 0 (omega arith), are_b 0 0 (omega arith)))
     (bytes_of_bits a b (All-tail (λ byte. byte < 256) x a are_a) (All-tail (λ byte. byte < 256) y b are_b) rest)
 
 bytes-one : (p a b : List ℕ) → AreBytes a → AreBytes b → bits_of_bytes (p ++ a) ≡ bits_of_bytes (p ++ b) → a ≡ b

@@ -5,12 +5,16 @@ use Rattle.std.proofs.Math.ListN.{get_or-append}
 use Rattle.std.proofs.lemmas.Bool.{cases_lt}
 use Rattle.std.proofs.lemmas.List.{get_or-append_right, ext_get_or, append-nil, take_all, take_more_set, drop-drop, drop-set-lt, drop_more}
 use Rattle.des.specs.Bits.{xor}
+use Rattle.des.proofs.KeyParts.{get_or-first_chunks}
+use Rattle.std.proofs.lemmas.List.{get_or-take}
 use Rattle.des_modes.specs.Streams.{GoesOn, Xors}
 use Rattle.std.proofs.lemmas.Slice.{take-put_mid, drop-put_mid}
 use borrow.Rule.Slice.PartMut.{put_mid, mid_of}
 use Rattle.des_modes.specs.Directions.{plaintext, ciphertext}
 use Rattle.des_modes.specs.declared.direction.Direction.{Direction}
 use Rattle.des_modes.specs.declared.direction.Direction.TheVariants.{Encrypt, Decrypt}
+
+pub ruleset chunks = (get_or-take, get_or-first_chunks)
 
 -- ---- the xor undoes itself
 
@@ -139,6 +143,11 @@ pub texts-map : {X Y : Type 0} (f : X → Y) (direction : Direction) (old new : 
 texts-map f Encrypt old new = (refl, refl)
 texts-map f Decrypt old new = (refl, refl)
 
+pub length-behind : {X : Type 0} (direction : Direction) (c old new : List X) → length new ≡ length old
+    → length (c ++ ciphertext direction old new) ≡ length c + length old
+length-behind direction c old new same =
+    length-append c _ ∙ ap (λ (n : ℕ). length c + n) (ciphertext-is (λ (xs : List _). length xs ≡ length old) direction old new refl same)
+
 ciphertext-append : {X : Type 0} (direction : Direction) (old now more answers : List X)
     → ciphertext direction (old ++ more) (now ++ answers) ≡ ciphertext direction old now ++ ciphertext direction more answers
 ciphertext-append Encrypt old now more answers = refl
@@ -172,8 +181,7 @@ module _ {S X : Type 0} {op : X → X → X} {d : X} {At : List X → S → Type
         let d : List X = ciphertext direction more answers in
         let one = first.goes t at in
         let two = second.goes (t ++ c) one.0 in
-        let count = ciphertext-is (λ (xs : List X). length xs ≡ length old) direction old now refl one.1.count in
-        let size : length (t ++ c) ≡ length t + length old = omega (arith, length-append t c, count) in
+        let size = length-behind direction t old now one.1.count in
         rw (ciphertext-append direction old now more answers, ← append_assoc t c d) (
           two.0,
           Xors-append (length t) (length (t ++ c)) (k ((t ++ c) ++ d)) old now more answers size
@@ -193,10 +201,3 @@ module _ {S X : Type 0} {op : X → X → X} {d : X} {At : List X → S → Type
       Xors-append 0 (length c) (k all) p c _ _ (omega (arith, begun.count))
       (Xors-other 0 (k c) (k all) p c (λ i below. sym (front c at c _ (0 + i) (omega (arith, begun.count)))) begun)
       (Xors-directed direction _ _ _ _ undone (goes.goes c at).1)
-
--- ---- key streams that do not depend on the texts
-
-pub length-behind : (direction : Direction) (c old new : List ℕ) → length new ≡ length old
-    → length (c ++ ciphertext direction old new) ≡ length c + length old
-length-behind Encrypt c old new same = omega (arith, length-append c new)
-length-behind Decrypt c old new same = length-append c old

@@ -25,12 +25,8 @@ module _ (e f : List ℕ → List ℕ) (alike : AgreeOnBlocks e f) where
 
   IsBitStreamAt-alike : (iv : List ℕ) (p c : List Bool) (stream : Stream) → IsBitStreamAt e iv p c stream
       → IsBitStreamAt f iv p c stream
-  IsBitStreamAt-alike iv p c stream is = record {
-    begun = is.begun;
-    is_mode = is.is_mode;
-    place = is.place;
-    made = CfbBits-alike iv p c is.made;
-  }
+  IsBitStreamAt-alike iv p c stream is =
+      record { begun = is.begun; is_mode = is.is_mode; place = is.place; made = CfbBits-alike iv p c is.made }
 
   module _ (makes : (block : List ℕ) → IsBlock block → IsBlock (e block)) (iv c : List ℕ) (is_iv : IsBlock iv)
       (bytes : AreBytes c) where

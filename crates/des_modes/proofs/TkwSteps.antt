@@ -83,9 +83,7 @@ unfolding xor_blocks
 IsSemiblock-xor_blocks word other is too = (
   length-zip2 bit_xor word other (is.0 ∙ sym too.0) ∙ is.0,
   All-from_get_or (λ byte. byte < 256) (zip2 bit_xor word other) 0 (λ k within.
-      let inside : k < 4 = omega (arith, is.0, length-zip2 bit_xor word other (is.0 ∙ sym too.0)) in
-      rw (get_or-zip2 bit_xor word other k 0 0 0 (omega arith) (omega arith))
-      (xor_lt 8 (get_or word k 0) (get_or other k 0) (is.1 k 0 (omega arith)) (too.1 k 0 (omega arith)))),
+      grind (arith, get_or-zip2 bit_xor word other k 0 0 0, length-zip2 bit_xor word other, xor_lt 8 (get_or word k 0) (get_or other k 0), is.1 k 0, too.1 k 0)),
 )
 
 -- n semiblocks
@@ -96,8 +94,8 @@ AreSemiblocks n words = (length words ≡ n) × All IsSemiblock words
 abbrev pub icv3 : List ℕ
 icv3 = 0xa6 ∷ 0xa6 ∷ 0xa6 ∷ 0xa6 ∷ []
 
--- steps make as many semiblocks
 module _ {E D : List ℕ → List ℕ} (laws : Undoes E D) where
+  -- steps make as many semiblocks
   tw_step-keeps : (t n : ℕ) (words : List (List ℕ)) → AreSemiblocks n words → AreSemiblocks n (tw_step E t words)
   tw_step-keeps t n (a ∷ r ∷ rest) are =
       let block : List ℕ = E (a ++ r) in
@@ -113,35 +111,34 @@ module _ {E D : List ℕ → List ℕ} (laws : Undoes E D) where
   tw_steps-keep zero n words are = are
   tw_steps-keep (suc t) n words are = tw_step-keeps (suc t) n (tw_steps E t words) (tw_steps-keep t n words are)
 
--- by an encryption that encrypts blocks alike
-pub Undoes-alike : {E F D : List ℕ → List ℕ} → Undoes E D → ((block : List ℕ) → IsBlock block → F block ≡ E block) → Undoes F D
-Undoes-alike {D = D} laws alike = record {
-  undone = λ block is. ap D (alike block is) ∙ laws.undone block is;
-  is_block = λ block is. rw (alike block is) (laws.is_block block is);
-}
+  -- by an encryption that encrypts blocks alike
+  module _ {F : List ℕ → List ℕ} (alike : (block : List ℕ) → IsBlock block → F block ≡ E block) where
+    tw_step-alike : (t : ℕ) (words : List (List ℕ)) → All IsSemiblock words → tw_step F t words ≡ tw_step E t words
+    tw_step-alike t (a ∷ r ∷ rest) are = rw (alike (a ++ r) (IsBlock-joined a r rest are)) refl
+    tw_step-alike t words are = refl
 
--- by two encryptions that encrypt blocks alike: semiblocks of which a step makes what it makes of b and s are these
-module _ {E F D : List ℕ → List ℕ} (laws : Undoes E D) (other_laws : Undoes F D) where
+    pub tw_steps-alike : (t : ℕ) (words : List (List ℕ)) → All IsSemiblock words → tw_steps F t words ≡ tw_steps E t words
+    tw_steps-alike zero words are = refl
+    tw_steps-alike (suc t) words are =
+        ap (tw_step F (suc t)) (tw_steps-alike t words are) ∙ tw_step-alike (suc t) _ (tw_steps-keep t _ words (refl, are)).1
+
+  -- semiblocks of which a step makes what it makes of b and s are these
   pub tw_step-one : (t n i : ℕ) (words others : List (List ℕ)) (b s : List ℕ) → AreSemiblocks n words → 2 ≤ n
       → i < length others → get_or others i [] ≡ s → length b ≡ 4 → length s ≡ 4 → IsBlock (b ++ s)
-      → tw_step E t words ≡ tw_step F t (b ∷ turned others i) → words ≡ b ∷ turned others i
+      → tw_step E t words ≡ tw_step E t (b ∷ turned others i) → words ≡ b ∷ turned others i
   tw_step-one t n i (a ∷ r ∷ words) others b s are more within there is_b is_s other same =
       let turn = turned-first others i s within there in
       let block = IsBlock-joined a r words are.1 in
       let e : List ℕ = E (a ++ r) in
-      let f : List ℕ = F (b ++ s) in
-      let number : List ℕ = to_be_bytes w32 t in
-      let made = same ∙ ap (λ (xs : List (List ℕ)). tw_step F t (b ∷ xs)) turn in
+      let f : List ℕ = E (b ++ s) in
+      let made = same ∙ ap (λ (xs : List (List ℕ)). tw_step E t (b ∷ xs)) turn in
       let rest = same_from_push words (drop (i + 1) others ++ take i others) (drop 4 e) (drop 4 f) (ap (drop 1) made) in
-      let high : take 4 e ≡ take 4 f =
-      sym (xor_blocks-undone (take 4 e) number (high_half e (laws.is_block (a ++ r) block)).0)
-      ∙ ap (λ (xs : List (List ℕ)). xor_blocks (get_or xs 0 []) number) made
-      ∙ xor_blocks-undone (take 4 f) number (high_half f (other_laws.is_block (b ++ s) other)).0 in
-      let answers : e ≡ f = sym (take-append-drop 4 e) ∙ ap₂ ◌++◌ high rest.1 ∙ take-append-drop 4 f in
-      let joined : a ++ r ≡ b ++ s = sym (laws.undone (a ++ r) block) ∙ ap D answers ∙ other_laws.undone (b ++ s) other in
+      let undone = λ (x : List ℕ) (is : IsBlock x). xor_blocks-undone (take 4 (E x)) (to_be_bytes w32 t) (high_half (E x) (laws.is_block x is)).0 in
+      let high : take 4 e ≡ take 4 f = cc (made, undone (a ++ r) block, undone (b ++ s) other) in
+      let answers : e ≡ f = cc (high, rest.1, take-append-drop 4 e, take-append-drop 4 f) in
+      let joined : a ++ r ≡ b ++ s = cc (answers, laws.undone (a ++ r) block, laws.undone (b ++ s) other) in
       let is_a : length a ≡ 4 = (are.1 0 [] (omega arith)).0 in
-      ap₂ ◌∷◌ (sym (take_at a r 4 is_a) ∙ ap (take 4) joined ∙ take_at b s 4 is_b)
-      (ap₂ ◌∷◌ (sym (drop_at a r 4 is_a) ∙ ap (drop 4) joined ∙ drop_at b s 4 is_b) rest.0 ∙ sym turn)
+      cc (turn, rest.0, joined, take_at a r 4 is_a, take_at b s 4 is_b, drop_at a r 4 is_a, drop_at b s 4 is_b)
   tw_step-one t n i words others b s are more within there is_b is_s other same = absurd (omega (arith, are.0))
 
 -- what wraps a key wraps no other

@@ -30,6 +30,7 @@ fn count_of(bytes: usize, segment: usize) -> usize
 }
 
 // Writes eight bytes into each block, one after another.
+#[tactic(auto, using(crate::proofs::Pieces::chunks))]
 fn write_blocks(blocks: &mut [[u8; 8]], bytes: &[u8])
     requires { 8 * length blocks.old ≤ length bytes.now }
     ensures { (j : ℕ) → j < length blocks.old

@@ -31,6 +31,7 @@ fn xor_bit(bytes: &mut [u8], place: u128, bit: bool)
 }
 
 // The first bit of the output block of a shift register, for the next bit of the text.
+#[tactic(auto, using(crate::proofs::BitPlaces::bits_of_a_block))]
 fn key_bit<C: BlockCipherEncrypt>(register: &[u8; 8], cipher: &C) -> bool
     ensures wide { length register.now ≡ 8 }
     ensures bit { result ≡ block_bit (C.encrypted cipher.now

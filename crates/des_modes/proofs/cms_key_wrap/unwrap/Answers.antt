@@ -5,10 +5,8 @@ use Rattle.des_modes.proofs.cms_key_wrap.unwrap.Given.{Over}
 use Rattle.des_modes.proofs.cms_key_wrap.unwrap.Goals as goal
 
 laws : (g : Over) (cipher : g.row.C.Denot) → Undoes (g.C.BlockCipherEncrypt.encrypted cipher) (g.C.BlockCipherDecrypt.decrypted cipher)
-laws g cipher = record {
-  undone = g.met.C.BlockCipher.decrypts_encrypted cipher;
-  is_block = g.met.C.BlockCipher.encrypted_is_block cipher;
-}
+laws g cipher =
+    record { undone = g.met.C.BlockCipher.decrypts_encrypted cipher; is_block = g.met.C.BlockCipher.encrypted_is_block cipher }
 
 pub returns-then-are_equal-clause-accepted : goal.returns-then-are_equal-clause-accepted
 returns-then-are_equal-clause-accepted g c = λ iv other is_iv wraps.

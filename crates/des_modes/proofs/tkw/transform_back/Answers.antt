@@ -3,22 +3,20 @@ use Rattle.std.proofs.Common.{◌≡◌, ℕ, ◌+◌, ◌*◌, ◌-◌, ◌%◌
 use Rattle.std.proofs.Math.Nat.{mod-lt, mul-mod_left, zero-mod}
 use Rattle.std.proofs.lemmas.List.{get_or-set_same, length-set, set-get_or, set-set}
 use Rattle.des_modes.specs.Tkw.{tw_step, tw_steps}
-use Rattle.des_modes.proofs.TkwSteps.{Undoes, Undoes-alike, tw_steps-next, tw_steps-keep, tw_step-in_place, tw_step-one, turned, turned-none}
+use Rattle.des_modes.proofs.TkwSteps.{Undoes, tw_steps-alike, tw_steps-next, tw_steps-keep, tw_step-in_place, tw_step-one, turned, turned-none}
 use Rattle.des_modes.proofs.tkw.transform_back.Given.{Over}
 use Rattle.des_modes.proofs.tkw.transform_back.Goals as goal
 
 laws : (g : Over) (cipher : g.row.C.Denot) → Undoes (g.C.BlockCipherEncrypt.encrypted cipher) (g.C.BlockCipherDecrypt.decrypted cipher)
-laws g cipher = record {
-  undone = g.met.C.BlockCipher.decrypts_encrypted cipher;
-  is_block = g.met.C.BlockCipher.encrypted_is_block cipher;
-}
+laws g cipher =
+    record { undone = g.met.C.BlockCipher.decrypts_encrypted cipher; is_block = g.met.C.BlockCipher.encrypted_is_block cipher }
 
 pub steps-init : goal.steps-init
 steps-init g c =
     let words : List (List ℕ) = c.args.words.now in
     let count : ℕ = length words in
     let whole = ap (λ (xs : List (List ℕ)). c.args.first.now ∷ xs) (turned-none words (6 * count % count) (mul-mod_left 6 count)) in
-    record { within = omega arith; undone = λ start same. same ∙ whole; only = λ f alike start are same. same ∙ sym whole }
+    record { within = omega arith; undone = λ start same. same ∙ whole; only = λ start are same. same ∙ sym whole }
 
 pub steps-preserved : goal.steps-preserved
 steps-preserved g c =
@@ -43,14 +41,13 @@ steps-preserved g c =
       undone = λ start same.
           c.steps.invariant.undone start
           (ap (λ (n : ℕ). tw_steps E n start) (sym place) ∙ tw_steps-next E t start ∙ ap (tw_step E (t + 1)) same ∙ step);
-      only = λ f alike start are same.
-          let e_laws = laws g c.args.cipher.now in
-          let f_laws = Undoes-alike e_laws alike in
-          tw_step-one f_laws e_laws (t + 1) (count + 1) i (tw_steps f t start) (set words i word) first word
-          (tw_steps-keep f_laws t (count + 1) start are) (omega (arith, c.requires.some)) (omega (arith, length-set words i word)) there
-          (omega arith) (omega (arith, c.step_back.ensures.block.0, length-append first word)) c.step_back.ensures.block
-          (sym (tw_steps-next f t start) ∙ ap (λ (n : ℕ). tw_steps f n start) place
-          ∙ c.steps.invariant.only f alike start are same ∙ sym step);
+      only = λ start are same.
+          tw_step-one (laws g c.args.cipher.now) (t + 1) (count + 1) i (tw_steps E t start) (set words i word) first word
+          (tw_steps-keep (laws g c.args.cipher.now) t (count + 1) start are) (omega (arith, c.requires.some))
+          (omega (arith, length-set words i word)) there (omega arith)
+          (omega (arith, c.step_back.ensures.block.0, length-append first word)) c.step_back.ensures.block
+          (sym (tw_steps-next E t start) ∙ ap (λ (n : ℕ). tw_steps E n start) place
+          ∙ c.steps.invariant.only start are same ∙ sym step);
     }
 
 pub returns : goal.returns
@@ -65,10 +62,10 @@ returns g c =
           ap (λ (n : ℕ). tw_steps E n (c.steps.first ∷ words)) all
           ∙ (rw none at c.steps.invariant.undone) (c.steps.first ∷ words) (sym whole);
       only = λ start are under.
-          let f : List ℕ → List ℕ = under.encryption in
-          let kept = tw_steps-keep (Undoes-alike (laws g c.args.cipher.now) under.encrypts) (6 * (length start - 1)) (length start) start (refl, are) in
-          let size : length start ≡ count + 1 = omega (arith, kept.0, ap length under.made) in
-          let steps : 6 * count ≡ 6 * (length start - 1) = omega (arith, size) in
-          (rw none at c.steps.invariant.only) f under.encrypts start (size, are)
-          (ap (λ (n : ℕ). tw_steps f n start) steps ∙ under.made) ∙ whole;
+          let count_of : ℕ = 6 * (length start - 1) in
+          let made = sym (tw_steps-alike (laws g c.args.cipher.now) under.encrypts count_of start are) ∙ under.made in
+          let kept = tw_steps-keep (laws g c.args.cipher.now) count_of (length start) start (refl, are) in
+          let size : length start ≡ count + 1 = omega (arith, kept.0, ap length made) in
+          let steps : 6 * count ≡ count_of = omega (arith, size) in
+          (rw none at c.steps.invariant.only) start (size, are) (ap (λ (n : ℕ). tw_steps E n start) steps ∙ made) ∙ whole;
     }

@@ -1,6 +1,5 @@
 -- What the steps up to the index make the semiblocks of, all steps make the list of that was given, and nothing else.
 use Rattle.std.proofs.Common.{◌≡◌, ℕ, ◌≤◌, ◌+◌, ◌*◌, ◌%◌, List, ◌∷◌}
-use Rattle.des.specs.Blocks.{IsBlock}
 use Rattle.des_modes.specs.Tkw.{tw_steps}
 use Rattle.des_modes.proofs.TkwSteps.{AreSemiblocks, turned}
 use Rattle.des_modes.proofs.tkw.transform_back.Given as goal
@@ -11,10 +10,9 @@ invariant-steps g l = record {
   undone : (start : List (List ℕ)) → tw_steps (g.C.BlockCipherEncrypt.encrypted l.cipher) l.left start
       ≡ l.first ∷ turned l.words (l.left % l.count)
       → tw_steps (g.C.BlockCipherEncrypt.encrypted l.cipher) (6 * l.count) start ≡ l.initial.first ∷ l.initial.words;
-  only : (f : List ℕ → List ℕ) → ((block : List ℕ) → IsBlock block → f block ≡ g.C.BlockCipherEncrypt.encrypted l.cipher block)
-      → (start : List (List ℕ)) → AreSemiblocks (l.count + 1) start
-      → tw_steps f (6 * l.count) start ≡ l.initial.first ∷ l.initial.words
-      → tw_steps f l.left start ≡ l.first ∷ turned l.words (l.left % l.count);
+  only : (start : List (List ℕ)) → AreSemiblocks (l.count + 1) start
+      → tw_steps (g.C.BlockCipherEncrypt.encrypted l.cipher) (6 * l.count) start ≡ l.initial.first ∷ l.initial.words
+      → tw_steps (g.C.BlockCipherEncrypt.encrypted l.cipher) l.left start ≡ l.first ∷ turned l.words (l.left % l.count);
 }
 
 abbrev pub decreases-steps : goal.decreases-steps

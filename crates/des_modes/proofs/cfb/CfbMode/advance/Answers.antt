@@ -4,5 +4,5 @@ use Rattle.des_modes.proofs.cfb.CfbMode.advance.Goals as goal
 
 pub returns-clause-after : goal.returns-clause-after
 returns-clause-after c encryption iv d is made =
-    IsAtSegment-within c.args.self.now.segment encryption iv d c.args.place.now (omega arith) c.args.self.now.some is c.args.bytes.now made
-    c.shift.ensures c.within_segment-place.ensures.place c.within_segment-place.ensures.inside
+    IsAtSegment-within is (omega arith) c.args.self.now.some c.args.bytes.now made c.shift.ensures c.within_segment-place.ensures.place
+    c.within_segment-place.ensures.inside

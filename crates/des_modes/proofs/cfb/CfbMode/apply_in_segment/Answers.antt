@@ -8,8 +8,7 @@ returns-in-Encrypt-clause-goes g c =
       goes = λ d is.
           let made = c.current-output.ensures iv d is in (
             c.advance.ensures.after _ iv d is made,
-            Xors-within c.args.self.now.segment _ iv d c.args.place.now (omega arith) c.args.self.now.some is _ c.current-output.result
-                _ _ c.requires made c.xor_block_from.auto.bytes c.xor_block_from.ensures,
+            Xors-within is (omega arith) c.args.self.now.some _ _ _ made c.requires c.xor_block_from.auto.bytes c.xor_block_from.ensures,
           );
     })
 
@@ -19,7 +18,7 @@ returns-in-Decrypt-clause-goes g c =
       goes = λ d is.
           let made = c.current-output.ensures iv d is in (
             c.advance-in-Decrypt.ensures.after _ iv d is made,
-            Xors-within c.args.self.now.segment _ iv d c.args.place.now (omega arith) c.args.self.now.some is _ c.current-output.result
-                _ _ c.requires made c.xor_block_from-in-Decrypt.auto.bytes c.xor_block_from-in-Decrypt.ensures,
+            Xors-within is (omega arith) c.args.self.now.some _ _ _ made c.requires c.xor_block_from-in-Decrypt.auto.bytes
+                c.xor_block_from-in-Decrypt.ensures,
           );
     })

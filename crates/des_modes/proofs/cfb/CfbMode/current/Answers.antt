@@ -4,5 +4,4 @@ use Rattle.des_modes.proofs.cfb.CfbMode.current.Goals as goal
 
 pub returns-then-place-eq0 : goal.returns-then-place-eq0
 returns-then-place-eq0 g c iv d is =
-    rw (← input_block-next c.args.self.now.segment _ iv d c.args.place.now (omega arith) c.args.self.now.some is c.if-place-eq0.true)
-    c.encrypt_block.ensures
+    rw (← input_block-next is (omega arith) c.args.self.now.some c.if-place-eq0.true) c.encrypt_block.ensures

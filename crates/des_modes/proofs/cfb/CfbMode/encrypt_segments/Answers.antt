@@ -1,6 +1,7 @@
 -- The input blocks stand in the register and the ciphertext behind it.
 use Rattle.std.proofs.Common.{◌≡◌, ℕ, ◌+◌, ◌-◌, ◌/◌, ◌%◌, ◌<◌, ◌≤◌, ◌++◌, List, [], length, get_or, drop, ap, sym, ◌∙◌, arith, length-drop, drop_at}
-use Rattle.std.proofs.lemmas.List.{get_or_default, take_all, drop-drop}
+use Rattle.std.proofs.lemmas.List.{get_or_default, take_rest}
+use Rattle.std.proofs.Math.Seq.{drop-append-add}
 use Rattle.des.proofs.KeyParts.{get_or-first_chunks}
 use Rattle.des_modes.proofs.CfbPlaces.{goes-beyond}
 use Rattle.des_modes.proofs.ChainedOutputs.{length-zero_blocks, outputs-of_plaintext}
@@ -20,11 +21,8 @@ returns-clause-goes g c =
     let few : k ≤ 256 = omega (arith, last, c.requires.few) in
     let many : length q ≡ k = c.write_outputs.auto.outputs ∙ length-zero_blocks 256 k few in
     let m : ℕ = length old - 8 in
-    let split : length new ≡ 8 + m = omega (arith, same, c.requires.some) in
-    let shifted : drop (length new) (register ++ new) ≡ drop m new =
-    ap (λ (n : ℕ). drop n (register ++ new)) split
-    ∙ sym (drop-drop m 8 (register ++ new))
-    ∙ ap (drop m) (drop_at register new 8 (omega arith)) in
+    let split : length new ≡ length register + m = omega (arith, same, c.requires.some) in
+    let shifted = ap (λ (n : ℕ). drop n (register ++ new)) split ∙ drop-append-add register new m in
     let outputs = outputs-of_plaintext E register old new c.as_chunks.result.0.now q c.write_outputs.ensures (omega arith) same
     (omega (arith, c.as_chunks.ensures.front_len)) (omega (arith, many, last))
     (λ n below. ap (λ (blocks : List (List ℕ)). get_or blocks n []) c.as_chunks.ensures.front
@@ -32,11 +30,11 @@ returns-clause-goes g c =
     c.are_blocks.ensures (λ i below. c.xor_blocks_from.ensures i below) in
     rw c.requires.blocks (λ iv. record {
       goes = λ d is.
-          goes-beyond 8 E iv d c.args.place.now (omega arith) (omega arith) is new old new q c.requires.between (sym same)
+          goes-beyond is (omega arith) (omega arith) new old new q c.requires.between (sym same)
           (omega (arith, many, same, c.count_of.ensures.enough))
           outputs
           (record { count = same; xored = λ i below. c.xor_blocks_from.ensures i below })
-          (c.copy_from_slice.ensures.after ∙ take_all (length new - m) (drop m new) (omega (arith, length-drop m new)) ∙ sym shifted)
+          (c.copy_from_slice.ensures.after ∙ take_rest new m ∙ sym shifted)
           (ap (λ (n : ℕ). n % 8) (sym same))
           (λ begun.
           let inside : length old / 8 < length q = rw many (c.count_of.ensures.last begun) in

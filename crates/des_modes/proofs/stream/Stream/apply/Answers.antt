@@ -8,9 +8,6 @@ use Rattle.des_modes.proofs.Pieces.{ciphertext-is}
 use Rattle.des_modes.proofs.StreamPlaces.{size_of-mode_by}
 use Rattle.des_modes.proofs.stream.Stream.apply.Goals as goal
 
-pub apply_in-requires-clause-short : goal.apply_in-requires-clause-short
-apply_in-requires-clause-short g c = rw c.requires.2 (size_of-mode_by c.args.self.now.mode c.requires.1).1
-
 pub returns-clause-begun : goal.returns-clause-begun
 returns-clause-begun g c = (c.requires.0, c.requires.1, rw (← c.requires.2) c.apply_in.ensures.fits)
 
