@@ -13,6 +13,7 @@ use Rattle.des.specs.Blocks.{IsBlock}
 use Rattle.des.specs.Laws.BitLists.{length-bits_of, length-bits_of_bytes, bits_of_bytes-to_be, bits_of_bytes-from_be}
 use Rattle.des.specs.Laws.BlockBits.{block_of_bits-bits_of_bytes, slice_index-lt}
 use Rattle.des.proofs.BitParts.{get_or-bits_of, bit_at-xor, drop-bits_of, bits_of-or_shl}
+use Rattle.des_fast.proofs.XoredLists.{xor-false}
 use Rattle.des_modes.specs.Cfb.{block_bit, first_bits}
 use Rattle.des_modes.specs.Directions.{plaintext, ciphertext}
 use Rattle.des_modes.specs.declared.direction.Direction.{Direction}
@@ -85,10 +86,6 @@ mask_bits true a below =
 mask_bits false a below =
     let none : 0 * 2 ^ a % 256 ≡ 0 = omega arith in rw none (ap (λ (m : ℕ). m == 1) (bit_at-zero a), λ k other. ap (λ (m : ℕ). m == 1) (bit_at-zero k))
 
-xor-none : (bit : Bool) → xor bit false ≡ bit
-xor-none true = refl
-xor-none false = refl
-
 pub bits_xored : (bytes : List ℕ) (place : ℕ) (bit : Bool) → place < 8 * length bytes
     → bits_of_bytes (set bytes (place / 8) (bit_xor (get_or bytes (place / 8) 0) (bool_byte bit * 2 ^ (7 - place % 8) % 256)))
     ≡ set (bits_of_bytes bytes) place (xor (block_bit bytes place) bit)
@@ -111,14 +108,11 @@ bits_xored bytes place bit within =
     rw (now, was, here, get_or-set_same bytes j byte 0 (omega arith)) (bit_at-xor (get_or bytes j 0) mask k) in
     elim (cases_eq i place) [
       | inl same ↦
-          xored (ap (λ (n : ℕ). n / 8) same)
-          ∙ ap₂ (λ (n : ℕ) (x : Bool). xor (block_bit bytes n) x) same (ap (λ (n : ℕ). bit_at mask (7 - n % 8) == 1) same ∙ masks.0)
-          ∙ sym (ap (λ (n : ℕ). get_or (set bits place y) n false) same
-          ∙ get_or-set_same bits place y false (omega (arith, length-bits_of_bytes bytes)))
+          cc (xored (ap (λ (n : ℕ). n / 8) same), masks.0, get_or-set_same bits place y false (omega (arith, length-bits_of_bytes bytes)))
       | inr other ↦
           let kept = get_or-set_other bits place i y false other in
           elim (cases_eq (i / 8) j) [
-            | inl here ↦ xored here ∙ ap (xor (block_bit bytes i)) (masks.1 k (omega (arith, other))) ∙ xor-none _ ∙ sym kept
+            | inl here ↦ cc (xored here, masks.1 k (omega (arith, other)), xor-false (block_bit bytes i), kept)
             | inr apart ↦ now ∙ ap (λ (x : ℕ). bit_at x k == 1) (get_or-set_other bytes j (i / 8) byte 0 apart) ∙ sym was ∙ sym kept
           ]
     ])

@@ -1,6 +1,7 @@
 -- The output blocks of a feedback are those of OFB, and those of CFB of 64 bits.
-use Rattle.std.proofs.Common.{◌≡◌, ℕ, zero, suc, ◌+◌, ◌*◌, ◌/◌, ◌%◌, ◌<◌, ◌≤◌, List, [], ◌++◌, length, get_or, take, drop, replicate, bit_xor, refl, ap, sym, ◌∙◌, arith, length-drop, length-take-le, take_at, drop_at}
-use Rattle.std.proofs.lemmas.List.{get_or-take, get_or-drop, get_or_default, length-replicate, drop-drop}
+use Rattle.std.proofs.Common.{◌≡◌, ℕ, zero, suc, ◌+◌, ◌*◌, ◌/◌, ◌%◌, ◌<◌, ◌≤◌, List, [], ◌++◌, length, get_or, take, drop, replicate, bit_xor, refl, ap, sym, ◌∙◌, arith, length-drop, length-take-le, take_at}
+use Rattle.std.proofs.Math.Seq.{drop-append-add}
+use Rattle.std.proofs.lemmas.List.{get_or-take, get_or-drop, get_or_default, length-replicate}
 use Rattle.std.specs.List.{All}
 use Rattle.des.specs.Blocks.{IsBlock}
 use Rattle.des.specs.Cbc.{xor_blocks}
@@ -61,12 +62,7 @@ chunk-xored old new blocks k within same wide xored =
     let inside : i < 8 = omega arith in
     let quotient : (0 + (8 * k + i)) / 8 ≡ k = omega arith in
     let rest : (0 + (8 * k + i)) % 8 ≡ i = omega arith in
-    rw (
-      get_or-take 8 (drop (8 * k) new) i 0 inside,
-      get_or-drop (8 * k) new i 0,
-      get_or-take 8 (drop (8 * k) old) i 0 inside,
-      get_or-drop (8 * k) old i 0,
-    ) (rw (quotient, rest) at (xored (8 * k + i) (omega arith))))
+    rw (get_or-take, get_or-drop, get_or-take, get_or-drop) (rw (quotient, rest) at (xored (8 * k + i) (omega arith))))
 
 -- the output blocks along the plaintext are those of the register and the ciphertext behind it
 pub outputs-of_plaintext : (E : List ℕ → List ℕ) (register old new : List ℕ) (p q : List (List ℕ)) → AreOutputs E register p q
@@ -80,12 +76,10 @@ outputs-of_plaintext E register old new p q made wide same whole few chunks are_
     made 0 below ∙ ap E (sym (take_at register new 8 wide))
 outputs-of_plaintext E register old new p q made wide same whole few chunks are_blocks xored (suc k) below =
     let inside : k < length p = omega arith in
-    let shifted : 8 * suc k ≡ 8 + 8 * k = omega arith in
+    let shifted : 8 * suc k ≡ length register + 8 * k = omega arith in
     made (suc k) below
     ∙ ap E (
     ap (λ (block : List ℕ). xor_blocks block (get_or q k [])) (get_or_default p k _ [] inside ∙ chunks k inside)
     ∙ sym (chunk-xored old new q k (omega arith) same (are_blocks k [] (omega arith)).0 xored)
-    ∙ ap (take 8) (sym (ap (λ (n : ℕ). drop n (register ++ new)) shifted
-    ∙ sym (drop-drop (8 * k) 8 (register ++ new))
-    ∙ ap (drop (8 * k)) (drop_at register new 8 wide)))
+    ∙ ap (take 8) (sym (ap (λ (n : ℕ). drop n (register ++ new)) shifted ∙ drop-append-add register new (8 * k)))
     )

@@ -86,15 +86,15 @@ cbc_decrypted-behind D iv q p block answer cbc_decrypts is =
     (CbcDecrypts-cbc_decrypted D (next_vector iv q) (block ∷ []) (answer ∷ []) (ap (λ (x : List ℕ). x ∷ []) is))
 
 -- the first block, and those behind it: x, p and y are their plaintexts
-pub Encloses-opened : (E D : List ℕ → List ℕ) (first last x y iv behind check : List ℕ)
-    (middle p turned key enclosed : List (List ℕ)) → Undoes D E → All IsBlock enclosed
+pub Encloses-opened : {E D : List ℕ → List ℕ} {first x iv behind : List ℕ} {turned enclosed : List (List ℕ)}
+    (last y check : List ℕ) (middle p key : List (List ℕ)) → Undoes D E → All IsBlock enclosed
     → enclosed ≡ first ∷ middle ++ last ∷ [] → CbcDecrypts D second_iv (first ∷ []) (x ∷ [])
     → CbcDecrypts D first (middle ++ last ∷ []) (p ++ y ∷ []) → iv ≡ reverse y → turned ≡ reversed p → behind ≡ reverse x
     → IsBlock iv → All IsBlock (turned ++ behind ∷ []) → All IsBlock (key ++ check ∷ [])
     → CbcDecrypts D iv (turned ++ behind ∷ []) (key ++ check ∷ [])
     → Encloses (λ block answer. answer ≡ E block) iv (key ++ check ∷ []) enclosed
-Encloses-opened E D first last x y iv behind check middle p turned key enclosed laws are whole one others is_iv is_turned
-    is_behind iv_block are_temp1 are_key opened =
+Encloses-opened {E} {D} {first} {x} {iv} {behind} {turned} {enclosed} last y check middle p key laws are whole one others is_iv
+    is_turned is_behind iv_block are_temp1 are_key opened =
     let temp1 : List (List ℕ) = turned ++ behind ∷ [] in
     let same : x ∷ p ++ y ∷ [] ≡ reversed (iv ∷ temp1) =
     sym (reversed-reversed (x ∷ p ++ y ∷ []))

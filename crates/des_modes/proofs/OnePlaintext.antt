@@ -1,7 +1,7 @@
 -- A ciphertext has one plaintext, in each mode.
-use Rattle.std.proofs.Common.{◌≡◌, ◌<◌, ℕ, List, [], ◌∷◌, ◌++◌, refl, ap, ap₂, arith, length, length-append, take, drop, take_at, drop_at}
+use Rattle.std.proofs.Common.{◌≡◌, ◌<◌, ℕ, List, [], ◌∷◌, ◌++◌, refl, ap, ap₂, arith, length, length-append, take, take_at}
 use Rattle.std.proofs.lemmas.List.{append_cancel_left}
-use Rattle.std.proofs.lemmas.List.Elements.{All-head, All-tail}
+use Rattle.std.proofs.lemmas.List.Elements.{All-tail}
 use Rattle.des.specs.Bits.{bits_of, bits_of_bytes, number_of}
 use Rattle.des.specs.Blocks.{AreBytes}
 use Rattle.des.specs.Laws.BitLists.{length-bits_of, number_of-bits_of}

@@ -71,9 +71,6 @@ module _ (e f : List ℕ → List ℕ) (alike : AgreeOnBlocks e f) where
 
 -- a cipher whose encryption takes blocks to blocks and, of them, is that of a key
 module _ (e k : List ℕ → List ℕ) (alike : AgreeOnBlocks e k) (makes : (block : List ℕ) → IsBlock block → IsBlock (e block)) where
-  back : AgreeOnBlocks k e
-  back block is = sym (alike block is)
-
   makes_too : (block : List ℕ) → IsBlock block → IsBlock (k block)
   makes_too block is = subst IsBlock (alike block is) (makes block is)
 
@@ -82,13 +79,14 @@ module _ (e k : List ℕ → List ℕ) (alike : AgreeOnBlocks e k) (makes : (blo
       → IsStreamAt number k iv p c old → IsStreamAt number k iv others more new
   IsStreamAt-by_key number iv p c others more old new goes_on is =
       IsStreamAt-alike e k alike number iv others more new makes
-      (goes_on (IsStreamAt-alike k e back number iv p c old makes_too is))
+      (goes_on (IsStreamAt-alike k e (λ block is. sym (alike block is)) number iv p c old makes_too is))
 
   pub IsBitStreamAt-by_key : (iv : List ℕ) (p c others more : List Bool) (old new : Stream)
       → (IsBitStreamAt e iv p c old → IsBitStreamAt e iv others more new)
       → IsBitStreamAt k iv p c old → IsBitStreamAt k iv others more new
   IsBitStreamAt-by_key iv p c others more old new goes_on is =
-      IsBitStreamAt-alike e k alike iv others more new (goes_on (IsBitStreamAt-alike k e back iv p c old is))
+      IsBitStreamAt-alike e k alike iv others more new
+      (goes_on (IsBitStreamAt-alike k e (λ block is. sym (alike block is)) iv p c old is))
 
   module _ (Encrypts : List ℕ → List ℕ → Type 0) (graph : IsGraphOf e Encrypts) where
     under : {Made : (List ℕ → List ℕ) → Type 0} → Made k → Under Encrypts Made

@@ -1,4 +1,4 @@
-use Rattle.std.proofs.Common.{◌≡◌, true, false, refl, sym, ◌∙◌}
+use Rattle.std.proofs.Common.{refl, ◌∙◌}
 use Rattle.des_modes.proofs.Enclosed.{Wraps-one}
 use Rattle.des_modes.proofs.TkwSteps.{Undoes}
 use Rattle.des_modes.proofs.cms_key_wrap.unwrap.Given.{Over}
@@ -16,5 +16,4 @@ returns-then-are_equal-clause-accepted g c = λ iv other is_iv wraps.
 pub returns-clause-accepted : goal.returns-clause-accepted
 returns-clause-accepted g c = λ iv other is_iv wraps.
     let one = Wraps-one (laws g c.args.cipher.now) _ iv c.open.result.1 c.open.new.key other _ c.open.ensures.vector is_iv c.open.ensures.opened wraps in
-    let found : c.are_equal.result ≡ true = c.are_equal.ensures.1 (c.checksum.ensures ∙ one.1) in
-    let bad : false ≡ true = sym c.if-are_equal.false ∙ found in cc bad
+    cc (c.are_equal.ensures.1 (c.checksum.ensures ∙ one.1), c.if-are_equal.false)

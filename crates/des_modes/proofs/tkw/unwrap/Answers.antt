@@ -1,4 +1,4 @@
-use Rattle.std.proofs.Common.{◌≡◌, true, false, List, ℕ, [], get_or, drop, refl, ap, sym, ◌∙◌, arith}
+use Rattle.std.proofs.Common.{List, ℕ, [], get_or, drop, refl, ap, sym, arith}
 use Rattle.des_modes.proofs.TkwSteps.{unwrapped-one}
 use Rattle.des_modes.proofs.tkw.unwrap.Goals as goal
 
@@ -12,5 +12,4 @@ returns-then-are_equal-clause-accepted g c = λ other too wraps. (
 pub returns-clause-accepted : goal.returns-clause-accepted
 returns-clause-accepted g c = λ other too wraps.
     let same = unwrapped-one c.transform_back.ensures.only too (omega (arith, c.requires.capacity)) c.copy_from_slice.ensures.after wraps in
-    let found : c.are_equal.result ≡ true = c.are_equal.ensures.1 (sym (ap (λ (xs : List (List ℕ)). get_or xs 0 []) same)) in
-    let bad : false ≡ true = sym c.if-are_equal.false ∙ found in cc bad
+    cc (c.are_equal.ensures.1 (sym (ap (λ (xs : List (List ℕ)). get_or xs 0 []) same)), c.if-are_equal.false)

@@ -13,11 +13,9 @@ get_or-joined : (blocks : List (List ℕ)) → ((k : ℕ) → k < length blocks 
     → get_or (joined blocks) n 0 ≡ get_or (get_or blocks j []) r 0
 get_or-joined [] widths j r n same within below = absurd (omega arith)
 get_or-joined (block ∷ blocks) widths zero r n same within below =
-    let wide : length block ≡ 8 = widths 0 (omega arith) in
-    let place : n ≡ r = omega arith in rw place (get_or-append block (joined blocks) 0 r (omega arith))
+    grind (arith, get_or-append block (joined blocks) 0 n, widths 0)
 get_or-joined (block ∷ blocks) widths (suc j) r n same within below =
-    let wide : length block ≡ 8 = widths 0 (omega arith) in
-    get_or-append_right block (joined blocks) 8 n 0 wide (omega arith)
+    get_or-append_right block (joined blocks) 8 n 0 (widths 0 (omega arith)) (omega arith)
     ∙ get_or-joined blocks (λ k inside. widths (suc k) (omega arith)) j r (n - 8) (omega arith) (omega arith) below
 
 -- a byte of the joined blocks is one of the block that it stands in

@@ -1,5 +1,5 @@
 -- The input blocks stand in the register and the ciphertext behind it.
-use Rattle.std.proofs.Common.{◌≡◌, ℕ, ◌-◌, ◌/◌, ◌<◌, List, [], length, drop, ap, ◌∙◌, refl, arith, length-drop, length-take-le}
+use Rattle.std.proofs.Common.{◌≡◌, ℕ, ◌/◌, ◌<◌, List, [], length, drop, ap, ◌∙◌, refl, arith, length-take-le}
 use Rattle.std.proofs.lemmas.List.{get_or_default, take_rest}
 use Rattle.des_modes.proofs.CfbPlaces.{goes-beyond}
 use Rattle.des_modes.proofs.cfb.CfbMode.decrypt_segments.Goals as goal

@@ -1,5 +1,4 @@
-use Rattle.std.proofs.Common.{◌≡◌, ℕ, ◌+◌, ◌-◌, ◌/◌, ◌%◌, ◌<◌, ◌≤◌, List, length, ap, ap₂, ◌∙◌, arith, bit_xor, get_or}
-use Rattle.std.specs.Prelude.{nat_eq, if◌then◌else◌}
+use Rattle.std.proofs.Common.{◌≡◌, ℕ, ◌+◌, ◌/◌, ◌%◌, ◌≤◌, List, length, ap, ap₂, ◌∙◌, arith, bit_xor, get_or}
 use Rattle.std.proofs.lemmas.Bool.Decides.{nat_tests}
 use Rattle.des_modes.specs.Ofb.{output_block}
 use Rattle.des_modes.proofs.Pieces.{length-behind}
@@ -8,10 +7,6 @@ use Rattle.des_modes.proofs.ofb.OfbModeTakesParts.apply_part.Goals as goal
 pub returns-then-bytes-gt8-clause-goes : goal.returns-then-bytes-gt8-clause-goes
 returns-then-bytes-gt8-clause-goes g c = c.apply_chained.ensures.goes c.args._direction
 
--- few bytes are within a block
-within : (used count : ℕ) → used < 8 → count ≤ 8 → count ≤ (if nat_eq used 0 then 2048 else (8 - used)) → used + count ≤ 8
-within used count fits one few = grind (arith, nat_tests)
-
 pub returns-else-bytes-gt8-clause-goes : goal.returns-else-bytes-gt8-clause-goes
 returns-else-bytes-gt8-clause-goes g c iv = record {
   goes = λ d at.
@@ -19,7 +14,8 @@ returns-else-bytes-gt8-clause-goes g c iv = record {
       let bytes : List ℕ = c.args.bytes.now in
       let n : ℕ = length d in
       let made = c.current-output.ensures iv n at in
-      let here : c.args.place.now.used + length bytes ≤ 8 = within c.args.place.now.used (length bytes) c.requires.fits (omega arith) c.requires.few in
+      -- few bytes are within a block
+      let here : c.args.place.now.used + length bytes ≤ 8 = grind (arith, nat_tests, c.requires.few) in
       let end : n / 8 + 1 ≡ (n + length bytes + 7) / 8 = omega (arith, at.1) in
       rw (length-behind c.args._direction d bytes _ c.xor_block_from.auto.bytes) (
         (made ∙ ap (output_block E iv) end, omega (arith, at.1)),

@@ -5,7 +5,6 @@ use Rattle.des_modes.specs.Modes.{mode_by}
 use Rattle.des_modes.specs.declared.modes.Mode.TheVariants.{BitFeedback}
 use Rattle.des_modes.proofs.OnePlaintext.{InMode-one}
 use Rattle.des_modes.proofs.Pieces.{ciphertext-is}
-use Rattle.des_modes.proofs.StreamPlaces.{size_of-mode_by}
 use Rattle.des_modes.proofs.stream.Stream.apply.Goals as goal
 
 pub returns-clause-begun : goal.returns-clause-begun
