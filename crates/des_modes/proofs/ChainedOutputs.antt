@@ -1,5 +1,5 @@
 -- The output blocks of a feedback are those of OFB, and those of CFB of 64 bits.
-use Rattle.std.proofs.Common.{◌≡◌, ℕ, zero, suc, ◌+◌, ◌*◌, ◌/◌, ◌%◌, ◌<◌, ◌≤◌, List, [], ◌++◌, length, get_or, take, drop, replicate, bit_xor, refl, ap, sym, ◌∙◌, arith, length-drop, length-take-le, take_at}
+use Rattle.std.proofs.Common.{zero-add, suc-add, ◌≡◌, ℕ, zero, suc, ◌+◌, ◌*◌, ◌/◌, ◌%◌, ◌<◌, ◌≤◌, List, [], ◌++◌, length, get_or, take, drop, replicate, bit_xor, refl, ap, sym, ◌∙◌, arith, length-drop, length-take-le, take_at}
 use Rattle.std.proofs.Math.Seq.{drop-append-add}
 use Rattle.std.proofs.lemmas.List.{get_or-take, get_or-drop, get_or_default, length-replicate}
 use Rattle.std.specs.List.{All}
@@ -21,20 +21,16 @@ length-zero_blocks most k few = length-take-le k _ (omega (arith, length-replica
 -- the output blocks go on from one of them
 output_block-further : (E : List ℕ → List ℕ) (iv : List ℕ) (m j : ℕ)
     → output_block E (output_block E iv m) j ≡ output_block E iv (j + m)
-output_block-further E iv m zero = let place : 0 + m ≡ m = omega arith in rw place refl
-output_block-further E iv m (suc j) =
-    let place : suc j + m ≡ suc (j + m) = omega arith in rw place (ap E (output_block-further E iv m j))
+output_block-further E iv m zero = rw (zero-add m) refl
+output_block-further E iv m (suc j) = rw (suc-add j m) (ap E (output_block-further E iv m j))
 
 outputs-from : (E : List ℕ → List ℕ) (v : List ℕ) (q : List (List ℕ)) → AreOutputs E v [] q → All IsBlock q
     → (j : ℕ) → j < length q → get_or q j [] ≡ output_block E v (j + 1)
 outputs-from E v q made are_blocks zero below = made 0 below
 outputs-from E v q made are_blocks (suc j) below =
     let before : j < length q = omega arith in
-    let place : suc j + 1 ≡ suc (j + 1) = omega arith in
-    rw place (
-    made (suc j) below
-    ∙ ap E (xor_blocks-zeros 8 (get_or q j []) (are_blocks j [] before).0 ∙ outputs-from E v q made are_blocks j before)
-    )
+    rw (suc-add j 1) (made (suc j) below
+    ∙ ap E (xor_blocks-zeros 8 (get_or q j []) (are_blocks j [] before).0 ∙ outputs-from E v q made are_blocks j before))
 
 -- the output blocks of a part behind n bytes, of whole blocks
 pub outputs-of_part : (E : List ℕ → List ℕ) (iv last : List ℕ) (n : ℕ) (q : List (List ℕ)) → n % 8 ≡ 0

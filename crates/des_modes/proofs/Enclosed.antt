@@ -5,12 +5,12 @@ use Rattle.std.proofs.lemmas.Grind.{common_steps}
 use Rattle.std.proofs.lemmas.List.{get_or-reverse, reverse-reverse, reverse-append, map-append, length-reverse, same_from_push, take_all, take_more}
 use Rattle.std.proofs.lemmas.List.Elements.{All-cons, All-map}
 use Rattle.des.specs.Blocks.{IsBlock}
-use Rattle.des.specs.Cbc.{CbcDecrypts, next_vector, xor_blocks}
+use Rattle.des.specs.Cbc.{CbcDecrypts}
 use Rattle.des.specs.Laws.BlockBits.{IsBlock-to_be_bytes}
 use Rattle.des.specs.Relations.{IsGraphOf}
 use Rattle.des.proofs.ChainedBlocks.{CbcUnder-weaker, CbcDecrypts-from_Cbc, Cbc-from_CbcDecrypts}
 use Rattle.des.proofs.ChainedPieces.{CbcDecrypts-append}
-use Rattle.des.proofs.CbcDecryptedLists.{cbc_decrypted, CbcDecrypts-cbc_decrypted, cbc_decrypted-from}
+use Rattle.des.proofs.CbcDecryptedLists.{cbc_decrypted, cbc_decrypted-from}
 use Rattle.des_fast.proofs.RelatedCbc.{CbcUnder-related}
 use Rattle.des_modes.specs.CmsKeyWrap.{second_iv, reversed, checksum, Encloses, Wraps}
 use Rattle.des_modes.proofs.TkwSteps.{Undoes}
@@ -58,32 +58,18 @@ module _ {E D : List ℕ → List ℕ} (laws : Undoes E D) where
     cbc_decrypted-from D iv is.temp1 p (CbcDecrypts-from_Cbc E D iv p is.temp1 is_iv is.are_blocks.0 laws.is_block laws.undone is.first),
   )
 
-  Encloses-one : (iv vector : List ℕ) (p other enclosed : List (List ℕ)) → IsBlock iv → IsBlock vector
-      → Encloses (λ block answer. answer ≡ E block) iv p enclosed
-      → Encloses (λ block answer. answer ≡ E block) vector other enclosed → p ≡ other
-  Encloses-one iv vector p other enclosed is_iv is_vector first second =
-      let one = decrypted iv p enclosed is_iv first in
-      let two = decrypted vector other enclosed is_vector second in
-      one.1 ∙ ap (λ (blocks : List (List ℕ)). cbc_decrypted D (get_or blocks 0 []) (drop 1 blocks)) (one.0 ∙ sym two.0) ∙ sym two.1
-
   -- what wraps a key wraps no other, and has its checksum
   pub Wraps-one : (iv vector check : List ℕ) (key other wrapped : List (List ℕ)) → IsBlock iv → IsBlock vector
       → Encloses (λ block answer. answer ≡ E block) iv (key ++ check ∷ []) wrapped → Wraps (λ block answer. answer ≡ E block) vector other wrapped
       → (key ≡ other) × (checksum key ≡ check)
   Wraps-one iv vector check key other wrapped is_iv is_vector opened wraps =
-      let same : key ++ check ∷ [] ≡ other ++ checksum other ∷ [] =
-      Encloses-one iv vector (key ++ check ∷ []) (other ++ checksum other ∷ []) wrapped is_iv is_vector opened wraps in
-      let parts = same_from_push key other check (checksum other) same in
+      let one = decrypted iv (key ++ check ∷ []) wrapped is_iv opened in
+      let two = decrypted vector (other ++ checksum other ∷ []) wrapped is_vector wraps in
+      let parts = same_from_push key other check (checksum other) (one.1
+      ∙ ap (λ (blocks : List (List ℕ)). cbc_decrypted D (get_or blocks 0 []) (drop 1 blocks)) (one.0 ∙ sym two.0) ∙ sym two.1) in
       (parts.0, ap checksum parts.0 ∙ sym parts.1)
 
 -- ---- what opens it
-
--- a list, and a block behind it
-pub cbc_decrypted-behind : (D : List ℕ → List ℕ) (iv : List ℕ) (q p : List (List ℕ)) (block answer : List ℕ) → CbcDecrypts D iv q p
-    → answer ≡ xor_blocks (D block) (next_vector iv q) → CbcDecrypts D iv (q ++ block ∷ []) (p ++ answer ∷ [])
-cbc_decrypted-behind D iv q p block answer cbc_decrypts is =
-    CbcDecrypts-append D iv q p (block ∷ []) (answer ∷ []) cbc_decrypts
-    (CbcDecrypts-cbc_decrypted D (next_vector iv q) (block ∷ []) (answer ∷ []) (ap (λ (x : List ℕ). x ∷ []) is))
 
 -- the first block, and those behind it: x, p and y are their plaintexts
 pub Encloses-opened : {E D : List ℕ → List ℕ} {first x iv behind : List ℕ} {turned enclosed : List (List ℕ)}

@@ -27,10 +27,6 @@ bytes_of_bits (x ∷ a) (y ∷ b) are_a are_b same =
     (omega (arith, number_of-bits_of 8 x, number_of-bits_of 8 y, ap number_of same_byte, are_a 0 0 (omega arith), are_b 0 0 (omega arith)))
     (bytes_of_bits a b (All-tail (λ byte. byte < 256) x a are_a) (All-tail (λ byte. byte < 256) y b are_b) rest)
 
-bytes-one : (p a b : List ℕ) → AreBytes a → AreBytes b → bits_of_bytes (p ++ a) ≡ bits_of_bytes (p ++ b) → a ≡ b
-bytes-one p a b is_a is_b same =
-    bytes_of_bits a b is_a is_b (append_cancel_left (bits_of_bytes p) _ _ (rw (bits-append p a, bits-append p b) at same))
-
 pub InMode-one : (mode : Mode) (E : List ℕ → List ℕ) (iv p one other c : List ℕ) → AreBytes one
     → (mode ≡ BitFeedback → AreBytes other) → InMode mode E iv (p ++ one) c → InMode mode E iv (p ++ other) c → one ≡ other
 InMode-one Counter E iv p one other c is_one is_other made again =
@@ -38,6 +34,7 @@ InMode-one Counter E iv p one other c is_one is_other made again =
 InMode-one OutputFeedback E iv p one other c is_one is_other made again =
     append_cancel_left p one other (Xors-one bytes_undone made again)
 InMode-one BitFeedback E iv p one other c is_one is_other made again =
-    bytes-one p one other is_one (is_other refl) (Xors-one bits_undone made again)
+    bytes_of_bits one other is_one (is_other refl) (append_cancel_left (bits_of_bytes p) _ _
+    (rw (bits-append p one, bits-append p other) at (Xors-one bits_undone made again)))
 InMode-one (CipherFeedback s) E iv p one other c is_one is_other made again =
     append_cancel_left p one other (Xors-one bytes_undone made again)

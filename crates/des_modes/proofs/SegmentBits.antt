@@ -1,5 +1,5 @@
 -- CFB with segments of s bytes is CFB of 8 s bits, of the bits of the bytes.
-use Rattle.std.proofs.Common.{◌≡◌, ℕ, ◌+◌, ◌*◌, ◌<◌, ◌≤◌, List, ◌++◌, length, drop, refl, ap, arith, length-append, length-drop, length-take-le, ◌-◌, ◌/◌, ◌%◌, ◌==◌, get_or, ◌∙◌}
+use Rattle.std.proofs.Common.{zero-add, ◌≡◌, ℕ, ◌+◌, ◌*◌, ◌<◌, ◌≤◌, List, ◌++◌, length, drop, refl, ap, arith, length-append, length-drop, length-take-le, ◌-◌, ◌/◌, ◌%◌, ◌==◌, get_or, ◌∙◌}
 use Rattle.std.proofs.lemmas.List.Elements.{All-append, All-take, All-drop}
 use Rattle.des.specs.Blocks.{AreBytes, IsBlock, block_of_bits}
 use Rattle.des.specs.Laws.BlockBits.{block_of_bits-bits_of_bytes}
@@ -46,12 +46,10 @@ CfbBits-from_Cfb s E iv p c some short is_iv are_bytes makes_blocks cfb = record
       let begun : s * (b / s) ≤ length c = omega (arith, mul-div-le b s, cfb.count) in
       let output : List ℕ = E (input_block s iv c (b / s)) in
       let is_block : IsBlock output = makes_blocks _ (IsBlock-input_block s iv c (b / s) is_iv are_bytes begun) in
-      let here : 0 + i ≡ i = omega arith in
-      let byte : 0 + b ≡ b = omega arith in
       let stream : cfb_bits (8 * s) E iv (bits_of_bytes c) (0 + i) ≡ (bit_at (get_or output (b % s) 0) k == 1) =
-      rw (here, ← div-div-eq-div-mul i 8 s, place_of_bit s i some, input_bits-bits s iv c (b / s) is_iv are_bytes begun)
+      rw (zero-add i, ← div-div-eq-div-mul i 8 s, place_of_bit s i some, input_bits-bits s iv c (b / s) is_iv are_bytes begun)
       (block_bit-at output (b % s) (i % 8) _ refl (omega (arith, is_block.0, mod-lt b some)) (omega arith)) in
       let block = block_bit_of_byte c i (omega (arith, length-bits_of_bytes p, cfb.count)) in
-      rw (stream, block, block_bit_of_byte p i (omega (arith, length-bits_of_bytes p)), cfb.xored b inside, byte)
+      rw (stream, block, block_bit_of_byte p i (omega (arith, length-bits_of_bytes p)), cfb.xored b inside, zero-add b)
       (bit_at-xor (get_or p b 0) (get_or output (b % s) 0) k);
 }

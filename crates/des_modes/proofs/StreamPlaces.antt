@@ -28,8 +28,7 @@ InMode-none (CipherFeedback s) encryption iv = Xors-none 0 _
 
 -- before a segment of cipher feedback
 pub mode_by-cfb : (s : ℕ) → 1 ≤ s → mode_by (CFB1 + s) ≡ CipherFeedback s
-mode_by-cfb s some =
-    grind (arith, nat_tests)
+mode_by-cfb s some = grind (arith, nat_tests)
 
 pub IsPlace-cfb : (s : ℕ) (encryption : List ℕ → List ℕ) (iv c : List ℕ) (place : Place) → length c % s ≡ 0
     → place.register ≡ drop (length c) (iv ++ c) → place.used ≡ 0 → IsPlace (CipherFeedback s) encryption iv c place

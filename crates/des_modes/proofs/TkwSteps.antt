@@ -72,8 +72,7 @@ IsSemiblock-number t = (refl, AreBytes-bytes_high_first 4 t)
 
 -- the halves of a block
 high_half : (block : List ℕ) → IsBlock block → IsSemiblock (take 4 block)
-high_half block is =
-    (length-take-le 4 block (omega (arith, is.0)), All-take (λ byte. byte < 256) 4 block is.1)
+high_half block is = (length-take-le 4 block (omega (arith, is.0)), All-take (λ byte. byte < 256) 4 block is.1)
 
 low_half : (block : List ℕ) → IsBlock block → IsSemiblock (drop 4 block)
 low_half block is = (omega (arith, is.0, length-drop 4 block), All-drop (λ byte. byte < 256) 4 block is.1)
