@@ -1,5 +1,4 @@
--- The output blocks of OFB and of CFB of 64 bits (FIPS 81), numbered from 0. P is the plaintext, with zeros behind its end: that of
--- OFB is empty.
+-- The output blocks of OFB and of CFB of 64 bits (FIPS 81), from 0. P is the plaintext, zeros behind its end: that of OFB is empty.
 use Rattle.std.specs.Prelude.{◌≡◌, ℕ, zero, suc, ◌<◌, List, [], length, slice_index_or, replicate}
 use Rattle.des.specs.Cbc.{xor_blocks}
 
