@@ -135,7 +135,9 @@ const OTHER_NAMES: &[(&str, &str)] = &[
     ("-pbkdf2", "--derive"),
     ("-iter", "--derive"),
     ("-nosalt", "--no-salt"),
-    ("-nopad", "--padding none"),
+    ("-nopad", "--padding none, of ECB and CBC"),
+    ("--counter", "--iv"),
+    ("--nonce", "--iv"),
     ("--pin", "standard input or --pin-file"),
     ("--ksn", "the key serial number without an option"),
 ];

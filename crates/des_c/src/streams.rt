@@ -34,7 +34,8 @@ pub extern "C" fn cukvashe_stream_begin(stream: &mut Stream, mode: u32, iv: &[u8
     stream_modes::begin(stream, mode, iv)
 }
 
-/// Begins a stream of the counter mode after `blocks` blocks, whose first counter block is `counter`.
+/// Begins a stream of the counter mode `blocks` blocks into the text whose first counter block is
+/// `counter`.
 #[unsafe(no_mangle)]
 pub extern "C" fn cukvashe_stream_begin_ctr_at(stream: &mut Stream, counter: &[u8; 8], blocks: u64)
     ensures { (encryption : List ℕ → List ℕ) (p c : List ℕ) → length p ≡ 8 * blocks → AreBytes c

@@ -3,7 +3,7 @@ use Rattle.std.proofs.Common.{rules, ◌≡◌, ℕ, zero, suc, ◌+◌, ◌<◌
 use Rattle.std.proofs.lemmas.List.{get_or_default, get_or_past, get_or-set_same}
 use Rattle.std.specs.Int.Bits.{xor_zero_l}
 use Rattle.des.specs.Cbc.{xor_blocks}
-use Rattle.des_fast.specs.Feedback.{register_before}
+use Rattle.des_fast.specs.ChainingValues.{register_before}
 
 pub xor_blocks-zeros : (n : ℕ) (block : List ℕ) → length block ≡ n → xor_blocks (replicate n 0) block ≡ block
 unfolding xor_blocks

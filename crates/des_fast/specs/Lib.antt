@@ -21,6 +21,5 @@ pub mod GroupBytes
 pub mod SideBySide
 pub mod Beside
 pub mod TableBlocks
-pub mod Feedback
 pub mod JoinedEntries
 pub mod ChosenTerms

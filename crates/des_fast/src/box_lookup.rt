@@ -4,7 +4,7 @@ ghost use Rattle.std.specs.Prelude.{◌≡◌, ◌≤◌, ℕ, length, map};
 ghost use Rattle.std.specs.List.{All};
 ghost use Rattle.des.specs.Blocks.{IsBlock};
 ghost use Rattle.des.specs.Cbc.{Cbc};
-ghost use Rattle.des_fast.specs.Feedback.{AreOutputs};
+ghost use Rattle.des_fast.specs.ChainingValues.{AreOutputs};
 
 use crate::beside::Beside;
 use crate::chained_halves;

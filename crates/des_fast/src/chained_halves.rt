@@ -12,7 +12,7 @@ ghost use Rattle.des.specs.Blocks.{IsBlock};
 ghost use Rattle.des.specs.Cbc.{Cbc, xor_blocks};
 ghost use Rattle.des_fast.specs.Groups.{half_of};
 ghost use Rattle.des_fast.specs.HalfBlocks.{last_block};
-ghost use Rattle.des_fast.specs.Feedback.{AreOutputs};
+ghost use Rattle.des_fast.specs.ChainingValues.{AreOutputs};
 ghost use Rattle.des_fast.specs.SideBySide.{AreExpansions, AreHalvesOf};
 ghost use Rattle.des_fast.specs.Slices.{InEachBlock};
 

@@ -23,7 +23,7 @@ ghost use Rattle.std.specs.List.{All};
 ghost use Rattle.des.specs.Blocks.{AnswersEach, IsBlock};
 ghost use Rattle.des.specs.Cbc.{Cbc, CbcUnder, CbcDecrypts, xor_blocks};
 ghost use Rattle.des.specs.Relations.{IsTheOne};
-ghost use Rattle.des_fast.specs.Feedback.{AreOutputs};
+ghost use Rattle.des_fast.specs.ChainingValues.{AreOutputs};
 ghost use Rattle.des_fast.specs.SpreadKeys.{AreSlicesFor};
 
 mod batches;

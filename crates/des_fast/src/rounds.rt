@@ -223,9 +223,8 @@ fn keyed_rounds<G: Groups>(
 {
     let mut keyed_left = Keyed::new(left, round_key_of(round_keys, deciphers, 1));
     let mut keyed_right = Keyed::new(right, round_key_of(round_keys, deciphers, 0));
-    // `right_after` are the right halves with the key of their next turn, made while the
-    // lookups of `keyed_right` are under way: were the key changed between two rounds, the second would
-    // wait for it. The last
+    // `right_after` are the right halves with the key of their next turn, made while the lookups of
+    // `keyed_right` are under way: a key changed between two rounds would make the second wait. The last
     // index wraps round: after the last round no key is next, and `halves` takes that out.
     let mut right_after = keyed_right.with_key(round_key_of(round_keys, deciphers, 2));
     for i in 0..7usize {

@@ -13,11 +13,10 @@ ghost use Rattle.des_fast.specs.Groups.{IsOfGroups, IsExpansion, bits_of_groups,
 ghost use Rattle.des_fast.specs.CombinedTables.{combined_tables};
 ghost use Rattle.des_fast.specs.SideBySide.{IsSubstitutedInto};
 
-/// For each box S1 to S8 and each group of six bits, as they stand (the first of them the highest):
-/// the word of groups of E of P of the four bits of the box's entry in their place, with zeros in
-/// the places of the other boxes (FIPS 46-3, S-boxes, and the tables P and E). Each entry is what
-/// `combined_table` of `specs/CombinedTables.antt` computes, which the clause `tables` of
-/// `substitute` says of all.
+/// For each box S1 to S8 and each group of six bits, read as a number whose highest bit is the first:
+/// what the box gives, put through P and E with zeros from the other boxes, as a word of groups (FIPS
+/// 46-3, S-boxes, and the tables P and E). `combined_tables` of `specs/CombinedTables.antt` computes
+/// them, as the clause `tables` of `substitute` says.
 #[rattlefmt::skip]
 pub(crate) static TABLES: [[u64; 64]; 8] = [
     // S1
@@ -174,8 +173,8 @@ pub(crate) static TABLES: [[u64; 64]; 8] = [
     ],
 ];
 
-/// The substitution by S1 to S8 of the 48 bits in a word of groups, and P after it, as the word of
-/// groups of its expansion E (FIPS 46-3, cipher function).
+/// S1 to S8 of the 48 bits in a word of groups, then P, and then E of that, as a word of groups (FIPS
+/// 46-3, cipher function).
 #[inline]
 pub(crate) fn substitute(word: u64) -> u64
     requires { IsOfGroups word }
@@ -184,9 +183,8 @@ pub(crate) fn substitute(word: u64) -> u64
     ensures substituted { half_of result ≡ select permutation (substitute (bits_of_groups word)) }
 {
     let group = groups_of(word);
-    // Entries of different boxes share no bit, so `|` joins them as `^` does. Of one operation
-    // alone the compiler makes a row, where each waits for the one before it; of both it keeps the
-    // tree.
+    // Entries of different boxes share no bit, so `|` joins them as `^` does. The compiler turns a tree
+    // of one operation into a row, in which each waits for the one before it, and keeps a tree of two.
     let even = (TABLES[7][group[7]] | TABLES[5][group[5]])
         ^ (TABLES[3][group[3]] | TABLES[1][group[1]]);
     let odd = (TABLES[6][group[6]] | TABLES[4][group[4]])
@@ -213,7 +211,7 @@ pub(crate) fn xor_substituted(left: u64, right: u64) -> u64
         ^ TABLES[4][group[4]]
 }
 
-// The groups of a word of groups, in their order.
+// The groups of a word of groups, in their order: for one block.
 #[inline]
 fn groups_of(word: u64) -> [usize; 8]
     requires { IsOfGroups word }
@@ -233,7 +231,7 @@ fn groups_of(word: u64) -> [usize; 8]
     ]
 }
 
-// The same, by the halves of the word.
+// The same by the halves of the word, in fewer instructions: for blocks side by side.
 #[inline]
 fn groups_of_halves(word: u64) -> [usize; 8]
     requires { IsOfGroups word }
@@ -246,9 +244,10 @@ fn groups_of_halves(word: u64) -> [usize; 8]
     [first, second, third, fourth, fifth, sixth, seventh, eighth]
 }
 
-// The bytes of half a word, the most significant first. x86-64 takes each of the last two bytes of a
-// register in one instruction, and the rotation brings the first two there. The third is taken of it
-// too: were only its last two bytes used, the compiler would make shifts and masks of the rotation.
+// The bytes of half a word, the most significant first. x86-64 takes either of the last two bytes of a
+// register in one instruction, and the rotation brings the first two there. The third is taken from
+// the rotated word as well: if only its last two bytes were used, the compiler would turn the rotation
+// into shifts and masks.
 #[inline(always)]
 fn bytes_of(half: u32) -> [usize; 4]
     ensures { result ≡ to_be_bytes w32 half }

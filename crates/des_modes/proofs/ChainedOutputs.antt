@@ -6,7 +6,7 @@ use Rattle.std.specs.List.{All}
 use Rattle.des.specs.Blocks.{IsBlock}
 use Rattle.des.specs.Cbc.{xor_blocks}
 use Rattle.des.proofs.XoredBlocks.{xor_blocks-from_bytes}
-use Rattle.des_fast.specs.Feedback.{AreOutputs}
+use Rattle.des_fast.specs.ChainingValues.{AreOutputs}
 use Rattle.des_fast.proofs.OutputBlocks.{xor_blocks-zeros}
 use Rattle.des_modes.specs.Ofb.{output_block}
 

@@ -2,7 +2,7 @@
 //! waits for the one before it.
 
 ghost use Rattle.std.specs.Prelude.{◌≡◌, slice_index_or, replicate};
-ghost use Rattle.des_fast.specs.Feedback.{AreOutputs};
+ghost use Rattle.des_fast.specs.ChainingValues.{AreOutputs};
 
 use des::cbc;
 use des::cipher::BlockCipherEncrypt;

@@ -1,5 +1,5 @@
 use Rattle.std.proofs.Common.{rules, ℕ, ◌<◌, List, ◌∙◌, length, arith}
-use Rattle.des_fast.specs.Feedback.{register_before}
+use Rattle.des_fast.specs.ChainingValues.{register_before}
 use Rattle.des_fast.specs.SideBySide.{AreHalvesOf}
 use Rattle.des_fast.proofs.OutputBlocks.{outputs-next, register-next, register-behind}
 use Rattle.des_fast.proofs.chained_halves.write_outputs.Goals as goal

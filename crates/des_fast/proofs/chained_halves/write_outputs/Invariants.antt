@@ -1,6 +1,6 @@
 -- The outputs before the index are written, and the halves are those of what the register holds.
 use Rattle.std.proofs.Common.{◌≡◌, ℕ, ◌<◌, [], get_or}
-use Rattle.des_fast.specs.Feedback.{register_before}
+use Rattle.des_fast.specs.ChainingValues.{register_before}
 use Rattle.des_fast.specs.SideBySide.{AreExpansions, AreHalvesOf}
 use Rattle.des_fast.proofs.chained_halves.write_outputs.Given as goal
 

@@ -1,6 +1,6 @@
 -- The outputs before the index are written.
 use Rattle.std.proofs.Common.{◌≡◌, ℕ, ◌<◌, [], get_or}
-use Rattle.des_fast.specs.Feedback.{register_before}
+use Rattle.des_fast.specs.ChainingValues.{register_before}
 use Rattle.des_modes.proofs.feedback.Feedback.write_outputs.Given as goal
 
 abbrev pub invariant-loop-j : goal.invariant-loop-j

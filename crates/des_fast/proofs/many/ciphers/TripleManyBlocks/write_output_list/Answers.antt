@@ -1,5 +1,5 @@
 use Rattle.std.proofs.Common.{ℕ, List, subst}
-use Rattle.des_fast.specs.Feedback.{AreOutputs}
+use Rattle.des_fast.specs.ChainingValues.{AreOutputs}
 use Rattle.des_fast.proofs.many.ciphers.TripleManyBlocks.write_output_list.Goals as goal
 
 pub returns-then-no_tables : goal.returns-then-no_tables
