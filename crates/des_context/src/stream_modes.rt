@@ -6,7 +6,7 @@
 ghost use Rattle.std.specs.Prelude.{◌≡◌, ◌≢◌, ◌↔◌, ◌≤◌, ◌*◌, ◌++◌, ℕ, Bool, List, [], length, drop};
 ghost use Rattle.des.specs.Bits.{bits_of_bytes};
 ghost use Rattle.des_modes.specs.Cfb.{first_bits};
-ghost use Rattle.des_modes.specs.Directions.{plaintext, ciphertext};
+ghost use Rattle.des_modes.specs.Streams.{plaintext, ciphertext};
 ghost use Rattle.des_modes.specs.Modes.{InModeUnder, IsMode, mode_by};
 ghost use Rattle.des_modes.specs.States.{HasBegun, IsBitStreamAt, IsInMode, IsStreamAt};
 ghost use Rattle.des_modes.specs.declared.modes.Mode.TheVariants.{BitFeedback};

@@ -1,7 +1,7 @@
 -- Bytes that go from a reader through a mode that makes a stream cipher of a block cipher, to a writer.
 use Rattle.std.specs.Prelude.{◌≡◌, ◌⊎◌, ℕ, ◌≤◌, List, [], ◌++◌, length}
 use Rattle.std.specs.Io.KnownBytes.{Consumes, Appends, IsAtEnd}
-use Rattle.des_modes.specs.Directions.{plaintext, ciphertext}
+use Rattle.des_modes.specs.Streams.{plaintext, ciphertext}
 use Rattle.des_modes.specs.States.{IsStreamAt}
 use Rattle.des_modes.specs.declared.direction.Direction.{Direction}
 use Rattle.des_modes.specs.declared.stream.Stream.{Stream}

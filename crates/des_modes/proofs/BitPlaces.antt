@@ -15,7 +15,7 @@ use Rattle.des.specs.Laws.BlockBits.{block_of_bits-bits_of_bytes, slice_index-lt
 use Rattle.des.proofs.BitParts.{get_or-bits_of, bit_at-xor, drop-bits_of, bits_of-or_shl}
 use Rattle.des_fast.proofs.XoredLists.{xor-false}
 use Rattle.des_modes.specs.Cfb.{block_bit, first_bits}
-use Rattle.des_modes.specs.Directions.{plaintext, ciphertext}
+use Rattle.des_modes.specs.Streams.{plaintext, ciphertext}
 use Rattle.des_modes.specs.declared.direction.Direction.{Direction}
 use Rattle.des_modes.specs.declared.direction.Direction.TheVariants.{Encrypt, Decrypt}
 

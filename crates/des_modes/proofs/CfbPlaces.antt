@@ -3,14 +3,13 @@ use Rattle.std.proofs.Common.{◌≡◌, ℕ, ◌+◌, ◌*◌, ◌/◌, ◌%◌
 use Rattle.std.proofs.lemmas.List.{drop-drop, drop-append-le, take-append-le, take_all}
 use Rattle.std.proofs.lemmas.Nat.{div_below, div-add-mod', div-mul-add, mod-mul-add}
 use Rattle.std.proofs.Math.Nat.{mul-div-le, mul-add, mul-add-div, mod-add-mod, div-add-mod, div-eq_of_lt, div-one, mod-one}
-use Rattle.des_modes.specs.Streams.{GoesOn, Xors}
+use Rattle.des_modes.specs.Streams.{GoesOn, Xors, ciphertext}
 use Rattle.des_modes.specs.Cfb.{block_bit, cfb_bits, cfb_stream, input_block}
 use Rattle.des_modes.specs.States.{HoldsLastBits, IsAtSegment}
 use Rattle.des_modes.proofs.Pieces.{GoesByFront, Xors-single, texts-map}
 use Rattle.des.specs.Bits.{bits_of_bytes, xor}
 use Rattle.des.specs.Blocks.{block_of_bits}
 use Rattle.des.specs.Laws.BitLists.{length-bits_of_bytes}
-use Rattle.des_modes.specs.Directions.{ciphertext}
 use Rattle.des_modes.specs.declared.direction.Direction.{Direction}
 
 -- what stands behind n + m bytes of IV | C, where C goes on: what stands behind m of the register and

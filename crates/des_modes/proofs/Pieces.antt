@@ -7,10 +7,9 @@ use Rattle.std.proofs.lemmas.List.{get_or-append_right, ext_get_or, append-nil, 
 use Rattle.des.specs.Bits.{xor}
 use Rattle.des.proofs.KeyParts.{get_or-first_chunks}
 use Rattle.std.proofs.lemmas.List.{get_or-take}
-use Rattle.des_modes.specs.Streams.{GoesOn, Xors}
+use Rattle.des_modes.specs.Streams.{GoesOn, Xors, ciphertext, plaintext}
 use Rattle.std.proofs.lemmas.Slice.{take-put_mid, drop-put_mid}
 use borrow.Rule.Slice.PartMut.{put_mid, mid_of}
-use Rattle.des_modes.specs.Directions.{plaintext, ciphertext}
 use Rattle.des_modes.specs.declared.direction.Direction.{Direction}
 use Rattle.des_modes.specs.declared.direction.Direction.TheVariants.{Encrypt, Decrypt}
 

@@ -1,4 +1,3 @@
-pub mod Directions
 pub mod Streams
 pub mod Ctr
 pub mod Ofb

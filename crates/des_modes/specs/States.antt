@@ -13,10 +13,6 @@ use Rattle.des_modes.specs.declared.place.Place.{Place}
 use Rattle.des_modes.specs.declared.stream.Stream.{Stream}
 use Rattle.des_modes.specs.declared.stream.TheConstants.{MARK}
 
--- CTR, n bytes behind: the number is the counter of the block in which byte n stands, of whose output block n modulo 8 are taken
-abbrev pub IsAtCounter : List ℕ → ℕ → ℕ → ℕ → Type 0
-IsAtCounter t n number taken = (number ≡ (from_be_bytes w64 t + n / 8) % 2 ^ 64) × (taken ≡ n % 8)
-
 -- OFB, n bytes behind: the block is the last output block that they took from, of which n modulo 8 are taken, 0 for all
 abbrev pub IsAtOutput : (List ℕ → List ℕ) → List ℕ → ℕ → List ℕ → ℕ → Type 0
 IsAtOutput encryption iv n last taken = (last ≡ output_block encryption iv ((n + 7) / 8)) × (taken ≡ n % 8)
@@ -46,7 +42,8 @@ HasBegun stream = (stream.mark ≡ MARK) × IsMode stream.mode × (stream.place.
 
 -- a place in its mode: in its register the counter, the last output block, or the last eight bytes of IV | C
 abbrev pub IsPlace : Mode → (List ℕ → List ℕ) → List ℕ → List ℕ → Place → Type 0
-IsPlace Counter encryption iv c place = IsAtCounter iv (length c) (from_be_bytes w64 place.register) place.used
+IsPlace Counter encryption iv c place =
+    (from_be_bytes w64 place.register ≡ (from_be_bytes w64 iv + length c / 8) % 2 ^ 64) × (place.used ≡ length c % 8)
 IsPlace OutputFeedback encryption iv c place = IsAtOutput encryption iv (length c) place.register place.used
 IsPlace BitFeedback encryption iv c place = HoldsLastBits iv (bits_of_bytes c) place.register × (place.used ≡ 0)
 IsPlace (CipherFeedback s) encryption iv c place = IsAtSegment s encryption iv c place.register place.output place.used

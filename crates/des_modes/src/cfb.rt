@@ -3,9 +3,8 @@
 
 ghost use Rattle.std.specs.Prelude.{◌≡◌, ◌<◌, ◌≤◌, ◌+◌, ◌-◌, ◌*◌, ◌/◌, ◌%◌, ℕ, List, [], ◌++◌, length, take, drop, slice_index_or, nat_eq, if◌then◌else◌, bit_xor};
 ghost use Rattle.des_modes.specs.Cfb.{cfb_stream, input_block};
-ghost use Rattle.des_modes.specs.Directions.{plaintext};
 ghost use Rattle.des_modes.specs.States.{IsPlace};
-ghost use Rattle.des_modes.specs.Streams.{GoesOn};
+ghost use Rattle.des_modes.specs.Streams.{GoesOn, plaintext};
 ghost use Rattle.des_modes.specs.declared.direction.Direction.TheVariants.{Encrypt, Decrypt};
 ghost use Rattle.des_modes.specs.declared.modes.Mode.TheVariants.{CipherFeedback};
 

@@ -5,7 +5,7 @@ ghost use Rattle.std.specs.Prelude.{◌≡◌, ◌<◌, ◌≤◌, ◌*◌, ◌+
 ghost use Rattle.des.specs.Bits.{bits_of_bytes, xor};
 ghost use Rattle.des.specs.Blocks.{block_of_bits};
 ghost use Rattle.des_modes.specs.Cfb.{CfbBits, block_bit, first_bits};
-ghost use Rattle.des_modes.specs.Directions.{plaintext, ciphertext};
+ghost use Rattle.des_modes.specs.Streams.{plaintext, ciphertext};
 ghost use Rattle.des_modes.specs.States.{HoldsLastBits};
 
 use crate::direction::Direction;

@@ -1,7 +1,7 @@
 //! The two directions of a mode.
 
 ghost use Rattle.std.specs.Prelude.{◌≡◌};
-ghost use Rattle.des_modes.specs.Directions.{ciphertext as ciphertext_of};
+ghost use Rattle.des_modes.specs.Streams.{ciphertext as ciphertext_of};
 
 /// Whether a text is encrypted or decrypted.
 #[derive(Clone, Copy)]

@@ -5,7 +5,7 @@ ghost use Rattle.des.specs.Bits.{bits_of_bytes};
 ghost use Rattle.des.specs.Blocks.{AreBytes, IsBlock};
 ghost use Rattle.des_modes.specs.Cfb.{Cfb, CfbBits, cfb_bits, first_bits};
 ghost use Rattle.des_modes.specs.Ctr.{Ctr};
-ghost use Rattle.des_modes.specs.Directions.{plaintext, ciphertext};
+ghost use Rattle.des_modes.specs.Streams.{plaintext, ciphertext};
 ghost use Rattle.des_modes.specs.Modes.{InMode, IsMode};
 ghost use Rattle.des_modes.specs.States.{HasBegun, HoldsLastBits, IsBitStreamAt, IsInMode, IsPlace, IsStreamAt, size_of};
 ghost use Rattle.des_modes.specs.declared.modes.Mode.TheVariants.{BitFeedback};

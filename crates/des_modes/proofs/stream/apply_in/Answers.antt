@@ -1,6 +1,6 @@
 use Rattle.std.proofs.Common.{refl, arith}
 use Rattle.des.specs.Bits.{bits_of_bytes}
-use Rattle.des_modes.specs.Directions.{plaintext, ciphertext}
+use Rattle.des_modes.specs.Streams.{plaintext, ciphertext}
 use Rattle.des_modes.proofs.BitPlaces.{bits-append, first_bits-all}
 use Rattle.des_modes.proofs.CfbPlaces.{cfb_stream-front}
 use Rattle.des_modes.proofs.Pieces.{GoesOn-whole, bytes_undone}
