@@ -73,6 +73,7 @@ pub block_bit_of_byte : (bytes : List ℕ) (i : ℕ) → i < 8 * length bytes
     → block_bit bytes i ≡ (bit_at (get_or bytes (i / 8) 0) (7 - i % 8) == 1)
 block_bit_of_byte bytes i within = block_bit-at bytes (i / 8) (i % 8) i (omega arith) (omega arith) (omega arith)
 
+-- a block is the block of its bits
 pub ruleset bits_of_a_block = (block_of_bits-bits_of_bytes)
 
 -- ---- a bit that is changed

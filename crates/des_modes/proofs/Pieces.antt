@@ -3,16 +3,16 @@ use Rattle.std.proofs.Common.{◌≡◌, inl, inr, ℕ, ◌+◌, ◌-◌, ◌<�
 use Rattle.std.specs.Int.Bits.{xor_self, xor_assoc, xor_zero_r}
 use Rattle.std.proofs.Math.ListN.{get_or-append}
 use Rattle.std.proofs.lemmas.Bool.{cases_lt}
-use Rattle.std.proofs.lemmas.List.{get_or-append_right, ext_get_or, append-nil, take_all, take_more_set, drop-drop, drop-set-lt, drop_more}
+use Rattle.std.proofs.lemmas.List.{get_or-append_right, get_or-take, ext_get_or, append-nil, take_all, take_more_set, drop-drop, drop-set-lt, drop_more}
 use Rattle.des.specs.Bits.{xor}
 use Rattle.des.proofs.KeyParts.{get_or-first_chunks}
-use Rattle.std.proofs.lemmas.List.{get_or-take}
 use Rattle.des_modes.specs.Streams.{GoesOn, Xors, ciphertext, plaintext}
 use Rattle.std.proofs.lemmas.Slice.{take-put_mid, drop-put_mid}
 use borrow.Rule.Slice.PartMut.{put_mid, mid_of}
 use Rattle.des_modes.specs.declared.direction.Direction.{Direction}
 use Rattle.des_modes.specs.declared.direction.Direction.TheVariants.{Encrypt, Decrypt}
 
+-- the eight bytes that stand at a place among the first ones
 pub ruleset chunks = (get_or-take, get_or-first_chunks)
 
 -- ---- the xor undoes itself
