@@ -11,7 +11,7 @@ ghost use Rattle.des_context.specs.Bytes.{blocks_of};
 ghost use Rattle.des_context.specs.CipherTypes.{relation_of};
 ghost use Rattle.des_c.specs.KeyWraps.{semiblocks_of, IsCmsKeyLength, IsProtectionLength, IsTkwKeyLength};
 
-use des::cipher::Relating;
+use des::cipher::KeyInit;
 use des_context::status::{
     ERR_BLOCKS, ERR_CAPACITY, ERR_KEY_LENGTH, ERR_PROTECTION_KEY_LENGTH, ERR_WRAPPED_KEY,
     ERR_WRAPPED_LENGTH, OK,
@@ -19,63 +19,14 @@ use des_context::status::{
 use des_fast::no_tables::{TdesEde2, TdesEde3};
 use des_modes::{UnwrapError, by_key};
 
-// Each call by a cipher whose key the protection key is.
-fn wrap_cms_as<C: Relating + Drop>(
-    protection: &[u8],
-    iv: &[u8; 8],
-    key: &[[u8; 8]],
-    wrapped: &mut [[u8; 8]],
-)
-    requires protection { length protection.now ≡ C.KEY_SIZE }
-    requires count { length wrapped.old ≡ length key.now + 2 }
-    ensures { Wraps (C.relation protection.now) iv.now key.now wrapped.new }
-{
-    by_key::wrap_cms(&C::new_from_slice(protection).unwrap(), iv, key, wrapped);
-}
-
-fn unwrap_cms_as<C: Relating + Drop>(
-    protection: &[u8],
-    wrapped: &[[u8; 8]],
-    key: &mut [[u8; 8]],
-) -> Result<(), UnwrapError>
-    requires protection { length protection.now ≡ C.KEY_SIZE }
-    requires count { length wrapped.now ≡ length key.old + 2 }
-    ensures unwrapped { OnOk result ((iv : List ℕ) × IsBlock iv
-        × Wraps (C.relation protection.now) iv key.new wrapped.now) }
-    ensures accepted { (iv : List ℕ) (other : List (List ℕ)) → IsBlock iv
-        → Wraps (C.relation protection.now) iv other wrapped.now
-        → IsOk result × (key.new ≡ other) }
-    ensures none { OnErr result (key.new ≡ replicate (length key.old) (replicate 8 0)) }
-{
-    by_key::unwrap_cms(&C::new_from_slice(protection).unwrap(), wrapped, key)
-}
-
-fn wrap_tkw_as<C: Relating + Drop>(protection: &[u8], key: &[[u8; 4]], wrapped: &mut [[u8; 4]])
-    requires protection { length protection.now ≡ C.KEY_SIZE }
-    requires some { 2 ≤ length key.now }
-    requires few { length key.now < 2 ^ 28 }
-    requires count { length wrapped.old ≡ length key.now + 1 }
-    ensures { TkwUnder (C.relation protection.now) key.now wrapped.new }
-{
-    by_key::wrap_tkw(&C::new_from_slice(protection).unwrap(), key, wrapped);
-}
-
-fn unwrap_tkw_as<C: Relating + Drop>(
-    protection: &[u8],
-    wrapped: &[[u8; 4]],
-    key: &mut [[u8; 4]],
-) -> Result<(), UnwrapError>
-    requires protection { length protection.now ≡ C.KEY_SIZE }
-    requires some { 2 ≤ length key.old }
-    requires few { length key.old < 2 ^ 28 }
-    requires count { length wrapped.now ≡ length key.old + 1 }
-    ensures unwrapped { OnOk result (TkwUnder (C.relation protection.now) key.new wrapped.now) }
-    ensures accepted { (other : List (List ℕ)) → All IsSemiblock other
-        → TkwUnder (C.relation protection.now) other wrapped.now
-        → IsOk result × (key.new ≡ other) }
-    ensures none { OnErr result (key.new ≡ replicate (length key.old) (replicate 4 0)) }
-{
-    by_key::unwrap_tkw(&C::new_from_slice(protection).unwrap(), wrapped, key)
+// Calls with the cipher of a protection key.
+macro_rules! by_cipher_of {
+    ($protection:ident, $call:ident($($argument:expr),*)) => {
+        match $protection.len() {
+            16 => by_key::$call(&TdesEde2::new_from_slice($protection).unwrap(), $($argument),*),
+            _ => by_key::$call(&TdesEde3::new_from_slice($protection).unwrap(), $($argument),*),
+        }
+    };
 }
 
 // Each call by the cipher of a protection key of two parts or three.
@@ -84,10 +35,7 @@ fn wrap_cms(protection: &[u8], iv: &[u8; 8], key: &[[u8; 8]], wrapped: &mut [[u8
     requires count { length wrapped.old ≡ length key.now + 2 }
     ensures { Wraps (relation_of protection.now) iv.now key.now wrapped.new }
 {
-    match protection.len() {
-        16 => wrap_cms_as::<TdesEde2>(protection, iv, key, wrapped),
-        _ => wrap_cms_as::<TdesEde3>(protection, iv, key, wrapped),
-    }
+    by_cipher_of!(protection, wrap_cms(iv, key, wrapped))
 }
 
 fn unwrap_cms(
@@ -104,10 +52,7 @@ fn unwrap_cms(
         → IsOk result × (key.new ≡ other) }
     ensures none { OnErr result (key.new ≡ replicate (length key.old) (replicate 8 0)) }
 {
-    match protection.len() {
-        16 => unwrap_cms_as::<TdesEde2>(protection, wrapped, key),
-        _ => unwrap_cms_as::<TdesEde3>(protection, wrapped, key),
-    }
+    by_cipher_of!(protection, unwrap_cms(wrapped, key))
 }
 
 fn wrap_tkw(protection: &[u8], key: &[[u8; 4]], wrapped: &mut [[u8; 4]])
@@ -117,10 +62,7 @@ fn wrap_tkw(protection: &[u8], key: &[[u8; 4]], wrapped: &mut [[u8; 4]])
     requires count { length wrapped.old ≡ length key.now + 1 }
     ensures { TkwUnder (relation_of protection.now) key.now wrapped.new }
 {
-    match protection.len() {
-        16 => wrap_tkw_as::<TdesEde2>(protection, key, wrapped),
-        _ => wrap_tkw_as::<TdesEde3>(protection, key, wrapped),
-    }
+    by_cipher_of!(protection, wrap_tkw(key, wrapped))
 }
 
 fn unwrap_tkw(
@@ -138,10 +80,7 @@ fn unwrap_tkw(
         → IsOk result × (key.new ≡ other) }
     ensures none { OnErr result (key.new ≡ replicate (length key.old) (replicate 4 0)) }
 {
-    match protection.len() {
-        16 => unwrap_tkw_as::<TdesEde2>(protection, wrapped, key),
-        _ => unwrap_tkw_as::<TdesEde3>(protection, wrapped, key),
-    }
+    by_cipher_of!(protection, unwrap_tkw(wrapped, key))
 }
 
 /// Wraps a key of one block or more by the key wrap of CMS, at the front of a buffer, and writes how many

@@ -23,7 +23,7 @@ pub extern "C" fn cukvashe_internal_pad(
     ensures accepted { (result ≡ OK)
         ↔ (IsMethod method × padded_length_of count ≤ length buffer.old) }
     ensures unknown { (result ≡ ERR_PADDING_METHOD) ↔ ¬ (IsMethod method) }
-    ensures no_room { (result ≡ ERR_CAPACITY)
+    ensures capacity { (result ≡ ERR_CAPACITY)
         ↔ (IsMethod method × length buffer.old < padded_length_of count) }
     ensures padded_length { result ≡ OK → padded_length.new ≡ padded_length_of count }
     ensures padded { result ≡ OK → (padding : Padding) → IsNumberOf method padding

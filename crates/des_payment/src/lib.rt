@@ -44,5 +44,6 @@ pub use cvv_error::CvvError;
 pub use decimal_table::DecimalTable;
 pub use pin::Pin;
 pub use pin_error::PinError;
+pub use texts::are_digits;
 pub use translation_error::TranslationError;
 pub use verification_error::VerificationError;

@@ -38,27 +38,17 @@ pub(crate) fn is_key(key: &[u8]) -> bool
     key.len() == 8 || key.len() == 16 || key.len() == 24
 }
 
-// What a cipher makes of a block under a key of its length, in each direction.
-fn encrypted_as<C: KeyedCipher + Drop>(key: &[u8], block: &[u8; 8]) -> [u8; 8]
-    requires { length key.now ≡ C.KEY_SIZE }
-    ensures { result ≡ C.encryption key.now block.now }
-{
-    let mut encrypted = *block;
-    C::new_from_slice(key)
-        .unwrap()
-        .encrypt_block(&mut encrypted);
-    encrypted
-}
-
-fn decrypted_as<C: KeyedCipher + Drop>(key: &[u8], block: &[u8; 8]) -> [u8; 8]
-    requires { length key.now ≡ C.KEY_SIZE }
-    ensures { result ≡ C.decryption key.now block.now }
-{
-    let mut decrypted = *block;
-    C::new_from_slice(key)
-        .unwrap()
-        .decrypt_block(&mut decrypted);
-    decrypted
+// What the cipher of a key's length makes of a block, in a direction.
+macro_rules! made_by {
+    ($key:ident, $block:ident, $direction:ident) => {{
+        let mut made = *$block;
+        match $key.len() {
+            8 => Des::new_from_slice($key).unwrap().$direction(&mut made),
+            16 => TdesEde2::new_from_slice($key).unwrap().$direction(&mut made),
+            _ => TdesEde3::new_from_slice($key).unwrap().$direction(&mut made),
+        }
+        made
+    }};
 }
 
 // What DES, or triple DES in the EDE form, makes of a block under a key of one part, two or three,
@@ -67,22 +57,14 @@ pub(crate) fn encrypted_by(key: &[u8], block: &[u8; 8]) -> [u8; 8]
     requires { IsTrue (is_key_of key.now) }
     ensures { result ≡ encryption_by key.now block.now }
 {
-    match key.len() {
-        8 => encrypted_as::<Des>(key, block),
-        16 => encrypted_as::<TdesEde2>(key, block),
-        _ => encrypted_as::<TdesEde3>(key, block),
-    }
+    made_by!(key, block, encrypt_block)
 }
 
 pub(crate) fn decrypted_by(key: &[u8], block: &[u8; 8]) -> [u8; 8]
     requires { IsTrue (is_key_of key.now) }
     ensures { result ≡ decryption_by key.now block.now }
 {
-    match key.len() {
-        8 => decrypted_as::<Des>(key, block),
-        16 => decrypted_as::<TdesEde2>(key, block),
-        _ => decrypted_as::<TdesEde3>(key, block),
-    }
+    made_by!(key, block, decrypt_block)
 }
 
 // Encrypts each block under the key at its place, if there is a key for each block.

@@ -16,8 +16,9 @@ use crate::decimals::first_decimals;
 use crate::digits::{block_of, digits_of};
 use crate::passes::{encrypted_by, encrypted_by_ede2, is_key};
 use crate::pin::Pin;
-use crate::texts::{are_equal, check_number, to_text, to_values};
+use crate::texts::{check_number, to_text, to_values};
 use crate::verification_error::VerificationError;
+use des_mac::mac::are_equal;
 
 // The block of the digits that a PIN verification value is made of.
 fn pvv_block(account: &[u8], index: u8, pin: &Pin) -> [u8; 8]
@@ -73,7 +74,7 @@ fn check_equal(text: &[u8], right: &[u8]) -> Result<(), VerificationError>
     ensures right { IsOk result ↔ (text.now ≡ right.now) }
     ensures wrong { (result ≡ Err VerificationError.WrongPin) ↔ (text.now ≢ right.now) }
 {
-    if are_equal(text, right) {
+    if text.len() == right.len() && are_equal(text, right) {
         Ok(())
     } else {
         Err(VerificationError::WrongPin)

@@ -1,12 +1,12 @@
 //! Numbers as texts: slices of ASCII digits.
 
-ghost use Rattle.std.specs.Prelude.{◌≡◌, ◌↔◌, IsTrue, nat_lt, OnOk};
+ghost use Rattle.std.specs.Prelude.{◌≡◌, IsTrue, nat_lt, OnOk};
 ghost use Rattle.std.specs.List.{list_all};
 ghost use Rattle.std.specs.Result.{result_err};
 ghost use Rattle.des_payment.specs.Texts.{are_digits as are_digits_of, values, text_of, IsNumber, number_fault};
 
-// Whether each character is a digit. Each is looked at, wherever one is none.
-pub(crate) fn are_digits(text: &[u8]) -> bool
+/// Whether each character is a digit. Each is looked at, wherever one is none.
+pub fn are_digits(text: &[u8]) -> bool
     ensures { result ≡ are_digits_of text.now }
 {
     let mut all = true;
@@ -54,19 +54,4 @@ pub(crate) fn check_number<E: Copy + Drop>(
         return Err(digit_fault);
     }
     Ok(())
-}
-
-// Whether two texts are one. If they are equally long, each character is looked at, wherever they
-// differ.
-pub(crate) fn are_equal(text: &[u8], other: &[u8]) -> bool
-    ensures { IsTrue result ↔ (text.now ≡ other.now) }
-{
-    if text.len() != other.len() {
-        return false;
-    }
-    let mut same = true;
-    for (i, character) in text.iter().enumerate() {
-        same &= *character == other[i];
-    }
-    same
 }

@@ -2,7 +2,7 @@ use Rattle.std.proofs.Common.{◌∙◌}
 use Rattle.des_mac.proofs.MappedBlocks.{mapped-alike}
 use Rattle.des_mac.proofs.many.decrypt_many_by.Goals as goal
 
--- a cipher made from the key answers as the key does
+-- a cipher made from the key decrypts as the key does
 pub returns : goal.returns
 returns g c =
     let key = g.C.Key.KeyBytes.bytes_of c.args.key.now in
