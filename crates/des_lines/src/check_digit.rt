@@ -1,8 +1,9 @@
 //! The check digits of account numbers (ISO/IEC 7812-1, Annex B).
 
 ghost use Rattle.std.specs.Prelude.{◌≡◌, ◌≤◌, ◌<◌, length};
-ghost use Rattle.des_payment.specs.Texts.{are_digits as are_digits_of};
 ghost use Rattle.des_lines.specs.CheckDigits.{weighed as weighed_of, has_check_digit as has_check_digit_of, is_account as is_account_of};
+
+use des_payment::are_digits;
 
 // What a digit adds to the sum if `following` digits follow it: itself, or the digits of its
 // double.
@@ -28,12 +29,6 @@ pub fn has_check_digit(digits: &[u8]) -> bool
         sum += weighed(digits.len() - 1 - i, digit.saturating_sub(b'0') as u32);
     }
     sum % 10 == 0
-}
-
-pub fn are_digits(text: &[u8]) -> bool
-    ensures { result ≡ are_digits_of text.now }
-{
-    text.iter().all(|character| character.is_ascii_digit())
 }
 
 /// Whether a text is an account number: 8 to 19 digits.

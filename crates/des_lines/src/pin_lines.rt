@@ -10,7 +10,6 @@ ghost use Rattle.des_lines.specs.PinLines.{pvv_of, pvv_fault, HasPvv, pvv_verdic
 ghost use Rattle.des_lines.specs.PinLines.{data_fault, key_and_pin_fault, offset_by, offset_fault, HasOffset, offset_verdict_fault};
 ghost use Rattle.des_lines.specs.PinLines.{IsVerdictLine, TellsOutcome, pin_line_fault, IsPinLine};
 
-use crate::check_digit::are_digits;
 use crate::digits::{Lines, bytes_in, bytes_of, fill_of, hex_line, line_of};
 use crate::fault::FaultKind;
 use crate::keys::{AnyKey, pair_of};
@@ -18,7 +17,7 @@ use crate::requests::{Inputs, NaturalPins, PinCalculation};
 use crate::tags::{RIGHT, WRONG};
 use des_payment::pin_verification::{natural_pin, pin_offset, pvv, verify_offset, verify_pvv};
 use des_payment::translation::{Format, translate, translate_format_1};
-use des_payment::{DecimalTable, Pin, VerificationError};
+use des_payment::{DecimalTable, Pin, VerificationError, are_digits};
 use std::alloc::Global;
 
 /// The line of a calculation with a PIN and a key.
