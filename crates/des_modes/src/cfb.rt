@@ -8,8 +8,8 @@ ghost use Rattle.des_modes.specs.Streams.{GoesOn, plaintext};
 ghost use Rattle.des_modes.specs.declared.direction.Direction.TheVariants.{Encrypt, Decrypt};
 ghost use Rattle.des_modes.specs.declared.modes.Mode.TheVariants.{CipherFeedback};
 
-use crate::feedback::{Feedback, block_at};
 use crate::direction::Direction;
+use crate::feedback::{Feedback, block_at};
 use crate::parts::{TOGETHER, TakesParts};
 use crate::place::Place;
 use crate::xored::{xor_block_from, xor_blocks_from, xor_segments};

@@ -11,11 +11,11 @@ ghost use Rattle.des_modes.specs.States.{HasBegun, HoldsLastBits, IsBitStreamAt,
 ghost use Rattle.des_modes.specs.declared.modes.Mode.TheVariants.{BitFeedback};
 ghost use Rattle.des_modes.specs.declared.modes.TheConstants.{CFB1, CTR};
 
-use crate::feedback::Feedback;
 use crate::cfb::CfbMode;
 use crate::cfb_bits;
 use crate::ctr::CtrMode;
 use crate::direction::Direction;
+use crate::feedback::Feedback;
 use crate::modes::{CFB1, CTR, Mode};
 use crate::ofb::OfbMode;
 use crate::parts::apply_parts;
