@@ -10,4 +10,4 @@ returns-clause-bits g c key iv p d context =
     IsBitStreamAt-by_key (g.C.BlockCipherEncrypt.encrypted c.of-cipher.result) (encryption_of key)
     (λ block is. g.met.C.KeyedCipher.encrypts_by_key c.of-cipher.result key block by.is_key made is ∙ ap (λ f. f block) by.encrypts)
     (g.met.C.BlockCipher.encrypted_is_block c.of-cipher.result) iv p d _ _ c.args.stream.now c.apply_bits.new.self
-    (rw c.new-cipher.ensures at c.apply_bits.ensures.bits iv p d)
+    (rw c.new-cipher.ensures.cipher at c.apply_bits.ensures.bits iv p d)

@@ -11,7 +11,7 @@ returns-clause-bytes g c number key iv p d context =
     IsStreamAt-by_key (g.C.BlockCipherEncrypt.encrypted c.of-cipher.result) (encryption_of key)
     (λ block is. g.met.C.KeyedCipher.encrypts_by_key c.of-cipher.result key block by.is_key made is ∙ ap (λ f. f block) by.encrypts)
     (g.met.C.BlockCipher.encrypted_is_block c.of-cipher.result) number iv p d _ _ c.args.stream.now c.apply.new.self
-    (rw c.new-cipher.ensures at c.apply.ensures.bytes number iv p d)
+    (rw c.new-cipher.ensures.cipher at c.apply.ensures.bytes number iv p d)
 
 pub returns-clause-under : goal.returns-clause-under
 returns-clause-under g c number key iv p d context is =
@@ -30,4 +30,4 @@ returns-clause-bits g c key iv p d context =
     IsBitStreamAt-by_key (g.C.BlockCipherEncrypt.encrypted c.of-cipher.result) (encryption_of key)
     (λ block is. g.met.C.KeyedCipher.encrypts_by_key c.of-cipher.result key block by.is_key made is ∙ ap (λ f. f block) by.encrypts)
     (g.met.C.BlockCipher.encrypted_is_block c.of-cipher.result) iv p d _ _ c.args.stream.now c.apply.new.self
-    (rw c.new-cipher.ensures at c.apply.ensures.bits iv p d)
+    (rw c.new-cipher.ensures.cipher at c.apply.ensures.bits iv p d)
