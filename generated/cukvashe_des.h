@@ -380,9 +380,9 @@ CUKVASHE_CHECK int cukvashe_tdes_ede3_decrypt_cbc_to(const cukvashe_tdes_ede3 *c
  * int cukvashe_stream_begin(cukvashe_stream *stream, int mode, const uint8_t iv[8])
  * void cukvashe_stream_begin_ctr_at(cukvashe_stream *stream, const uint8_t counter[8], uint64_t blocks)
  *
- * Begins a text that comes in pieces. begin_ctr_at begins it after `blocks` blocks of 8 bytes, of which `counter` is the
- * first one's counter block, to decrypt a part without what stands before it. A stream is as secret as its text. Errors
- * of stream_begin: CUKVASHE_ERR_MODE.
+ * Begins a text that comes in pieces. begin_ctr_at begins `blocks` blocks of 8 bytes into the text whose first counter
+ * block is `counter`, to decrypt a part without what stands before it. A stream is as secret as its text. Errors of
+ * stream_begin: CUKVASHE_ERR_MODE.
  *
  * int cukvashe_NAME_encrypt_stream(const cukvashe_NAME *context, cukvashe_stream *stream, uint8_t *data, size_t length)
  * int cukvashe_NAME_decrypt_stream(const cukvashe_NAME *context, cukvashe_stream *stream, uint8_t *data, size_t length)
@@ -403,8 +403,8 @@ CUKVASHE_CHECK int cukvashe_tdes_ede3_decrypt_cbc_to(const cukvashe_tdes_ede3 *c
  * void cukvashe_stream_position(const cukvashe_stream *stream, uint8_t iv[8], size_t *used)
  *
  * Writes where a stream stands: in CTR the counter block, in OFB the last output block, in CFB the last eight bytes of
- * the vector and the ciphertext; and how many bytes of the current output block are used. If `used` is 0, a stream that
- * begins with this `iv` goes on from there.
+ * the vector followed by the ciphertext; and how many bytes of the current output block are used. If `used` is 0, a
+ * stream that begins with this `iv` goes on from there.
  */
 typedef struct {
   uint64_t words[4];

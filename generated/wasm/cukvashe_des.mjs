@@ -21,8 +21,8 @@ export const BLOCK_SIZE = 8;
 export const TAG_SIZE = 8;
 
 // The SHA-256 of the modules that this file was built with: the one of a 64-bit memory, and the same of a 32-bit memory.
-const MODULE_SUM = "455f62aa76a592dedc01bc9a23c6444d54fb0b37ba7daeaf4d5cde5417a92b6d";
-const NARROW_SUM = "aaed960c26f8a7e873e48305e3dad563d2132eab1b32bc47432422a1a0716671";
+const MODULE_SUM = "ddbb537c93a9245bd1898edc92acef0959155aa800319cef91701d0841150ff1";
+const NARROW_SUM = "dce3d7c32fe7c6d9dcb8800753e70dde90b4c4cf62d1e7ee755d08eb4eb2fc90";
 
 // The bytes of the module's stack, which lies at its address 0. `build` links it so.
 const STACK_SIZE = 131072;
