@@ -5,7 +5,8 @@ use Rattle.des.specs.Tables.{initial_permutation, final_permutation}
 use Rattle.des.specs.Rounds.{after_rounds, swapped, through_rounds, block_by_keys}
 use Rattle.des.specs.Laws.Selections.{length-select, select-initial_permutation}
 use Rattle.des.specs.Laws.BlockBits.{bits_of_bytes-block_of_bits}
-use Rattle.des.specs.Laws.RoundsUndone.{AreHalves, AreHalves-after_rounds, AreHalves-permuted, length-swapped}
+use Rattle.des.specs.Laws.RoundsUndone.{AreHalves, length-swapped}
+use Rattle.des_fast.specs.Groups.{half_of, half_positions}
 use Rattle.des_fast.specs.HalfBlocks.{first_halves, last_block}
 
 -- two halves after a round for each round key
@@ -40,28 +41,8 @@ first_halves-last_block halves widths =
     (ap (take 32) permuted ∙ take_at halves.1 halves.0 32 widths.1)
     (ap (drop 32) permuted ∙ drop_at halves.1 halves.0 32 widths.1)
 
--- so a pass after others begins with their halves, each in the place of the other
-block_by_keys-last_block : (keys : List (List Bool)) (halves : List Bool × List Bool) → AreHalves halves
-    → block_by_keys keys (last_block halves) ≡ last_block (after keys (turned halves))
-block_by_keys-last_block keys halves widths =
-    block_by_keys-halves keys (last_block halves)
-    ∙ ap (λ (h : List Bool × List Bool). last_block (after keys h)) (first_halves-last_block halves widths)
-
--- three passes, from the halves of a block to the block that the last halves make
-pub block_by_keys-three : (k1 k2 k3 : List (List Bool)) (block answer : List ℕ) (first second third : List Bool × List Bool)
-    → first ≡ after k1 (first_halves block) → second ≡ after k2 (turned first) → third ≡ after k3 (turned second)
-    → answer ≡ last_block third → answer ≡ block_by_keys k3 (block_by_keys k2 (block_by_keys k1 block))
-block_by_keys-three k1 k2 k3 block answer first second third makes_first makes_second makes_third ends =
-    let halves : List Bool × List Bool = first_halves block in
-    let first_widths : AreHalves (after k1 halves) =
-    AreHalves-after_rounds k1 _ _ (AreHalves-permuted (bits_of_bytes block)) in
-    let widths : AreHalves first = rw makes_first first_widths in
-    let second_widths : AreHalves second =
-    rw makes_second (AreHalves-after_rounds k2 first.1 first.0 (widths.1, widths.0)) in
-    ends
-    ∙ ap last_block makes_third
-    ∙ sym (block_by_keys-last_block k3 second second_widths)
-    ∙ ap (λ (h : List Bool × List Bool). block_by_keys k3 (last_block h)) makes_second
-    ∙ ap (block_by_keys k3) (sym (block_by_keys-last_block k2 first widths))
-    ∙ ap (λ (h : List Bool × List Bool). block_by_keys k3 (block_by_keys k2 (last_block h))) makes_first
-    ∙ ap (λ b. block_by_keys k3 (block_by_keys k2 b)) (sym (block_by_keys-halves k1 block))
+-- so the rounds of a pass after another begin with its halves, each in the place of the other
+pub halves-next : (left right : ℕ) (block : List ℕ) → last_block (half_of left, half_of right) ≡ block
+    → (half_of right, half_of left) ≡ first_halves block
+halves-next left right block is =
+    sym (first_halves-last_block _ (length-select half_positions _, length-select half_positions _)) ∙ ap first_halves is

@@ -1,6 +1,6 @@
 -- The words of one block, of two and of three.
 use Rattle.std.specs.Prelude.{ℕ, zero, suc}
-use Rattle.des_fast.specs.declared.table_blocks.OneBlock.{OneBlock}
+use Rattle.des_fast.specs.declared.one_block.OneBlock.{OneBlock}
 use Rattle.des_fast.specs.declared.table_blocks.TwoBlocks.{TwoBlocks}
 use Rattle.des_fast.specs.declared.table_blocks.ThreeBlocks.{ThreeBlocks}
 

@@ -1,18 +1,18 @@
 //! How S-boxes are looked up: by tables, or without.
 
 ghost use Rattle.std.specs.Prelude.{◌≡◌, ◌≤◌, ℕ, length, map};
-ghost use Rattle.std.specs.List.{All};
-ghost use Rattle.des.specs.Blocks.{IsBlock};
-ghost use Rattle.des.specs.Cbc.{Cbc};
-ghost use Rattle.des_fast.specs.ChainingValues.{AreOutputs};
 
 use crate::beside::Beside;
-use crate::chained_halves;
-use crate::side_by_side::{BlockTransform, process_one, process_padded, process_side_by_side};
-use crate::table_blocks::{OneBlock, ThreeBlocks, TwoBlocks};
+use crate::one_block::OneBlock;
+use crate::rounds::OneWord;
+use crate::side_by_side::{BlockTransform, process_padded, process_side_by_side};
+use crate::table_blocks::{ThreeBlocks, TwoBlocks};
 
 /// How S-boxes are looked up.
 pub trait BoxLookup: Copy {
+    /// The word of groups of one block.
+    type One: OneWord;
+
     // The most blocks that go side by side in a list.
     ghost MOST: { ℕ };
 
@@ -24,30 +24,11 @@ pub trait BoxLookup: Copy {
         ensures few { result ≤ MOST }
         ensures within { result ≤ left };
 
-    /// Takes one block through passes.
-    fn process_block<A: BlockTransform>(block: &mut [u8; 8], passes: &A)
-        ensures { block.new ≡ A.output passes.now block.old };
-
     /// Takes some blocks through passes side by side.
     fn process_some<A: BlockTransform>(blocks: &mut [[u8; 8]], passes: &A)
         requires some { 1 ≤ length blocks.old }
         requires few { length blocks.old ≤ MOST }
         ensures { blocks.new ≡ map (A.output passes.now) blocks.old };
-
-    /// Encrypts blocks by CBC from `iv`, each through passes (FIPS 81, cipher block chaining mode).
-    fn cbc_encrypt<A: BlockTransform>(blocks: &mut [[u8; 8]], iv: &[u8; 8], passes: &A)
-        ensures blocks { All IsBlock blocks.old }
-        ensures chained { Cbc (A.output passes.now) iv.now blocks.old blocks.new };
-
-    /// Writes the output blocks of a feedback from `iv` along a plaintext, each through passes (FIPS 81,
-    /// output and cipher feedback mode).
-    fn write_outputs<A: BlockTransform>(
-        outputs: &mut [[u8; 8]],
-        iv: &[u8; 8],
-        plaintext: &[[u8; 8]],
-        passes: &A,
-    )
-        ensures { AreOutputs (A.output passes.now) iv.now plaintext.now outputs.new };
 
     // CBC decryption keeps the ciphertext block before each block of a part, and has room for six.
     ghost at_most: { MOST ≤ 6 };
@@ -69,6 +50,8 @@ pub struct Tables;
 impl BoxLookup for Tables {
     ghost use Rattle.std.proofs.Common.{lit≤};
 
+    type One = OneBlock;
+
     ghost MOST = { 6 };
 
     // Seven to eleven go in two halves: the fewer go together, the slower each.
@@ -84,11 +67,6 @@ impl BoxLookup for Tables {
     }
 
     #[inline(always)]
-    fn process_block<A: BlockTransform>(block: &mut [u8; 8], passes: &A) {
-        process_one::<OneBlock, A>(block, passes);
-    }
-
-    #[inline(always)]
     fn process_some<A: BlockTransform>(blocks: &mut [[u8; 8]], passes: &A) {
         match blocks.len() {
             1 => process_side_by_side::<OneBlock, A>(blocks, passes),
@@ -98,19 +76,6 @@ impl BoxLookup for Tables {
             5 => process_side_by_side::<Five, A>(blocks, passes),
             _ => process_side_by_side::<Six, A>(blocks, passes),
         }
-    }
-
-    fn cbc_encrypt<A: BlockTransform>(blocks: &mut [[u8; 8]], iv: &[u8; 8], passes: &A) {
-        chained_halves::cbc_encrypt::<OneBlock, A>(blocks, iv, passes);
-    }
-
-    fn write_outputs<A: BlockTransform>(
-        outputs: &mut [[u8; 8]],
-        iv: &[u8; 8],
-        plaintext: &[[u8; 8]],
-        passes: &A,
-    ) {
-        chained_halves::write_outputs::<OneBlock, A>(outputs, iv, plaintext, passes);
     }
 
     ghost at_most = { lit≤ tt };
@@ -125,6 +90,8 @@ pub struct NoTables;
 impl BoxLookup for NoTables {
     ghost use Rattle.std.proofs.Common.{lit≤};
 
+    type One = u64;
+
     ghost MOST = { 4 };
 
     // The last two go one by one.
@@ -134,30 +101,12 @@ impl BoxLookup for NoTables {
     }
 
     #[inline(always)]
-    fn process_block<A: BlockTransform>(block: &mut [u8; 8], passes: &A) {
-        process_one::<u64, A>(block, passes);
-    }
-
-    #[inline(always)]
     fn process_some<A: BlockTransform>(blocks: &mut [[u8; 8]], passes: &A) {
         if blocks.len() == 1 {
             process_side_by_side::<u64, A>(blocks, passes);
         } else {
             process_padded(blocks, passes);
         }
-    }
-
-    fn cbc_encrypt<A: BlockTransform>(blocks: &mut [[u8; 8]], iv: &[u8; 8], passes: &A) {
-        chained_halves::cbc_encrypt::<u64, A>(blocks, iv, passes);
-    }
-
-    fn write_outputs<A: BlockTransform>(
-        outputs: &mut [[u8; 8]],
-        iv: &[u8; 8],
-        plaintext: &[[u8; 8]],
-        passes: &A,
-    ) {
-        chained_halves::write_outputs::<u64, A>(outputs, iv, plaintext, passes);
     }
 
     ghost at_most = { lit≤ tt };

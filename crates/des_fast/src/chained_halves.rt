@@ -16,29 +16,10 @@ ghost use Rattle.des_fast.specs.ChainingValues.{AreOutputs};
 ghost use Rattle.des_fast.specs.SideBySide.{AreExpansions, AreHalvesOf};
 ghost use Rattle.des_fast.specs.Slices.{InEachBlock};
 
-use crate::rounds::SixteenRounds;
+use crate::box_lookup::BoxLookup;
+use crate::rounds::{Groups, OneWord};
 use crate::side_by_side::BlockTransform;
 use des::cipher::are_blocks;
-
-/// The word of groups of one block.
-pub trait OneWord: SixteenRounds {
-    /// The xor of the two words.
-    fn xor(self, other: Self) -> Self
-        ensures { InEachBlock Self.BLOCKS (λ b.
-            Self.word b result ≡ bit_xor (Self.word b self) (Self.word b other)) };
-
-    ghost is_one: { Self.BLOCKS ≡ 1 };
-}
-
-// The halves that the rounds of a block begin with.
-#[inline(always)]
-fn halves_of<G: OneWord>(block: &[u8; 8]) -> (G, G)
-    ensures left { AreExpansions G.BLOCKS G.word result.0 }
-    ensures right { AreExpansions G.BLOCKS G.word result.1 }
-    ensures halves { AreHalvesOf G.word block.now result }
-{
-    G::of_blocks(&[*block])
-}
 
 // The halves of the xor of a block with the block of these.
 #[inline(always)]
@@ -50,7 +31,7 @@ fn xored<G: OneWord>(halves: (G, G), block: &[u8; 8]) -> (G, G)
     ensures halves { (other : List ℕ) → AreHalvesOf G.word other halves
         → AreHalvesOf G.word (xor_blocks block.now other) result }
 {
-    let (left, right) = halves_of::<G>(block);
+    let (left, right) = G::of_blocks(&[*block]);
     (left.xor(halves.0), right.xor(halves.1))
 }
 
@@ -70,7 +51,7 @@ fn block_after<G: OneWord>(left: G, right: G) -> [u8; 8]
 /// Encrypts blocks by CBC from `iv`, each through passes. Not inlined: with both lookups in one
 /// function each of them is slower.
 #[inline(never)]
-pub(crate) fn cbc_encrypt<G: OneWord, A: BlockTransform>(
+pub(crate) fn cbc_encrypt<W: BoxLookup, A: BlockTransform>(
     blocks: &mut [[u8; 8]],
     iv: &[u8; 8],
     passes: &A,
@@ -79,7 +60,7 @@ pub(crate) fn cbc_encrypt<G: OneWord, A: BlockTransform>(
     ensures chained { Cbc (A.output passes.now) iv.now blocks.old blocks.new }
 {
     are_blocks(blocks);
-    let mut halves = halves_of::<G>(iv);
+    let mut halves = W::One::of_blocks(&[*iv]);
     for block in blocks.iter_mut() {
         let (first_left, first_right) = xored(halves, block);
         let (left, right) = passes.process_halves(first_left, first_right);
@@ -91,7 +72,7 @@ pub(crate) fn cbc_encrypt<G: OneWord, A: BlockTransform>(
 /// Writes the output blocks of a feedback from `iv` along a plaintext, each through passes. Not
 /// inlined, as `cbc_encrypt`.
 #[inline(never)]
-pub(crate) fn write_outputs<G: OneWord, A: BlockTransform>(
+pub(crate) fn write_outputs<W: BoxLookup, A: BlockTransform>(
     outputs: &mut [[u8; 8]],
     iv: &[u8; 8],
     plaintext: &[[u8; 8]],
@@ -99,7 +80,7 @@ pub(crate) fn write_outputs<G: OneWord, A: BlockTransform>(
 )
     ensures { AreOutputs (A.output passes.now) iv.now plaintext.now outputs.new }
 {
-    let mut halves = halves_of::<G>(iv);
+    let mut halves = W::One::of_blocks(&[*iv]);
     for j in 0..outputs.len() {
         let (left, right) = passes.process_halves(halves.0, halves.1);
         // What the next block waits for comes first.

@@ -76,11 +76,11 @@ fn process<S: Slice>(blocks: &mut [[u8; 8]], passes: &[PassSlices<S>])
 
 /// A block cipher that treats many blocks of a list together. No call changes the cipher.
 ///
-/// A type writes the calls of a list, which say what the relation of the key makes of it too.
-/// The others rest on them, read no table, and say less. The calls of the five ciphers of this
-/// crate take no memory, but for batches keep the halves C and D of their keys on the stack, spread
-/// over slices: 1,800 bytes for each pass of DES over vectors of two words, 3,600 over vectors of
-/// four. An empty list stays empty, and takes no time.
+/// A type writes the calls with `list` in their names, and `encrypt_one`. Those that encrypt or decrypt
+/// a list say what the relation of the key makes of it, too. The others rest on them, read no table,
+/// and say less. The calls of the five ciphers of this crate take no memory, but for batches keep the
+/// halves C and D of their keys on the stack, spread over slices: 1,800 bytes for each pass of DES over
+/// vectors of two words, 3,600 over vectors of four. An empty list stays empty, and takes no time.
 pub trait ManyBlocks: Relating {
     /// Encrypts each block of 8 bytes in place, in order, as `encrypt_blocks` does, in batches of
     /// `S::BATCH` blocks and the few that are left over side by side.

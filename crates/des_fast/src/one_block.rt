@@ -1,12 +1,15 @@
-//! The initial and the final permutation of one block, by `des::utils`.
+//! One block: its initial and final permutation, by `des::utils`, and its word of groups, by tables.
 
 ghost use Rattle.std.specs.Prelude.{◌≡◌, ◌<◌, ◌^◌};
 ghost use Rattle.des.specs.Bits.{bits_of};
 ghost use Rattle.des.specs.Blocks.{IsBlock};
 ghost use Rattle.des_fast.specs.Groups.{IsExpansion, half_of};
 ghost use Rattle.des_fast.specs.HalfBlocks.{first_halves, last_block};
+ghost use Rattle.des_fast.specs.TableBlocks.{word_of_one};
 
-use crate::halves::block_of;
+use crate::halves::{RoundKey, block_of};
+use crate::rounds::{Groups, OneWord, SixteenRounds, after_keyed_rounds};
+use crate::tables::substitute;
 use des::utils;
 
 /// The halves that the rounds of a block begin with: those of its initial permutation (FIPS 46-3,
@@ -49,4 +52,71 @@ pub(crate) fn block_of_halves(left: u64, right: u64) -> [u8; 8]
     ensures { result ≡ last_block (half_of left, half_of right) }
 {
     block_of(utils::fp((word_of_half(right) << 32) | word_of_half(left)))
+}
+
+/// A word of groups of one block.
+#[derive(Clone, Copy)]
+pub struct OneBlock {
+    word: u64,
+}
+
+impl Groups for OneBlock {
+    ghost BLOCKS = { 1 };
+
+    ghost word = { word_of_one };
+
+    #[inline(always)]
+    fn count(blocks: &[[u8; 8]]) -> usize {
+        1
+    }
+
+    #[inline(always)]
+    fn of_blocks(blocks: &[[u8; 8]]) -> (OneBlock, OneBlock) {
+        let (left, right) = halves_of_block(&blocks[0]);
+        (OneBlock { word: left }, OneBlock { word: right })
+    }
+
+    #[inline(always)]
+    fn write_blocks(blocks: &mut [[u8; 8]], left: OneBlock, right: OneBlock) {
+        blocks[0] = block_of_halves(left.word, right.word);
+    }
+
+    #[inline(always)]
+    fn with_key(self, round_key: RoundKey) -> OneBlock {
+        OneBlock {
+            word: self.word ^ round_key.groups,
+        }
+    }
+
+    #[inline(always)]
+    fn xor_substituted(self, others: OneBlock) -> OneBlock {
+        OneBlock {
+            word: self.word ^ substitute(others.word),
+        }
+    }
+}
+
+impl SixteenRounds for OneBlock {
+    #[inline(always)]
+    fn after_rounds(
+        left: OneBlock,
+        right: OneBlock,
+        round_keys: &[RoundKey; 16],
+        deciphers: bool,
+    ) -> (OneBlock, OneBlock) {
+        after_keyed_rounds(left, right, round_keys, deciphers)
+    }
+}
+
+impl OneWord for OneBlock {
+    ghost use Rattle.std.specs.Prelude.{refl};
+
+    #[inline(always)]
+    fn xor(self, other: OneBlock) -> OneBlock {
+        OneBlock {
+            word: self.word ^ other.word,
+        }
+    }
+
+    ghost is_one = { refl };
 }

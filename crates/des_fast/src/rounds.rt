@@ -77,6 +77,16 @@ pub trait SixteenRounds: Groups {
             (half_of (Self.word b left)) (half_of (Self.word b right))) };
 }
 
+/// The word of groups of one block.
+pub trait OneWord: SixteenRounds {
+    /// The xor of the two words.
+    fn xor(self, other: Self) -> Self
+        ensures { InEachBlock Self.BLOCKS (λ b.
+            Self.word b result ≡ bit_xor (Self.word b self) (Self.word b other)) };
+
+    ghost is_one: { Self.BLOCKS ≡ 1 };
+}
+
 // The round key of a round, from 0, in the order of enciphering or of deciphering.
 #[inline(always)]
 fn round_key_of(round_keys: &[RoundKey; 16], deciphers: bool, round: usize) -> RoundKey

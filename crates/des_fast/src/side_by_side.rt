@@ -6,7 +6,7 @@ ghost use Rattle.des_fast.specs.Groups.{half_of};
 ghost use Rattle.des_fast.specs.HalfBlocks.{first_halves, last_block};
 ghost use Rattle.des_fast.specs.SideBySide.{AreExpansions};
 
-use crate::rounds::SixteenRounds;
+use crate::rounds::{OneWord, SixteenRounds};
 use std::simd::prelude::*;
 
 /// A pass of DES, or several in a row.
@@ -73,8 +73,7 @@ pub(crate) fn process_padded<A: BlockTransform>(blocks: &mut [[u8; 8]], passes: 
 
 /// Takes one block through passes.
 #[inline(always)]
-pub(crate) fn process_one<G: SixteenRounds, A: BlockTransform>(block: &mut [u8; 8], passes: &A)
-    requires { G.BLOCKS ≡ 1 }
+pub(crate) fn process_one<G: OneWord, A: BlockTransform>(block: &mut [u8; 8], passes: &A)
     ensures { block.new ≡ A.output passes.now block.old }
 {
     let mut one = [*block];

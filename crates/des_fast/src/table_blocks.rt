@@ -1,81 +1,13 @@
-//! One block, and two or three side by side, by tables.
+//! Two or three blocks side by side, by tables.
 
-ghost use Rattle.des_fast.specs.TableBlocks.{word_of_one, word_of_two, word_of_three};
+ghost use Rattle.des_fast.specs.TableBlocks.{word_of_two, word_of_three};
 
-use crate::chained_halves::OneWord;
 use crate::halves::RoundKey;
 use crate::one_block::{block_of_halves, halves_of_block};
 use crate::permutations::{blocks_of, halves_of};
-use crate::rounds::{Groups, SixteenRounds, after_keyed_rounds, after_rounds};
-use crate::tables::{substitute, xor_substituted};
+use crate::rounds::{Groups, SixteenRounds, after_rounds};
+use crate::tables::xor_substituted;
 use std::simd::prelude::*;
-
-/// A word of groups of one block.
-#[derive(Clone, Copy)]
-pub struct OneBlock {
-    word: u64,
-}
-
-impl Groups for OneBlock {
-    ghost BLOCKS = { 1 };
-
-    ghost word = { word_of_one };
-
-    #[inline(always)]
-    fn count(blocks: &[[u8; 8]]) -> usize {
-        1
-    }
-
-    #[inline(always)]
-    fn of_blocks(blocks: &[[u8; 8]]) -> (OneBlock, OneBlock) {
-        let (left, right) = halves_of_block(&blocks[0]);
-        (OneBlock { word: left }, OneBlock { word: right })
-    }
-
-    #[inline(always)]
-    fn write_blocks(blocks: &mut [[u8; 8]], left: OneBlock, right: OneBlock) {
-        blocks[0] = block_of_halves(left.word, right.word);
-    }
-
-    #[inline(always)]
-    fn with_key(self, round_key: RoundKey) -> OneBlock {
-        OneBlock {
-            word: self.word ^ round_key.groups,
-        }
-    }
-
-    #[inline(always)]
-    fn xor_substituted(self, others: OneBlock) -> OneBlock {
-        OneBlock {
-            word: self.word ^ substitute(others.word),
-        }
-    }
-}
-
-impl SixteenRounds for OneBlock {
-    #[inline(always)]
-    fn after_rounds(
-        left: OneBlock,
-        right: OneBlock,
-        round_keys: &[RoundKey; 16],
-        deciphers: bool,
-    ) -> (OneBlock, OneBlock) {
-        after_keyed_rounds(left, right, round_keys, deciphers)
-    }
-}
-
-impl OneWord for OneBlock {
-    ghost use Rattle.std.specs.Prelude.{refl};
-
-    #[inline(always)]
-    fn xor(self, other: OneBlock) -> OneBlock {
-        OneBlock {
-            word: self.word ^ other.word,
-        }
-    }
-
-    ghost is_one = { refl };
-}
 
 /// A word of groups of each of two blocks.
 #[derive(Clone, Copy)]

@@ -13,10 +13,9 @@ ghost use Rattle.des.specs.CipherFunction.{box_entry, substitute};
 ghost use Rattle.des_fast.specs.Groups.{IsOfGroups, IsExpansion, bits_of_groups, half_of, positions_in_word};
 ghost use Rattle.des_fast.specs.GroupBytes.{box_of_byte, in_order};
 
-use crate::chained_halves::OneWord;
 use crate::halves::{RoundKey, word_of};
 use crate::one_block::{block_of_halves, halves_of_block};
-use crate::rounds::{Groups, SixteenRounds, after_keyed_rounds};
+use crate::rounds::{Groups, OneWord, SixteenRounds, after_keyed_rounds};
 use std::simd::prelude::*;
 
 // The entries of the boxes S1, S3, S5, S7, S2, S4, S6 and S8, in the order of the groups in a word:

@@ -20,12 +20,12 @@ loop-block-preserved g c =
     let answer : List ℕ = c.block_after.result in
     let f : List ℕ → List ℕ = g.A.BlockTransform.output c.args.passes.now in
     let previous : List ℕ = block_before iv blocks (k + 1) in
-    let one : 0 < g.G.Groups.BLOCKS = omega (arith, g.met.G.OneWord.is_one) in
+    let one : 0 < g.W.One.Groups.BLOCKS = omega (arith, g.met.W.One.OneWord.is_one) in
     let begins = c.xored-first_left.ensures.halves previous c.loop-block.invariant.halves in
     let made : answer ≡ f (xor_blocks (get_or blocks k []) previous) =
     c.block_after.ensures.block ∙ c.process_halves-left.ensures.output 0 one (xor_blocks (get_or blocks k []) previous) begins.first in
     let last : answer ≡ block_before iv (set blocks k answer) (k + 1 + 1) = search rules in
-    let halves : AreHalvesOf g.G.Groups.word (block_before iv (set blocks k answer) (k + 1 + 1)) _ =
+    let halves : AreHalvesOf g.W.One.Groups.word (block_before iv (set blocks k answer) (k + 1 + 1)) _ =
     rw last at c.block_after.ensures.halves in record {
       left = c.process_halves-left.ensures.right;
       right = c.process_halves-left.ensures.left;

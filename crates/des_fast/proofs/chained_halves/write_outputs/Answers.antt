@@ -12,9 +12,9 @@ loop-j-preserved g c =
     let o : List (List ℕ) = c.loop-j.outputs in
     let j : ℕ = c.loop-j.j in
     let answer : List ℕ = c.block_after.result in
-    let one : 0 < g.G.Groups.BLOCKS = omega (arith, g.met.G.OneWord.is_one) in
+    let one : 0 < g.W.One.Groups.BLOCKS = omega (arith, g.met.W.One.OneWord.is_one) in
     let within : j < length o = search rules in
-    let own : AreHalvesOf g.G.Groups.word answer _ = c.block_after.ensures.halves in
+    let own : AreHalvesOf g.W.One.Groups.word answer _ = c.block_after.ensures.halves in
     let written = outputs-next (g.A.BlockTransform.output c.args.passes.now) iv answer p o j within
     (c.block_after.ensures.block
     ∙ c.process_halves-left.ensures.output 0 one (register_before iv p o j) c.loop-j.invariant.halves.first)
@@ -24,7 +24,8 @@ loop-j-preserved g c =
           let is = w.halves-is in record {
             left = rw is w.xored-halves.ensures.left;
             right = rw is w.xored-halves.ensures.right;
-            halves = rw (is, register-next iv answer w.in-Some.block.now p o j within (search rules) (search rules)) (w.xored-halves.ensures.halves answer own);
+            halves = rw (is, register-next iv answer w.in-Some.block.now p o j within (search rules) (search rules))
+                (w.xored-halves.ensures.halves answer own);
             written = written;
           }
       | in-None w ↦

@@ -6,9 +6,9 @@ use Rattle.des_fast.proofs.chained_halves.write_outputs.Given as goal
 
 abbrev pub invariant-loop-j : goal.invariant-loop-j
 invariant-loop-j g l = record {
-  left : AreExpansions g.G.Groups.BLOCKS g.G.Groups.word l.halves.0;
-  right : AreExpansions g.G.Groups.BLOCKS g.G.Groups.word l.halves.1;
-  halves : AreHalvesOf g.G.Groups.word (register_before l.iv l.plaintext l.outputs l.j) l.halves;
+  left : AreExpansions g.W.One.Groups.BLOCKS g.W.One.Groups.word l.halves.0;
+  right : AreExpansions g.W.One.Groups.BLOCKS g.W.One.Groups.word l.halves.1;
+  halves : AreHalvesOf g.W.One.Groups.word (register_before l.iv l.plaintext l.outputs l.j) l.halves;
   written : (n : ℕ) → n < l.j → get_or l.outputs n []
       ≡ g.A.BlockTransform.output l.passes (register_before l.iv l.plaintext l.outputs n);
 }
