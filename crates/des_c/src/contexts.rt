@@ -6,7 +6,7 @@ ghost use Rattle.des_context.specs.Bytes.{AreBytesOf, FitInto};
 ghost use Rattle.des_context.specs.Contexts.{HasSomeCipherType, HasMark, IsContextOf, IsMarked, IsSoundIfMarked};
 ghost use Rattle.des_context.specs.CipherTypes.{relation_of};
 
-use des_context::contexts::NO_MAC;
+use des_context::ciphers::NO_MAC;
 use des_context::status::{ERR_BLOCKS, ERR_CONTEXT, ERR_KEY_LENGTH, OK};
 use des_context::{block_modes, contexts};
 

@@ -12,7 +12,7 @@ ghost use Rattle.des_modes.specs.declared.modes.TheConstants.{CFB1, CTR};
 ghost use Rattle.des_context.specs.CipherTypes.{encryption_of};
 ghost use Rattle.des_context.specs.Contexts.{HasMark, IsContextOf, IsSoundIfMarked};
 
-use des_context::contexts::NO_MAC;
+use des_context::ciphers::NO_MAC;
 use des_context::status::{ERR_CONTEXT, ERR_MODE, ERR_STREAM, OK};
 use des_context::stream_modes;
 use des_modes::Direction;

@@ -4,7 +4,7 @@ use Rattle.std.specs.Prelude.{◌≡◌, ◌⊎◌, ℕ, ◌+◌, ◌*◌, ◌-�
 use Rattle.des.specs.Blocks.{IsKey, part}
 use Rattle.des_fast.specs.KeptRoundKeys.{AreRoundKeysOf, words_of_part}
 use Rattle.des_context.specs.declared.ciphers.CipherType.{CipherType}
-use Rattle.des_context.specs.declared.contexts.TheConstants.{MARK, NO_MAC}
+use Rattle.des_context.specs.declared.ciphers.TheConstants.{MARK, NO_MAC}
 use Rattle.des_context.specs.CipherTypes.{parts_of, cipher_type_of_length}
 
 -- there are as many words as in a context of this type of cipher

@@ -11,10 +11,9 @@ ghost use Rattle.des.specs.Relations.{IsTheOne};
 ghost use Rattle.des_context.specs.Bytes.{AreBytesOf, FitInto};
 ghost use Rattle.des_context.specs.Contexts.{HasCipherType, HasMark, IsContextOf, IsSoundIfMarked};
 ghost use Rattle.des_context.specs.CipherTypes.{relation_of};
-ghost use Rattle.des_context.specs.declared.contexts.TheConstants.{NO_MAC};
+ghost use Rattle.des_context.specs.declared.ciphers.TheConstants.{NO_MAC};
 
-use crate::ciphers::{CipherType, ContextCipher, dispatch_cipher};
-use crate::contexts::{NO_MAC, opened};
+use crate::ciphers::{CipherType, ContextCipher, NO_MAC, dispatch_cipher, opened};
 use crate::status::{ERR_BLOCKS, ERR_CONTEXT, OK};
 use des::cbc::next_vector;
 use des_fast::many::{ManyBlocks, Slice};

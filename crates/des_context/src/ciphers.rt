@@ -1,11 +1,12 @@
-//! The cipher of a context, made anew for each call. Which one it is, is known only at run time.
+//! The cipher of a context, made anew for each call. Which one it is, and whether it may read tables, is
+//! known only at run time: the number of words and the mark say so.
 
-ghost use Rattle.std.specs.Prelude.{◌≡◌, ◌≤◌, ◌<◌, ◌*◌, ℕ, List, length, map};
+ghost use Rattle.std.specs.Prelude.{◌≡◌, ◌↔◌, ◌≤◌, ◌<◌, ◌*◌, ℕ, List, length, map, IsSome, IfSome};
 ghost use Rattle.des.specs.Blocks.{part};
 ghost use Rattle.des_fast.specs.Des.{IsDesMadeFrom};
 ghost use Rattle.des_context.specs.declared.ciphers.CipherType.{CipherType as CipherTypeOfKeys};
 ghost use Rattle.des_context.specs.declared.ciphers.CipherType.TheVariants as cipher_types;
-ghost use Rattle.des_context.specs.Contexts.{HasCipherType, IsContextOf};
+ghost use Rattle.des_context.specs.Contexts.{HasCipherType, HasMark, IsContextOf, IsMarked, mark_of};
 ghost use Rattle.des_context.specs.CipherTypes.{cipher_type_of_length, decryption_of, encryption_of, parts_of};
 ghost use Rattle.des_context.specs.Keys.{IsKeyLength, keys_of};
 ghost use Rattle.des_context.specs.CipherTypeLaws.{RelatesByLength, RelatesByLength-cipher_type, by_length-cipher_type};
@@ -15,6 +16,12 @@ use des::tdes::{self, Ede2, Ede3};
 use des_fast::box_lookup::BoxLookup;
 use des_fast::round_keys::from_words;
 use des_fast::single::Des;
+
+/// What each mark begins with: no round key has a word that does.
+pub const MARK: u64 = 0xc0de000000000000;
+
+/// The number of no algorithm of a MAC, in the marks of ciphers.
+pub const NO_MAC: u32 = 0;
 
 /// A type of cipher: DES, or triple DES in the EDE form.
 #[derive(Clone, Copy)]
@@ -39,6 +46,30 @@ impl CipherType {
             16 => CipherType::Ede2,
             _ => CipherType::Ede3,
         }
+    }
+}
+
+/// The mark of contexts with this number of words.
+pub(crate) fn mark(algorithm: u32, no_tables: bool, words: usize) -> u64
+    ensures { result ≡ mark_of algorithm no_tables words }
+{
+    MARK + 0x10000 * algorithm as u64 + (if no_tables { 0x100 } else { 0 }) + (words / 16) as u64
+}
+
+/// How the calls of words that end with a mark of the algorithm go: by the cipher of this type, and
+/// whether they are to read no table. `None` if the words have no such mark.
+pub(crate) fn opened(algorithm: u32, context: &[u64]) -> Option<(CipherType, bool)>
+    ensures marked { IsSome result ↔ HasMark algorithm context.now }
+    ensures cipher_type { IfSome result (λ opened. (key : List ℕ) → IsContextOf context.now key
+        → HasCipherType opened.0 context.now) }
+    ensures no_tables { IfSome result (λ opened. IsMarked algorithm opened.1 context.now) }
+{
+    let last = *context.last()?;
+    let no_tables = last == mark(algorithm, true, context.len());
+    if no_tables || last == mark(algorithm, false, context.len()) {
+        Some((CipherType::of_key_size(context.len() / 2), no_tables))
+    } else {
+        None
     }
 }
 

@@ -4,29 +4,17 @@
 //! words is as good. Calls refuse words that do not end with their mark: those that no init made, or
 //! that of another type.
 
-ghost use Rattle.std.specs.Prelude.{◌≡◌, ◌≢◌, ◌↔◌, ◌≤◌, ◌<◌, ◌+◌, ◌*◌, ℕ, List, length, IsSome, IfSome};
+ghost use Rattle.std.specs.Prelude.{◌≡◌, ◌≢◌, ◌↔◌, ◌≤◌, ◌<◌, ◌+◌, ◌*◌, ℕ, length};
 ghost use Rattle.des.specs.Blocks.{part};
 ghost use Rattle.des_fast.specs.KeptRoundKeys.{AreRoundKeysOf, words_of_part};
-ghost use Rattle.des_context.specs.Contexts.{HasSomeCipherType, HasCipherType, HasMark, IsContextOf, IsMarked, mark_of};
+ghost use Rattle.des_context.specs.Contexts.{HasSomeCipherType, IsContextOf, IsMarked};
+ghost use Rattle.des_context.specs.declared.ciphers.TheConstants.{NO_MAC};
 
-use crate::ciphers::CipherType;
+use crate::ciphers::{NO_MAC, mark};
 use crate::status::{ERR_KEY_LENGTH, OK};
 use des::cipher::{KeyInit, are_bytes};
 use des::tdes::key_part;
 use des_fast::{Des, round_keys};
-
-/// What each mark begins with: no round key has a word that does.
-pub const MARK: u64 = 0xc0de000000000000;
-
-/// The number of no algorithm of a MAC, in the marks of ciphers.
-pub const NO_MAC: u32 = 0;
-
-// The mark of contexts with this number of words.
-fn mark(algorithm: u32, no_tables: bool, words: usize) -> u64
-    ensures { result ≡ mark_of algorithm no_tables words }
-{
-    MARK + 0x10000 * algorithm as u64 + (if no_tables { 0x100 } else { 0 }) + (words / 16) as u64
-}
 
 // Writes the round keys of a part of a key, numbered from 1, at their place.
 fn write_part(context: &mut [u64], key: &[u8], number: usize)
@@ -82,21 +70,4 @@ pub fn init(context: &mut [u64], key: &[u8], no_tables: bool) -> i32
     ensures kept { result ≢ OK → context.new ≡ context.old }
 {
     init_for(NO_MAC, context, key, no_tables)
-}
-
-/// How the calls of words that end with a mark of the algorithm go: by the cipher of this type, and
-/// whether they are to read no table. `None` if the words have no such mark.
-pub(crate) fn opened(algorithm: u32, context: &[u64]) -> Option<(CipherType, bool)>
-    ensures marked { IsSome result ↔ HasMark algorithm context.now }
-    ensures cipher_type { IfSome result (λ opened. (key : List ℕ) → IsContextOf context.now key
-        → HasCipherType opened.0 context.now) }
-    ensures no_tables { IfSome result (λ opened. IsMarked algorithm opened.1 context.now) }
-{
-    let last = *context.last()?;
-    let no_tables = last == mark(algorithm, true, context.len());
-    if no_tables || last == mark(algorithm, false, context.len()) {
-        Some((CipherType::of_key_size(context.len() / 2), no_tables))
-    } else {
-        None
-    }
 }

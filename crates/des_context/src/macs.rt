@@ -14,8 +14,8 @@ ghost use Rattle.des_context.specs.MacAlgorithms.{IsAlgorithm, mac_by};
 ghost use Rattle.des_context.specs.MacContexts.{AreMacWordsOf, HasMacCipherType, HasMacMark, IsAMac, IsMacOf, IsSoundMacIfMarked, key_size_of, words_of_cbc};
 ghost use Rattle.des_context.specs.PaddingMethods.{padding_by, status_of};
 
-use crate::ciphers::{CipherType, ContextCipher, dispatch_cipher};
-use crate::contexts::{init_for, opened};
+use crate::ciphers::{CipherType, ContextCipher, dispatch_cipher, opened};
+use crate::contexts::init_for;
 use crate::status::{ERR_CONTEXT, ERR_KEY_LENGTH, ERR_PADDING_METHOD, ERR_TAG, OK};
 use des::cipher::KeyedCipher;
 use des_fast::box_lookup::{BoxLookup, NoTables, Tables};

@@ -8,8 +8,7 @@ ghost use Rattle.des_context.specs.CipherTypes.{relation_of};
 ghost use Rattle.des_context.specs.Contexts.{HasCipherType, HasMark, IsContextOf, IsSoundIfMarked};
 ghost use Rattle.des_context.specs.Records.{AreSizesOf, ChainedByKey, CbcUnderEach};
 
-use crate::ciphers::{ContextCipher, dispatch_cipher};
-use crate::contexts::{NO_MAC, opened};
+use crate::ciphers::{ContextCipher, NO_MAC, dispatch_cipher, opened};
 use crate::status::{ERR_BLOCKS, ERR_CONTEXT, ERR_COUNTS, OK};
 use des_fast::many::{Slice, SpreadOnce};
 

@@ -13,10 +13,9 @@ ghost use Rattle.des_modes.specs.declared.modes.Mode.TheVariants.{BitFeedback};
 ghost use Rattle.des_modes.specs.declared.modes.TheConstants.{CFB1};
 ghost use Rattle.des_context.specs.CipherTypes.{encryption_of, relation_of};
 ghost use Rattle.des_context.specs.Contexts.{HasCipherType, HasMark, IsContextOf, IsSoundIfMarked};
-ghost use Rattle.des_context.specs.declared.contexts.TheConstants.{NO_MAC};
+ghost use Rattle.des_context.specs.declared.ciphers.TheConstants.{NO_MAC};
 
-use crate::ciphers::{ContextCipher, dispatch_cipher};
-use crate::contexts::{NO_MAC, opened};
+use crate::ciphers::{ContextCipher, NO_MAC, dispatch_cipher, opened};
 use crate::status::{ERR_CONTEXT, ERR_MODE, ERR_STREAM, OK};
 use des_fast::many::{ManyBlocks, Slice};
 use des_modes::Direction;

@@ -10,7 +10,7 @@ ghost use Rattle.des_context.specs.CipherTypes.{relation_of};
 
 use super::Width;
 use des_context::block_modes;
-use des_context::contexts::NO_MAC;
+use des_context::ciphers::NO_MAC;
 use des_context::status::{ERR_BLOCKS, ERR_CONTEXT, OK};
 
 /// Encrypts bytes in place, each block of eight by itself. The status is `ERR_BLOCKS` if they

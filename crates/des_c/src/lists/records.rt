@@ -8,7 +8,7 @@ ghost use Rattle.des_context.specs.Contexts.{HasMark, IsContextOf, IsSoundIfMark
 ghost use Rattle.des_context.specs.Records.{AreSizesOf, CbcUnderEach};
 
 use super::Width;
-use des_context::contexts::NO_MAC;
+use des_context::ciphers::NO_MAC;
 use des_context::records::{decrypt_cbc_records, encrypt_cbc_records};
 use des_context::status::{ERR_BLOCKS, ERR_CONTEXT, ERR_COUNTS, OK};
 
