@@ -1,4 +1,4 @@
--- What the words of a command line are: the direction of a stream, and which inputs are standard input.
+-- What a command line is: the direction of a stream, and which inputs are standard input.
 use Rattle.std.specs.Prelude.{◌≡◌, ◌⊎◌, ℕ, Bool, true, false, List, [], ◌∷◌, length, filter, codes, Option, Some, None, ⊤}
 use Rattle.des_lines.specs.declared.requests.Account.{Account}
 use Rattle.des_lines.specs.declared.requests.Account.TheVariants.{In}

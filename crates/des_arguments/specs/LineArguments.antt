@@ -1,4 +1,4 @@
--- What the words of `decrypt-lines` ask for.
+-- What the arguments of `decrypt-lines` ask for.
 use Rattle.std.specs.Prelude.{◌≡◌, ◌≢◌, ◌⊎◌, ◌≤◌, ◌<◌, ℕ, false, true, [], codes, Option, Some, None, unwrap_or}
 use Rattle.des_lines.specs.declared.fault.FaultKind.{FaultKind}
 use Rattle.des_lines.specs.declared.fault.FaultKind.TheVariants.{Usage}
@@ -7,56 +7,57 @@ use Rattle.des_lines.specs.declared.source.Source.{Source}
 use Rattle.des_columns.specs.Pbe.{algorithm_of}
 use Rattle.des_columns.specs.declared.pbe.Algorithm.{Algorithm}
 use Rattle.des_columns.specs.PgcryptoColumns.{scheme_of}
-use Rattle.des_arguments.specs.declared.arguments.lines.LineWords.{LineWords}
+use Rattle.des_arguments.specs.declared.arguments.lines.LineArguments.{LineArguments}
 use Rattle.des_arguments.specs.declared.command.lines.LinesRequest.{LinesRequest}
 use Rattle.des_arguments.specs.declared.command.lines.ValueFormat.{ValueFormat}
 use Rattle.des_arguments.specs.declared.command.lines.ValueFormat.TheVariants.{Mysql, Pgcrypto, Jasypt}
 use Rattle.des_arguments.specs.LineFormats.{coding_of, source_of, takes_secret}
 use Rattle.des_arguments.specs.StreamArguments.{IsInput, IsOutput, IsReadTwice, text_or}
 
--- ---- words
+-- ---- arguments
 
 -- the number of iterations: 1,000 without one, and no more than ten million
-abbrev pub iterations_by : LineWords → ℕ
-iterations_by words = unwrap_or words.iterations 1000
+abbrev pub iterations_by : LineArguments → ℕ
+iterations_by arguments = unwrap_or arguments.iterations 1000
 
-abbrev pub algorithm_by : LineWords → Option Algorithm
-algorithm_by words = algorithm_of (text_or words.algorithm (codes "PBEWithMD5AndDES"))
+abbrev pub algorithm_by : LineArguments → Option Algorithm
+algorithm_by arguments = algorithm_of (text_or arguments.algorithm (codes "PBEWithMD5AndDES"))
 
--- words of Jasypt ask for an algorithm and its iterations
-abbrev pub IsJasypt : LineWords → Algorithm → ℕ → Type 0
-IsJasypt words by count =
-    (words.iv ≡ None) × (words.is_base64 ≡ false) × (algorithm_by words ≡ Some by)
-    × (count ≡ iterations_by words) × (1 ≤ count) × (count ≤ 10000000)
+-- arguments of Jasypt ask for an algorithm and its iterations
+abbrev pub IsJasypt : LineArguments → Algorithm → ℕ → Type 0
+IsJasypt arguments by count =
+    (arguments.iv ≡ None) × (arguments.is_base64 ≡ false) × (algorithm_by arguments ≡ Some by)
+    × (count ≡ iterations_by arguments) × (1 ≤ count) × (count ≤ 10000000)
 
-abbrev pub FailsAsJasypt : LineWords → Type 0
-FailsAsJasypt words =
-    (words.iv ≢ None) ⊎ (words.is_base64 ≡ true) ⊎ (algorithm_by words ≡ None) ⊎ (iterations_by words ≡ 0)
-    ⊎ (10000000 < iterations_by words)
+abbrev pub FailsAsJasypt : LineArguments → Type 0
+FailsAsJasypt arguments =
+    (arguments.iv ≢ None) ⊎ (arguments.is_base64 ≡ true) ⊎ (algorithm_by arguments ≡ None) ⊎ (iterations_by arguments ≡ 0)
+    ⊎ (10000000 < iterations_by arguments)
 
--- words of MySQL ask for nothing else, and a type of pgcrypto for a vector, which is empty without it
-abbrev pub IsOther : LineWords → ValueFormat → Type 0
-IsOther words Mysql =
-    (words.algorithm ≡ None) × (words.iterations ≡ None) × (words.format.now ≡ codes "mysql") × (words.iv ≡ None)
-IsOther words (Pgcrypto scheme digits) =
-    (words.algorithm ≡ None) × (words.iterations ≡ None) × (words.format.now ≢ codes "mysql")
-    × (scheme_of words.format.now ≡ Some scheme) × (digits.now ≡ text_or words.iv [])
-IsOther words (Jasypt by count) = ⊥
+-- arguments of MySQL ask for nothing else, and a type of pgcrypto for a vector, which is empty without it
+abbrev pub IsOther : LineArguments → ValueFormat → Type 0
+IsOther arguments Mysql =
+    (arguments.algorithm ≡ None) × (arguments.iterations ≡ None) × (arguments.format.now ≡ codes "mysql") × (arguments.iv ≡ None)
+IsOther arguments (Pgcrypto scheme digits) =
+    (arguments.algorithm ≡ None) × (arguments.iterations ≡ None) × (arguments.format.now ≢ codes "mysql")
+    × (scheme_of arguments.format.now ≡ Some scheme) × (digits.now ≡ text_or arguments.iv [])
+IsOther arguments (Jasypt by count) = ⊥
 
-abbrev pub FailsAsOther : LineWords → Type 0
-FailsAsOther words =
-    (words.algorithm ≢ None) ⊎ (words.iterations ≢ None) ⊎ ((words.format.now ≡ codes "mysql") × (words.iv ≢ None))
-    ⊎ ((words.format.now ≢ codes "mysql") × (scheme_of words.format.now ≡ None))
+abbrev pub FailsAsOther : LineArguments → Type 0
+FailsAsOther arguments =
+    (arguments.algorithm ≢ None) ⊎ (arguments.iterations ≢ None)
+    ⊎ ((arguments.format.now ≡ codes "mysql") × (arguments.iv ≢ None))
+    ⊎ ((arguments.format.now ≢ codes "mysql") × (scheme_of arguments.format.now ≡ None))
 
 -- the format of a name, with what its options ask for
-abbrev pub IsFormat : LineWords → ValueFormat → Type 0
-IsFormat words (Jasypt by count) = (words.format.now ≡ codes "jasypt") × IsJasypt words by count
-IsFormat words format = (words.format.now ≢ codes "jasypt") × IsOther words format
+abbrev pub IsFormat : LineArguments → ValueFormat → Type 0
+IsFormat arguments (Jasypt by count) = (arguments.format.now ≡ codes "jasypt") × IsJasypt arguments by count
+IsFormat arguments format = (arguments.format.now ≢ codes "jasypt") × IsOther arguments format
 
-abbrev pub FailsAsFormat : LineWords → Type 0
-FailsAsFormat words =
-    ((words.format.now ≡ codes "jasypt") × FailsAsJasypt words)
-    ⊎ ((words.format.now ≢ codes "jasypt") × FailsAsOther words)
+abbrev pub FailsAsFormat : LineArguments → Type 0
+FailsAsFormat arguments =
+    ((arguments.format.now ≡ codes "jasypt") × FailsAsJasypt arguments)
+    ⊎ ((arguments.format.now ≢ codes "jasypt") × FailsAsOther arguments)
 
 -- an option that the format does not take, or another value of it
 abbrev pub IsOfOption : FaultKind → Type 0
@@ -65,23 +66,23 @@ IsOfOption kind = (kind ≡ Usage Arguments) ⊎ (kind ≡ Usage ArgumentValue)
 -- ---- the whole
 
 -- each word has its meaning in the request, the format takes the secret, and standard input is read once
-pub record IsLinesRequest (words : LineWords) (request : LinesRequest) : Type 0 where
-  pub format : IsFormat words request.format
-  pub secret : request.secret ≡ words.secret
-  pub taken : takes_secret request.format words.secret ≡ true
-  pub coding : request.coding ≡ coding_of request.format words.is_base64
-  pub digits : request.writes_digits ≡ words.writes_digits
-  pub keeps_going : request.keeps_going ≡ words.keeps_going
-  pub input : IsInput words.input request.input
-  pub output : IsOutput words.output request.output
-  pub progress : request.shows_progress ≡ words.shows_progress
-  pub once : ¬ IsReadTwice (source_of words.secret) request.input
+pub record IsLinesRequest (arguments : LineArguments) (request : LinesRequest) : Type 0 where
+  pub format : IsFormat arguments request.format
+  pub secret : request.secret ≡ arguments.secret
+  pub taken : takes_secret request.format arguments.secret ≡ true
+  pub coding : request.coding ≡ coding_of request.format arguments.is_base64
+  pub digits : request.writes_digits ≡ arguments.writes_digits
+  pub keeps_going : request.keeps_going ≡ arguments.keeps_going
+  pub input : IsInput arguments.input request.input
+  pub output : IsOutput arguments.output request.output
+  pub progress : request.shows_progress ≡ arguments.shows_progress
+  pub once : ¬ IsReadTwice (source_of arguments.secret) request.input
 
--- why words ask for nothing
-abbrev pub FailsAsLinesRequest : LineWords → FaultKind → Type 0
-FailsAsLinesRequest words kind =
-    (FailsAsFormat words × IsOfOption kind)
-    ⊎ ((format : ValueFormat) × IsFormat words format × (takes_secret format words.secret ≡ false)
+-- why arguments ask for nothing
+abbrev pub FailsAsLinesRequest : LineArguments → FaultKind → Type 0
+FailsAsLinesRequest arguments kind =
+    (FailsAsFormat arguments × IsOfOption kind)
+    ⊎ ((format : ValueFormat) × IsFormat arguments format × (takes_secret format arguments.secret ≡ false)
     × (kind ≡ Usage PasswordSource))
-    ⊎ ((input : Source) × IsInput words.input input × IsReadTwice (source_of words.secret) input
+    ⊎ ((input : Source) × IsInput arguments.input input × IsReadTwice (source_of arguments.secret) input
     × (kind ≡ Usage StandardInputTwice))

@@ -1,4 +1,4 @@
--- What the words of commands on files under passwords ask for.
+-- What the arguments of commands on files under passwords ask for.
 use Rattle.std.specs.Prelude.{◌≡◌, ◌^◌, ◌<◌, ◌&&◌, ◌==◌, ℕ, nat_lt, Bool, true, false, not, if◌then◌else◌, List, ◌++◌, codes, Option, Some, None}
 use Rattle.std.specs.Str.Parse.{IsNumeral, without_leading_plus, digits_value}
 use Rattle.des_passwords.specs.declared.derivation.Derivation.{Derivation}

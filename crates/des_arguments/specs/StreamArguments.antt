@@ -1,4 +1,4 @@
--- What the words of `encrypt` and `decrypt` ask for.
+-- What the arguments of `encrypt` and `decrypt` ask for.
 use Rattle.std.specs.Prelude.{◌≡◌, ◌≢◌, ◌⊎◌, ℕ, Bool, true, false, List, ◌++◌, codes, Option, Some, None, Result, Ok, Err}
 use Rattle.std.specs.Borrow.{Bor}
 use Rattle.des_io.specs.declared.padding.Padding.{Padding}
@@ -23,11 +23,11 @@ use Rattle.des_arguments.specs.declared.command.streams.WeakKeys.TheVariants.{Re
 use Rattle.des_arguments.specs.declared.command.streams.Output.{Output}
 use Rattle.des_arguments.specs.declared.command.streams.Output.TheVariants.{Unnamed, StandardOutput, File as OutputFile}
 use Rattle.des_arguments.specs.declared.command.streams.StreamRequest.{StreamRequest}
-use Rattle.des_arguments.specs.declared.arguments.streams.StreamWords.{StreamWords}
+use Rattle.des_arguments.specs.declared.arguments.streams.StreamArguments.{StreamArguments}
 use Rattle.des_arguments.specs.StreamRequests.{source_of, takes_vector, is_stream, takes_part}
 use Rattle.des_lines.specs.Texts.{bytes_of, digits_fault}
 
--- ---- words
+-- ---- arguments
 
 -- the name of a cipher in a mode, OpenSSL's if that has one
 abbrev pub cipher_word : Cipher → List ℕ
@@ -141,44 +141,44 @@ IsReadTwice first second = (first ≡ StandardInput) × (second ≡ StandardInpu
 -- ---- the whole
 
 -- each word has its meaning in the request, and standard input is read once
-pub record IsRequest (words : StreamWords) (request : StreamRequest) : Type 0 where
-  pub direction : request.encrypts ≡ words.encrypts
-  pub name : words.cipher.now ≡ cipher_name request.cipher request.mode
-  pub vector : IsVectorFor words.iv words.secret (takes_vector request.mode) words.encrypts request.vector
-  pub unpadded : is_stream request.mode ≡ true → words.padding ≡ None
+pub record IsRequest (arguments : StreamArguments) (request : StreamRequest) : Type 0 where
+  pub direction : request.encrypts ≡ arguments.encrypts
+  pub name : arguments.cipher.now ≡ cipher_name request.cipher request.mode
+  pub vector : IsVectorFor arguments.iv arguments.secret (takes_vector request.mode) arguments.encrypts request.vector
+  pub unpadded : is_stream request.mode ≡ true → arguments.padding ≡ None
   pub alone : request.part ≢ None → takes_part request.mode ≡ true
-  pub padding : padding_word request.padding ≡ text_or words.padding (codes "pkcs7")
+  pub padding : padding_word request.padding ≡ text_or arguments.padding (codes "pkcs7")
   pub weak_keys : weak_keys_word request.weak_keys
-      ≡ text_or words.weak_keys (weak_keys_word (default_weak_keys words.encrypts))
-  pub part : part_for words.encrypts words.from words.count ≡ Ok request.part
-  pub secret : request.secret ≡ words.secret
-  pub coding : request.coding ≡ words.coding
-  pub input : IsInput words.input request.input
-  pub output : IsOutput words.output request.output
-  pub progress : request.shows_progress ≡ words.shows_progress
+      ≡ text_or arguments.weak_keys (weak_keys_word (default_weak_keys arguments.encrypts))
+  pub part : part_for arguments.encrypts arguments.from arguments.count ≡ Ok request.part
+  pub secret : request.secret ≡ arguments.secret
+  pub coding : request.coding ≡ arguments.coding
+  pub input : IsInput arguments.input request.input
+  pub output : IsOutput arguments.output request.output
+  pub progress : request.shows_progress ≡ arguments.shows_progress
   pub once : ¬ IsReadTwice (source_of request.secret) request.input
 
 -- a word is none of those that its option takes
-abbrev pub HasOtherWord : StreamWords → Type 0
-HasOtherWord words =
-    ((cipher : Cipher) (mode : CipherMode) → words.cipher.now ≢ cipher_name cipher mode)
-    ⊎ ((padding : Padding) → padding_word padding ≢ text_or words.padding (codes "pkcs7"))
+abbrev pub HasOtherWord : StreamArguments → Type 0
+HasOtherWord arguments =
+    ((cipher : Cipher) (mode : CipherMode) → arguments.cipher.now ≢ cipher_name cipher mode)
+    ⊎ ((padding : Padding) → padding_word padding ≢ text_or arguments.padding (codes "pkcs7"))
     ⊎ ((choice : WeakKeys)
-    → weak_keys_word choice ≢ text_or words.weak_keys (weak_keys_word (default_weak_keys words.encrypts)))
+    → weak_keys_word choice ≢ text_or arguments.weak_keys (weak_keys_word (default_weak_keys arguments.encrypts)))
 
--- why the words of a mode ask for nothing: padding of a stream cipher, a part of what is decrypted as a whole, or the vector
-abbrev pub FailsInMode : StreamWords → CipherMode → FaultKind → Type 0
-FailsInMode words mode kind =
-    ((is_stream mode ≡ true) × (words.padding ≢ None) × (kind ≡ Usage PaddingOfStream))
-    ⊎ ((takes_part mode ≡ false) × (part_between words.from words.count ≢ None) × (kind ≡ Usage PartOfOfb))
-    ⊎ FailsAsVectorFor words.iv words.secret (takes_vector mode) words.encrypts kind
+-- why the arguments of a mode ask for nothing: padding of a stream cipher, a part of what is decrypted as a whole, or the vector
+abbrev pub FailsInMode : StreamArguments → CipherMode → FaultKind → Type 0
+FailsInMode arguments mode kind =
+    ((is_stream mode ≡ true) × (arguments.padding ≢ None) × (kind ≡ Usage PaddingOfStream))
+    ⊎ ((takes_part mode ≡ false) × (part_between arguments.from arguments.count ≢ None) × (kind ≡ Usage PartOfOfb))
+    ⊎ FailsAsVectorFor arguments.iv arguments.secret (takes_vector mode) arguments.encrypts kind
 
--- why words ask for nothing
-abbrev pub FailsAsRequest : StreamWords → FaultKind → Type 0
-FailsAsRequest words kind =
-    (HasOtherWord words × (kind ≡ Usage Arguments))
-    ⊎ (part_for words.encrypts words.from words.count ≡ Err kind)
-    ⊎ ((cipher : Cipher) × (mode : CipherMode) × (words.cipher.now ≡ cipher_name cipher mode)
-    × FailsInMode words mode kind)
-    ⊎ ((input : Source) × IsInput words.input input × IsReadTwice (source_of words.secret) input
+-- why arguments ask for nothing
+abbrev pub FailsAsRequest : StreamArguments → FaultKind → Type 0
+FailsAsRequest arguments kind =
+    (HasOtherWord arguments × (kind ≡ Usage Arguments))
+    ⊎ (part_for arguments.encrypts arguments.from arguments.count ≡ Err kind)
+    ⊎ ((cipher : Cipher) × (mode : CipherMode) × (arguments.cipher.now ≡ cipher_name cipher mode)
+    × FailsInMode arguments mode kind)
+    ⊎ ((input : Source) × IsInput arguments.input input × IsReadTwice (source_of arguments.secret) input
     × (kind ≡ Usage StandardInputTwice))

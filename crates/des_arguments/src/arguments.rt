@@ -1,4 +1,4 @@
-//! The command line: what its words ask for.
+//! What a command line asks for.
 
 mod argument_values;
 mod grammar;
@@ -152,7 +152,7 @@ fn calculation_of<'a>(name: &str, matches: &ArgMatches<'a>) -> Requested<'a> {
     }
 }
 
-/// What the words ask for; a fault if their options don't go together.
+/// What the arguments ask for; a fault if their options don't go together.
 pub fn command_of<'m, 'a>(matches: &'m ArgMatches<'a>) -> Result<Command<'m, 'a>, Fault<'a>>
     ensures direction { IfOk result (HasDirectionOf (subcommand_name_of matches.now)) }
 {

@@ -1,6 +1,5 @@
-//! What the words of a command line of `cukvashe` ask for: `arguments` parses them by a table of
-//! commands and makes a `Command`, and `usage` shows help, or what is wrong with them. `des_commands`
-//! does what is asked.
+//! What a command line of `cukvashe` asks for: `arguments` parses it by a table of commands and
+//! makes a `Command`, and `usage` shows help, or what is wrong with it. `des_commands` does what is asked.
 #![tactic(auto)]
 
 pub mod arguments;

@@ -78,10 +78,10 @@ fn show_help(rt: &HostRuntime, help: &str) -> Result<u8, AllocError> {
 
 // ---- faults
 
-// The usage of the command that the words name: the end of the message on an option that there is
+// The usage of the command that the command line names: the end of the message on an option that there is
 // not, in place of what was typed.
-fn usage_of(rt: &HostRuntime, words: &[&str]) -> Result<String, AllocError> {
-    let (name, second) = names_of(words);
+fn usage_of(rt: &HostRuntime, command_line: &[&str]) -> Result<String, AllocError> {
+    let (name, second) = names_of(command_line);
     let wrong = "--?";
     let known = match (name, second) {
         ("", _) => ["cukvashe", wrong, wrong, wrong],
@@ -167,8 +167,8 @@ fn similar_in<'a>(message: &'a str) -> &'a str {
 
 // What may have been meant: a name that others use, an option with one dash, or the name that
 // the message suggests. Nothing of it was typed, but what is a name here.
-fn meant(rt: &HostRuntime, message: &str, words: &[&str]) -> Result<String, AllocError> {
-    for word in words {
+fn meant(rt: &HostRuntime, message: &str, command_line: &[&str]) -> Result<String, AllocError> {
+    for word in command_line {
         let (word, _) = word.split_once('=').unwrap_or((word, ""));
         let other = other_name(word);
         if other != "" {
@@ -195,9 +195,9 @@ fn tell_hidden(
     rt: &HostRuntime,
     kind: ErrorKind,
     message: &str,
-    words: &[&str],
+    command_line: &[&str],
 ) -> Result<u8, AllocError> {
-    let usage = usage_of(rt, words)?;
+    let usage = usage_of(rt, command_line)?;
     let about = match kind {
         // What was typed stands before the option or the argument.
         ErrorKind::InvalidValue | ErrorKind::ValueValidation => between(message, " for '", "'"),
@@ -211,7 +211,7 @@ fn tell_hidden(
         kind: FaultKind::Usage(misuse),
         about: about.unwrap_or(""),
     };
-    // The words that the argument takes, if it takes some words alone.
+    // The values that the argument takes, if it takes only some.
     let taken = between(message, "\n  [possible values: ", "]");
     let text = match (kind, taken) {
         (ErrorKind::InvalidValue, Some(taken)) => {
@@ -221,7 +221,7 @@ fn tell_hidden(
             format!(in rt.alloc(); "\n{usage}")?
         }
         _ => {
-            let meant = meant(rt, message, words)?;
+            let meant = meant(rt, message, command_line)?;
             format!(in rt.alloc(); "{meant}\n{usage}")?
         }
     };
@@ -230,11 +230,15 @@ fn tell_hidden(
     Ok(status)
 }
 
-fn show_by_kind(rt: &HostRuntime, error: &clap::Error, words: &[&str]) -> Result<u8, AllocError> {
+fn show_by_kind(
+    rt: &HostRuntime,
+    error: &clap::Error,
+    command_line: &[&str],
+) -> Result<u8, AllocError> {
     let text = format!(in rt.alloc(); "{error}")?;
     match error.kind() {
         ErrorKind::DisplayHelp | ErrorKind::DisplayVersion => show_help(rt, text.as_str()),
-        // The help of a command that is given no words.
+        // The help of a command that is given no arguments.
         ErrorKind::DisplayHelpOnMissingArgumentOrSubcommand => {
             let _ = send(&mut rt.stderr(), wrapped(rt, text.as_str())?.as_slice());
             Ok(USAGE)
@@ -252,13 +256,13 @@ fn show_by_kind(rt: &HostRuntime, error: &clap::Error, words: &[&str]) -> Result
             tell_text(rt, whole.as_str());
             Ok(USAGE)
         }
-        kind => tell_hidden(rt, kind, text.as_str(), words),
+        kind => tell_hidden(rt, kind, text.as_str(), command_line),
     }
 }
 
 /// Shows what a command line that was not parsed is told, and returns the status.
-pub fn show_usage(rt: &HostRuntime, error: &clap::Error, words: &[&str]) -> u8 {
-    match show_by_kind(rt, error, words) {
+pub fn show_usage(rt: &HostRuntime, error: &clap::Error, command_line: &[&str]) -> u8 {
+    match show_by_kind(rt, error, command_line) {
         Ok(status) => status,
         Err(error) => tell::<English, _>(Fault::from(error), &mut rt.stderr()),
     }

@@ -16,20 +16,20 @@ name_of Salt = codes "SaltCut"
 name_of Padding = codes "Padding"
 name_of Unprintable = codes "Unprintable"
 
-abbrev pub words_of : LineFault → List ℕ
-words_of Digit = codes "a character is no hexadecimal digit"
-words_of DigitCount = codes "the number of hexadecimal digits is odd"
-words_of Base64 = codes "it is no Base64"
-words_of NotEncrypted = codes "the value is not encrypted"
-words_of KeyNumber = codes "the value names a key that is not given"
-words_of Length = codes "the value ends within a block of 8 bytes"
-words_of Salt = codes "the value ends within the salt"
-words_of Padding = codes "wrong key, password, format or padding"
-words_of Unprintable = codes "the text does not fit a line: --hex writes digits"
+abbrev pub sentence_of : LineFault → List ℕ
+sentence_of Digit = codes "a character is no hexadecimal digit"
+sentence_of DigitCount = codes "the number of hexadecimal digits is odd"
+sentence_of Base64 = codes "it is no Base64"
+sentence_of NotEncrypted = codes "the value is not encrypted"
+sentence_of KeyNumber = codes "the value names a key that is not given"
+sentence_of Length = codes "the value ends within a block of 8 bytes"
+sentence_of Salt = codes "the value ends within the salt"
+sentence_of Padding = codes "wrong key, password, format or padding"
+sentence_of Unprintable = codes "the text does not fit a line: --hex writes digits"
 
 -- nothing of the value stands in it
 abbrev pub fault_line : LineFault → List ℕ → List ℕ
-fault_line fault about = line_with (name_of fault) about (words_of fault)
+fault_line fault about = line_with (name_of fault) about (sentence_of fault)
 
 -- what it is about: the input, and the number of the line
 abbrev pub about_line : List ℕ → ℕ → List ℕ

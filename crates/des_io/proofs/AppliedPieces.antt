@@ -8,17 +8,17 @@ use Rattle.des_modes.specs.declared.direction.Direction.{Direction}
 use Rattle.des_modes.specs.declared.direction.Direction.TheVariants.{Encrypt, Decrypt}
 use Rattle.des_modes.specs.declared.stream.Stream.{Stream}
 
-pub Becomes-append : {E : List ℕ → List ℕ} {direction : Direction} {stream next last : Stream} {from to more answers : List ℕ}
-    → Becomes E direction stream from to next → Becomes E direction next more answers last
-    → Becomes E direction stream (from ++ more) (to ++ answers) last
-Becomes-append {direction = Encrypt} {from = from} {to} {more} {answers} first second = record {
+pub Becomes-append : {E : List ℕ → List ℕ} {direction : Direction} {stream next last : Stream} {from to more outputs : List ℕ}
+    → Becomes E direction stream from to next → Becomes E direction next more outputs last
+    → Becomes E direction stream (from ++ more) (to ++ outputs) last
+Becomes-append {direction = Encrypt} {from = from} {to} {more} {outputs} first second = record {
   goes_on = λ number iv p c at.
-      rw (← append_assoc p from more, ← append_assoc c to answers)
+      rw (← append_assoc p from more, ← append_assoc c to outputs)
       (second.goes_on number iv (p ++ from) (c ++ to) (first.goes_on number iv p c at));
 }
-Becomes-append {direction = Decrypt} {from = from} {to} {more} {answers} first second = record {
+Becomes-append {direction = Decrypt} {from = from} {to} {more} {outputs} first second = record {
   goes_on = λ number iv p c at.
-      rw (← append_assoc p to answers, ← append_assoc c from more)
+      rw (← append_assoc p to outputs, ← append_assoc c from more)
       (second.goes_on number iv (p ++ to) (c ++ from) (first.goes_on number iv p c at));
 }
 
@@ -49,28 +49,28 @@ AppliesAll-none E direction stream r u = record {
 
 -- n bytes more
 pub AppliesAll-more : {E : List ℕ → List ℕ} {direction : Direction} {stream next : Stream} {count : ℕ} {r s t u v w : Option (List ℕ)}
-    (bytes answers : List ℕ) (last : Stream) (n k : ℕ) → AppliesAll E direction stream next count (passage_of r s u v)
-    → Consumes s t bytes → length bytes ≡ n → Becomes E direction next bytes answers last → Appends v w (take k answers)
-    → k ≡ length answers → AppliesAll E direction stream last (count + n) (passage_of r t u w)
-AppliesAll-more {r = r} {s} {t} {u} {v} {w} bytes answers last n k so_far read size became written all = record {
+    (bytes outputs : List ℕ) (last : Stream) (n k : ℕ) → AppliesAll E direction stream next count (passage_of r s u v)
+    → Consumes s t bytes → length bytes ≡ n → Becomes E direction next bytes outputs last → Appends v w (take k outputs)
+    → k ≡ length outputs → AppliesAll E direction stream last (count + n) (passage_of r t u w)
+AppliesAll-more {r = r} {s} {t} {u} {v} {w} bytes outputs last n k so_far read size became written all = record {
   from = so_far.from ++ bytes;
-  to = so_far.to ++ answers;
+  to = so_far.to ++ outputs;
   read = Consumes-trans r s t _ _ so_far.read read;
   became = Becomes-append so_far.became became;
-  written = Appends-trans u v w _ _ so_far.written (subst (Appends v w) (take_all k answers (omega (arith, all))) written);
+  written = Appends-trans u v w _ _ so_far.written (subst (Appends v w) (take_all k outputs (omega (arith, all))) written);
   size = omega (arith, length-append so_far.from bytes, so_far.size, size);
 }
 
 -- after a piece that was written, perhaps not the whole of it, and bytes that were read behind it
 abbrev pub AppliesPrefix-more : {E : List ℕ → List ℕ} {direction : Direction} {stream next last : Stream} {count limit : ℕ}
-    {r s t u v w : Option (List ℕ)} {answers : List ℕ} (bytes rest : List ℕ) (k : ℕ)
-    → AppliesAll E direction stream next count (passage_of r s u v) → Consumes s t (bytes ++ rest) → Becomes E direction next bytes answers last
-    → Appends v w (take k answers) → count + length bytes ≤ limit → AppliesPrefix E direction stream limit (passage_of r t u w)
-AppliesPrefix-more {last = last} {r = r} {s} {t} {u} {v} {w} {answers} bytes rest k so_far read became written within = record {
+    {r s t u v w : Option (List ℕ)} {outputs : List ℕ} (bytes rest : List ℕ) (k : ℕ)
+    → AppliesAll E direction stream next count (passage_of r s u v) → Consumes s t (bytes ++ rest) → Becomes E direction next bytes outputs last
+    → Appends v w (take k outputs) → count + length bytes ≤ limit → AppliesPrefix E direction stream limit (passage_of r t u w)
+AppliesPrefix-more {last = last} {r = r} {s} {t} {u} {v} {w} {outputs} bytes rest k so_far read became written within = record {
   from = so_far.from ++ bytes;
   rest = rest;
-  put = so_far.to ++ take k answers;
-  missing = drop k answers;
+  put = so_far.to ++ take k outputs;
+  missing = drop k outputs;
   next = last;
   read = rw append_assoc (Consumes-trans r s t _ _ so_far.read read);
   became = rw (append_assoc, take-append-drop) (Becomes-append so_far.became became);

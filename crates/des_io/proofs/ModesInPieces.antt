@@ -13,21 +13,21 @@ pub mode_after-append : (mode : BlockMode) (blocks more : List (List ℕ)) → m
 mode_after-append Ecb blocks more = refl
 mode_after-append (CbcMode iv) blocks more = ap CbcMode (next_vector-append iv blocks more)
 
-pub Enciphered-append : (encryption : List ℕ → List ℕ) (mode : BlockMode) (p q more answers : List (List ℕ))
+pub Enciphered-append : (encryption : List ℕ → List ℕ) (mode : BlockMode) (p q more outputs : List (List ℕ))
     → Enciphered encryption mode p q
-    → Enciphered encryption (mode_after mode q) more answers → Enciphered encryption mode (p ++ more) (q ++ answers)
-Enciphered-append encryption Ecb p q more answers first second = ap₂ ◌++◌ first second
+    → Enciphered encryption (mode_after mode q) more outputs → Enciphered encryption mode (p ++ more) (q ++ outputs)
+Enciphered-append encryption Ecb p q more outputs first second = ap₂ ◌++◌ first second
     ∙ sym (map-append encryption p more)
-Enciphered-append encryption (CbcMode iv) p q more answers first second =
-    CbcUnder-append (λ block answer. answer ≡ encryption block) iv p q more answers first second
+Enciphered-append encryption (CbcMode iv) p q more outputs first second =
+    CbcUnder-append (λ block answer. answer ≡ encryption block) iv p q more outputs first second
 
-pub Deciphered-append : (decryption : List ℕ → List ℕ) (mode : BlockMode) (q p more answers : List (List ℕ))
+pub Deciphered-append : (decryption : List ℕ → List ℕ) (mode : BlockMode) (q p more outputs : List (List ℕ))
     → Deciphered decryption mode q p
-    → Deciphered decryption (mode_after mode q) more answers → Deciphered decryption mode (q ++ more) (p ++ answers)
-Deciphered-append decryption Ecb q p more answers first second = ap₂ ◌++◌ first second
+    → Deciphered decryption (mode_after mode q) more outputs → Deciphered decryption mode (q ++ more) (p ++ outputs)
+Deciphered-append decryption Ecb q p more outputs first second = ap₂ ◌++◌ first second
     ∙ sym (map-append decryption q more)
-Deciphered-append decryption (CbcMode iv) q p more answers first second =
-    CbcDecrypts-append decryption iv q p more answers first second
+Deciphered-append decryption (CbcMode iv) q p more outputs first second =
+    CbcDecrypts-append decryption iv q p more outputs first second
 
 -- ---- nothing
 

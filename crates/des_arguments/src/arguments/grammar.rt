@@ -1,4 +1,4 @@
-//! The words of a command line, parsed by the table of commands.
+//! The command line, parsed by the table of commands.
 
 use super::table::{Argument, CommandGroup, CommandRow, STATUSES, Takes, groups, list_of};
 use clap::{Arg, ArgAction, ArgMatches, Command, Error, value_parser};
@@ -14,8 +14,8 @@ fn option<'a>(arg: Arg<'a>, name: &'a str, value: &'a str) -> Arg<'a> {
     arg.long(name).value_name(value)
 }
 
-fn one_of<'a>(arg: Arg<'a>, words: &'a [&'a str]) -> Arg<'a> {
-    arg.value_parser(words)
+fn one_of<'a>(arg: Arg<'a>, values: &'a [&'a str]) -> Arg<'a> {
+    arg.value_parser(values)
 }
 
 fn number<'a>(arg: Arg<'a>) -> Arg<'a> {
@@ -30,14 +30,14 @@ fn arg_of<'a>(alloc: Global, argument: Argument<'a>) -> Arg<'a> {
     let Argument(name, takes, help) = argument;
     let arg = Arg::new(alloc, name).help(help);
     match takes {
-        Takes::Place(value, words) => one_of(place(arg, value), words),
+        Takes::Place(value, values) => one_of(place(arg, value), values),
         Takes::PlaceOfText(value) => place(arg, value),
-        Takes::Word(value, words) => one_of(option(arg, name, value), words),
+        Takes::Word(value, values) => one_of(option(arg, name, value), values),
         Takes::Number(value) => number(option(arg, name, value)),
         Takes::Count(value) => option(arg, name, value).value_parser(value_parser!(u8)),
         Takes::Text(value) => option(arg, name, value),
         Takes::Needed(value) => needed(option(arg, name, value)),
-        Takes::NeededWord(value, words) => needed(one_of(option(arg, name, value), words)),
+        Takes::NeededWord(value, values) => needed(one_of(option(arg, name, value), values)),
         Takes::Texts(value) => option(arg, name, value).action(ArgAction::Append),
         Takes::Hidden => number(option(arg, name, name)).hide(true),
         Takes::Nothing => arg.long(name).action(ArgAction::SetTrue),
@@ -69,10 +69,10 @@ fn named<'a>(alloc: Global, name: &'a str, about: &'a str, after: &'a str) -> Co
 fn command_of<'a>(
     alloc: Global,
     row: &'a CommandRow<'a>,
-    words: &[&str],
+    command_line: &[&str],
 ) -> Result<Command<'a>, AllocError> {
     let mut command = named(alloc, row.name, row.about, row.example);
-    if words.contains(&row.name) {
+    if command_line.contains(&row.name) {
         for arguments in row.arguments {
             command = with_arguments(alloc, command, list_of(*arguments))?;
         }
@@ -98,25 +98,28 @@ fn with_group<'a>(
     alloc: Global,
     command: Command<'a>,
     group: &'a CommandGroup<'a>,
-    words: &[&str],
+    command_line: &[&str],
 ) -> Result<Command<'a>, AllocError> {
     if group.name == "" {
-        return with_commands(alloc, command, group.commands, words);
+        return with_commands(alloc, command, group.commands, command_line);
     }
     let after = "Each command's own help has an example.";
     let above = parent(named(alloc, group.name, group.about, after));
-    with_command(command, with_commands(alloc, above, group.commands, words)?)
+    with_command(
+        command,
+        with_commands(alloc, above, group.commands, command_line)?,
+    )
 }
 
 fn with_commands<'a>(
     alloc: Global,
     command: Command<'a>,
     rows: &'a [CommandRow<'a>],
-    words: &[&str],
+    command_line: &[&str],
 ) -> Result<Command<'a>, AllocError> {
     let mut command = command;
     for row in rows {
-        command = with_command(command, command_of(alloc, row, words)?)?;
+        command = with_command(command, command_of(alloc, row, command_line)?)?;
     }
     Ok(command)
 }
@@ -127,17 +130,17 @@ fn program<'a>(alloc: Global) -> Command<'a> {
     parent(named(alloc, "cukvashe", about, STATUSES)).version("0.1.0")
 }
 
-fn command<'a>(alloc: Global, words: &[&str]) -> Result<Command<'a>, AllocError> {
+fn command<'a>(alloc: Global, command_line: &[&str]) -> Result<Command<'a>, AllocError> {
     let mut command = program(alloc);
     for group in groups() {
-        command = with_group(alloc, command, group, words)?;
+        command = with_group(alloc, command, group, command_line)?;
     }
     Ok(command)
 }
 
-/// Parses the words of a command line, the program's name first.
-pub fn parse<'a>(alloc: Global, words: &'a [&'a str]) -> Result<ArgMatches<'a>, Error> {
-    command(alloc, words)?.try_get_matches_from(words)
+/// Parses a command line, the program's name first.
+pub fn parse<'a>(alloc: Global, command_line: &'a [&'a str]) -> Result<ArgMatches<'a>, Error> {
+    command(alloc, command_line)?.try_get_matches_from(command_line)
 }
 
 /// The name of an option, a command or a group that a word is, as it is known here; nothing of another
@@ -163,9 +166,9 @@ pub fn known_name(word: &str) -> &'static str {
     ""
 }
 
-/// The words that name the command, as they are known here: none that was typed.
-pub fn names_of(words: &[&str]) -> (&'static str, &'static str) {
-    match *words {
+/// The names of the command, as they are known here: none that was typed.
+pub fn names_of(command_line: &[&str]) -> (&'static str, &'static str) {
+    match *command_line {
         [_, word, second, ..] => names_by(word, second),
         [_, word] => names_by(word, ""),
         _ => ("", ""),

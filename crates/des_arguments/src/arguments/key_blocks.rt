@@ -1,4 +1,4 @@
-//! What the words of `key-block` ask for.
+//! What the arguments of `key-block` ask for.
 
 use super::argument_values::{place_of, text_of};
 use super::misuse::misuse;
@@ -42,7 +42,7 @@ fn wrapping_of<'a>(matches: &ArgMatches<'a>) -> Wrapping<'a> {
     }
 }
 
-/// What the words of the command of `key-block` of this name ask for.
+/// What the arguments of the command of `key-block` of this name ask for.
 pub fn key_block_request<'a>(name: &str, matches: &ArgMatches<'a>) -> Requested<'a> {
     let block = input_at(matches, "block-file");
     match name {

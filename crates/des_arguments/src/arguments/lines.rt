@@ -1,4 +1,4 @@
-//! What the words of `decrypt-lines` ask for.
+//! What the arguments of `decrypt-lines` ask for.
 
 ghost use Rattle.std.specs.Prelude.{◌≡◌, ◌⊎◌, ◌≤◌, ◌<◌, false, true, IfOk, IfErr};
 ghost use Rattle.des_lines.specs.declared.fault.FaultKind.TheVariants.{Usage};
@@ -22,9 +22,9 @@ const ALGORITHM: &str = "PBEWithMD5AndDES";
 
 const ITERATIONS: u64 = 1000;
 
-/// The words of a command line that asks for values in lines, as they were typed.
+/// The arguments of a command line that asks for values in lines, as they were typed.
 #[derive(Clone, Copy)]
-pub struct LineWords<'a> {
+pub struct LineArguments<'a> {
     pub format: &'a str,
     pub iv: Option<&'a str>,
     pub algorithm: Option<&'a str>,
@@ -49,49 +49,50 @@ fn refuse_option<'a>(is_given: bool, option: &'a str) -> Result<(), Fault<'a>>
     Ok(())
 }
 
-// The number of iterations that the words ask for.
-fn iterations_of<'a>(words: &LineWords) -> Result<u32, Fault<'a>>
-    ensures count { IfOk result (λ count. (count ≡ iterations_by words.now) × (1 ≤ count)
+// The number of iterations that the arguments ask for.
+fn iterations_of<'a>(arguments: &LineArguments) -> Result<u32, Fault<'a>>
+    ensures count { IfOk result (λ count. (count ≡ iterations_by arguments.now) × (1 ≤ count)
         × (count ≤ 10000000)) }
-    ensures fault { IfErr result (λ fault. ((iterations_by words.now ≡ 0) ⊎ (10000000 < iterations_by words.now))
+    ensures fault { IfErr result (λ fault.
+        ((iterations_by arguments.now ≡ 0) ⊎ (10000000 < iterations_by arguments.now))
         × (fault.kind ≡ Usage ArgumentValue)) }
 {
-    let count = words.iterations.unwrap_or(ITERATIONS);
+    let count = arguments.iterations.unwrap_or(ITERATIONS);
     if count == 0 || count > MOST_ITERATIONS as u64 {
         return Err(misuse(Misuse::ArgumentValue, "--iterations"));
     }
     Ok(count as u32)
 }
 
-// The algorithm that the words ask for.
-fn algorithm_of(words: &LineWords) -> Option<Algorithm>
-    ensures { result ≡ algorithm_by words.now }
+// The algorithm that the arguments ask for.
+fn algorithm_of(arguments: &LineArguments) -> Option<Algorithm>
+    ensures { result ≡ algorithm_by arguments.now }
 {
-    Algorithm::of_name(words.algorithm.unwrap_or(ALGORITHM).as_bytes())
+    Algorithm::of_name(arguments.algorithm.unwrap_or(ALGORITHM).as_bytes())
 }
 
-// What words of Jasypt ask for.
-fn jasypt_of<'a>(words: &LineWords) -> Result<(Algorithm, u32), Fault<'a>>
-    ensures asked { IfOk result (λ asked. IsJasypt words.now asked.0 asked.1) }
-    ensures fault { IfErr result (λ fault. FailsAsJasypt words.now × IsOfOption fault.kind) }
+// What arguments of Jasypt ask for.
+fn jasypt_of<'a>(arguments: &LineArguments) -> Result<(Algorithm, u32), Fault<'a>>
+    ensures asked { IfOk result (λ asked. IsJasypt arguments.now asked.0 asked.1) }
+    ensures fault { IfErr result (λ fault. FailsAsJasypt arguments.now × IsOfOption fault.kind) }
 {
-    refuse_option(words.iv.is_some(), "--iv")?;
-    refuse_option(words.is_base64, "--base64")?;
-    let Some(by) = algorithm_of(words) else {
+    refuse_option(arguments.iv.is_some(), "--iv")?;
+    refuse_option(arguments.is_base64, "--base64")?;
+    let Some(by) = algorithm_of(arguments) else {
         return Err(misuse(Misuse::ArgumentValue, "--algorithm"));
     };
-    let iterations = iterations_of(words)?;
+    let iterations = iterations_of(arguments)?;
     Ok((by, iterations))
 }
 
-// What words of another format ask for.
-fn other_of<'a>(words: &LineWords<'a>) -> Result<ValueFormat<'a>, Fault<'a>>
-    ensures asked { IfOk result (IsOther words.now) }
-    ensures fault { IfErr result (λ fault. FailsAsOther words.now × IsOfOption fault.kind) }
+// What arguments of another format ask for.
+fn other_of<'a>(arguments: &LineArguments<'a>) -> Result<ValueFormat<'a>, Fault<'a>>
+    ensures asked { IfOk result (IsOther arguments.now) }
+    ensures fault { IfErr result (λ fault. FailsAsOther arguments.now × IsOfOption fault.kind) }
 {
-    refuse_option(words.algorithm.is_some(), "--algorithm")?;
-    refuse_option(words.iterations.is_some(), "--iterations")?;
-    match (words.format, words.iv) {
+    refuse_option(arguments.algorithm.is_some(), "--algorithm")?;
+    refuse_option(arguments.iterations.is_some(), "--iterations")?;
+    match (arguments.format, arguments.iv) {
         ("mysql", None) => Ok(ValueFormat::Mysql),
         ("mysql", Some(_)) => Err(misuse(Misuse::Arguments, "--iv")),
         (name, iv) => match Scheme::of_name(name.as_bytes()) {
@@ -101,17 +102,17 @@ fn other_of<'a>(words: &LineWords<'a>) -> Result<ValueFormat<'a>, Fault<'a>>
     }
 }
 
-// The format that the words name, with what its options ask for.
-fn format_of<'a>(words: &LineWords<'a>) -> Result<ValueFormat<'a>, Fault<'a>>
-    ensures format { IfOk result (IsFormat words.now) }
-    ensures fault { IfErr result (λ fault. FailsAsFormat words.now × IsOfOption fault.kind) }
+// The format that the arguments name, with what its options ask for.
+fn format_of<'a>(arguments: &LineArguments<'a>) -> Result<ValueFormat<'a>, Fault<'a>>
+    ensures format { IfOk result (IsFormat arguments.now) }
+    ensures fault { IfErr result (λ fault. FailsAsFormat arguments.now × IsOfOption fault.kind) }
 {
-    match words.format {
+    match arguments.format {
         "jasypt" => {
-            let (by, iterations) = jasypt_of(words)?;
+            let (by, iterations) = jasypt_of(arguments)?;
             Ok(ValueFormat::Jasypt(by, iterations))
         }
-        _ => other_of(words),
+        _ => other_of(arguments),
     }
 }
 
@@ -136,24 +137,27 @@ fn coding_of(format: ValueFormat, is_base64: bool) -> LineCoding
     }
 }
 
-/// What the words ask for. The fault is `Usage` if they don't go together.
-pub fn request_of_words<'a>(words: &LineWords<'a>) -> Result<LinesRequest<'a>, Fault<'a>>
-    ensures asked { IfOk result (IsLinesRequest words.now) }
-    ensures fault { IfErr result (λ fault. FailsAsLinesRequest words.now fault.kind) }
+/// What the arguments ask for. The fault is `Usage` if they don't go together.
+pub fn request_of<'a>(arguments: &LineArguments<'a>) -> Result<LinesRequest<'a>, Fault<'a>>
+    ensures asked { IfOk result (IsLinesRequest arguments.now) }
+    ensures fault { IfErr result (λ fault. FailsAsLinesRequest arguments.now fault.kind) }
 {
-    let format = format_of(words)?;
-    refuse(!takes_secret(format, words.secret), Misuse::PasswordSource)?;
-    let input = input_of(words.input);
-    read_once(words.secret.source(), input)?;
+    let format = format_of(arguments)?;
+    refuse(
+        !takes_secret(format, arguments.secret),
+        Misuse::PasswordSource,
+    )?;
+    let input = input_of(arguments.input);
+    read_once(arguments.secret.source(), input)?;
     Ok(LinesRequest {
         format,
-        coding: coding_of(format, words.is_base64),
-        secret: words.secret,
-        writes_digits: words.writes_digits,
-        keeps_going: words.keeps_going,
+        coding: coding_of(format, arguments.is_base64),
+        secret: arguments.secret,
+        writes_digits: arguments.writes_digits,
+        keeps_going: arguments.keeps_going,
         input,
-        output: output_of(words.output),
-        shows_progress: words.shows_progress,
+        output: output_of(arguments.output),
+        shows_progress: arguments.shows_progress,
     })
 }
 
@@ -186,9 +190,9 @@ fn secret_of<'a>(matches: &ArgMatches<'a>) -> Result<LineSecret<'a>, Fault<'a>> 
     Ok(LineSecret::Password(source))
 }
 
-/// What the words of `decrypt-lines` ask for; a fault if they don't go together.
+/// What the arguments of `decrypt-lines` ask for; a fault if they don't go together.
 pub fn lines_request<'a>(matches: &ArgMatches<'a>) -> Result<LinesRequest<'a>, Fault<'a>> {
-    request_of_words(&LineWords {
+    request_of(&LineArguments {
         format: place_of(matches, "format"),
         iv: text_of(matches, "iv"),
         algorithm: text_of(matches, "algorithm"),

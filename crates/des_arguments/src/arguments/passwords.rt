@@ -1,4 +1,4 @@
-//! What the words of commands on files under passwords ask for.
+//! What the arguments of commands on files under passwords ask for.
 
 ghost use Rattle.std.specs.Prelude.{◌≡◌, ℕ, IfSome, IfNone};
 ghost use Rattle.des_passwords.specs.declared.derivation.Derivation.{Derivation as DerivationOf};
@@ -152,7 +152,7 @@ fn form_of(word: Option<&str>) -> KeyForm {
     }
 }
 
-/// What the words of `decrypt-pem` ask for.
+/// What the arguments of `decrypt-pem` ask for.
 pub fn private_key_request<'a>(
     matches: &ArgMatches<'a>,
 ) -> Result<PrivateKeyRequest<'a>, Fault<'a>> {

@@ -1,4 +1,4 @@
-//! What the words of `pin`, `pvv`, `offset` and `emv` ask for.
+//! What the arguments of `pin`, `pvv`, `offset` and `emv` ask for.
 
 use super::argument_values::{count_of, is_given, is_set, place_of, text_of};
 use super::misuse::misuse;
@@ -11,7 +11,7 @@ use des_lines::requests::{
 };
 use des_payment::translation::Format;
 
-// The format of a place, whose words the grammar takes.
+// The format of a place, of which the grammar takes the names alone.
 fn format_of(matches: &ArgMatches, name: &str) -> Format {
     match place_of(matches, name) {
         "0" => Format::Format0,
@@ -108,7 +108,7 @@ fn translate_request<'a>(matches: &ArgMatches<'a>) -> Requested<'a> {
     with_key(CalculationRequest { to_key, ..request }, key_of(matches)?)
 }
 
-/// What the words of the command of `pin` of this name ask for.
+/// What the arguments of the command of `pin` of this name ask for.
 pub fn pin_request<'a>(name: &str, matches: &ArgMatches<'a>) -> Requested<'a> {
     match name {
         "encode" => encode_request(matches),
@@ -125,7 +125,7 @@ fn by_pin<'a>(calculation: PinCalculation<'a>, matches: &ArgMatches<'a>) -> Calc
     by_input(Calculation::Pin(calculation), input_at(matches, "pin-file"))
 }
 
-/// What the words of `pvv` ask for: with a value, whether the PIN has it.
+/// What the arguments of `pvv` ask for: with a value, whether the PIN has it.
 pub fn pvv_request<'a>(matches: &ArgMatches<'a>) -> Requested<'a> {
     // The grammar takes an index from 1 to 6.
     let index = count_of(matches, "index").unwrap_or(0);
@@ -145,7 +145,7 @@ fn natural_pins_of<'a>(matches: &ArgMatches<'a>) -> NaturalPins<'a> {
     }
 }
 
-/// What the words of the command of `offset` of this name ask for.
+/// What the arguments of the command of `offset` of this name ask for.
 pub fn offset_request<'a>(name: &str, matches: &ArgMatches<'a>) -> Requested<'a> {
     let by = natural_pins_of(matches);
     if name == "natural" {
@@ -207,7 +207,7 @@ fn by_card_key<'a>(calculation: EmvCalculation<'a>, matches: &ArgMatches<'a>) ->
     by_key(Calculation::Emv(calculation), matches)
 }
 
-/// What the words of the command of `emv` of this name ask for.
+/// What the arguments of the command of `emv` of this name ask for.
 pub fn emv_request<'a>(name: &str, matches: &ArgMatches<'a>) -> Requested<'a> {
     match name {
         "card-key" => {

@@ -13,7 +13,7 @@ use des_lines::fault::{Fault, Misuse};
 use des_lines::requests::{Account, Calculation, CalculationRequest};
 use des_lines::source::Source;
 
-/// The request of a calculation, or the fault of its words.
+/// The request of a calculation, or the fault of its arguments.
 pub type Requested<'a> = Result<CalculationRequest<'a>, Fault<'a>>;
 
 // Where the account number is: one place.

@@ -1,4 +1,4 @@
-//! What the words of `encrypt` and `decrypt` ask for.
+//! What the arguments of `encrypt` and `decrypt` ask for.
 
 ghost use Rattle.std.specs.Prelude.{◌≡◌, ◌≢◌, codes, IfSome, IfNone, IfOk, IfErr};
 ghost use Rattle.des_io.specs.declared.padding.Padding.{Padding as PaddingOf};
@@ -23,9 +23,9 @@ use des_io::Padding;
 use des_lines::digits::bytes_of;
 use des_lines::fault::{Fault, FaultKind, Misuse};
 
-/// The words of a command line that asks for a stream, as they were typed.
+/// The arguments of a command line that asks for a stream, as they were typed.
 #[derive(Clone, Copy)]
-pub struct StreamWords<'a> {
+pub struct StreamArguments<'a> {
     pub encrypts: bool,
     pub cipher: &'a str,
     pub iv: Option<&'a str>,
@@ -122,14 +122,19 @@ fn vector_of(text: &str, encrypts: bool) -> Result<Vector, FaultKind>
 }
 
 // The vector, if the mode takes one. By a key, it is that of `--iv`; by a password, that gives one too.
-fn asked_vector(words: &StreamWords, takes_vector: bool) -> Result<Option<Vector>, FaultKind>
-    ensures vector { IfOk result (IsVectorFor words.now.iv words.now.secret takes_vector words.now.encrypts) }
-    ensures fault { IfErr result (FailsAsVectorFor words.now.iv words.now.secret takes_vector words.now.encrypts) }
+fn asked_vector(
+    arguments: &StreamArguments,
+    takes_vector: bool,
+) -> Result<Option<Vector>, FaultKind>
+    ensures vector { IfOk result
+        (IsVectorFor arguments.now.iv arguments.now.secret takes_vector arguments.now.encrypts) }
+    ensures fault { IfErr result
+        (FailsAsVectorFor arguments.now.iv arguments.now.secret takes_vector arguments.now.encrypts) }
 {
-    match (words.secret, words.iv, takes_vector) {
+    match (arguments.secret, arguments.iv, takes_vector) {
         (Secret::Password(_, _), Some(_), _) => Err(FaultKind::Usage(Misuse::VectorOfPassword)),
         (Secret::Password(_, _), None, true) => Ok(Some(Vector::OfPassword)),
-        (Secret::Key(_), Some(text), true) => Ok(Some(vector_of(text, words.encrypts)?)),
+        (Secret::Key(_), Some(text), true) => Ok(Some(vector_of(text, arguments.encrypts)?)),
         (Secret::Key(_), Some(_), false) => Err(FaultKind::Usage(Misuse::VectorOfEcb)),
         (Secret::Key(_), None, true) => Err(FaultKind::Usage(Misuse::VectorNeeded)),
         (_, None, false) => Ok(None),
@@ -153,7 +158,7 @@ pub fn part_of(
     }
 }
 
-// A fault of the words. Only `Vector` is about `--iv`: the sentences of the others name the option.
+// A fault of the arguments. Only `Vector` is about `--iv`: the sentences of the others name the option.
 fn fault_of<'a>(kind: FaultKind) -> Fault<'a>
     ensures { result.kind ≡ kind }
 {
@@ -166,39 +171,41 @@ fn fault_of<'a>(kind: FaultKind) -> Fault<'a>
     }
 }
 
-/// What the words ask for. The fault is `Usage` if they don't go together, and `Vector`.
-pub fn request_of_words<'a>(words: &StreamWords<'a>) -> Result<StreamRequest<'a>, Fault<'a>>
-    ensures asked { IfOk result (IsRequest words.now) }
-    ensures fault { IfErr result (λ fault. FailsAsRequest words.now fault.kind) }
+/// What the arguments ask for. The fault is `Usage` if they don't go together, and `Vector`.
+pub fn request_of<'a>(arguments: &StreamArguments<'a>) -> Result<StreamRequest<'a>, Fault<'a>>
+    ensures asked { IfOk result (IsRequest arguments.now) }
+    ensures fault { IfErr result (λ fault. FailsAsRequest arguments.now fault.kind) }
 {
-    let (cipher, mode) = cipher_of(words.cipher).ok_or(misuse(Misuse::Arguments, "CIPHER"))?;
-    let padding = padding_of(words.padding).ok_or(misuse(Misuse::Arguments, "--padding"))?;
+    let (cipher, mode) = cipher_of(arguments.cipher).ok_or(misuse(Misuse::Arguments, "CIPHER"))?;
+    let padding = padding_of(arguments.padding).ok_or(misuse(Misuse::Arguments, "--padding"))?;
     refuse(
-        mode.is_stream() && words.padding.is_some(),
+        mode.is_stream() && arguments.padding.is_some(),
         Misuse::PaddingOfStream,
     )?;
-    let weak_keys = weak_keys_of(words.weak_keys, words.encrypts).ok_or(misuse(
+    let weak_keys = weak_keys_of(arguments.weak_keys, arguments.encrypts).ok_or(misuse(
         Misuse::Arguments,
         "--weak-keys",
     ))?;
-    let part = part_of(words.from, words.count, words.encrypts).map_err(|kind| fault_of(kind))?;
+    let part = part_of(arguments.from, arguments.count, arguments.encrypts).map_err(|kind| fault_of(
+        kind,
+    ))?;
     refuse(!mode.takes_part() && part.is_some(), Misuse::PartOfOfb)?;
-    let vector = asked_vector(words, mode.takes_vector()).map_err(|kind| fault_of(kind))?;
-    let input = input_of(words.input);
-    read_once(words.secret.source(), input)?;
+    let vector = asked_vector(arguments, mode.takes_vector()).map_err(|kind| fault_of(kind))?;
+    let input = input_of(arguments.input);
+    read_once(arguments.secret.source(), input)?;
     Ok(StreamRequest {
-        encrypts: words.encrypts,
+        encrypts: arguments.encrypts,
         cipher,
         mode,
         vector,
         padding,
         part,
         weak_keys,
-        secret: words.secret,
-        coding: words.coding,
+        secret: arguments.secret,
+        coding: arguments.coding,
         input,
-        output: output_of(words.output),
-        shows_progress: words.shows_progress,
+        output: output_of(arguments.output),
+        shows_progress: arguments.shows_progress,
     })
 }
 
@@ -212,14 +219,14 @@ fn coding_of<'a>(is_base64: bool, is_hexadecimal: bool) -> Result<Coding, Fault<
     }
 }
 
-/// What the words of `encrypt` or `decrypt` ask for; a fault if they don't go together.
+/// What the arguments of `encrypt` or `decrypt` ask for; a fault if they don't go together.
 pub fn stream_request<'a>(
     encrypts: bool,
     matches: &ArgMatches<'a>,
 ) -> Result<StreamRequest<'a>, Fault<'a>>
     ensures direction { IfOk result (λ request. request.encrypts ≡ encrypts) }
 {
-    request_of_words(&StreamWords {
+    request_of(&StreamArguments {
         encrypts,
         cipher: place_of(matches, "cipher"),
         iv: text_of(matches, "iv"),

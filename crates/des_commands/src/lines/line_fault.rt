@@ -4,7 +4,7 @@ ghost use Rattle.std.specs.Prelude.{◌≡◌, OnOk, IfErr};
 ghost use Rattle.std.specs.Io.KnownBytes.{Appends};
 ghost use Rattle.des_lines.specs.declared.fault.FaultKind.TheVariants.{Memory};
 ghost use Rattle.des_lines.specs.Written.{AppendsPrefix};
-ghost use Rattle.des_commands.specs.LineFaults.{about_line, fault_line, name_of, words_of};
+ghost use Rattle.des_commands.specs.LineFaults.{about_line, fault_line, name_of, sentence_of};
 
 use des_io::StreamError;
 use des_lines::fault::FaultKind;
@@ -51,7 +51,7 @@ impl LineFault {
     }
 
     fn words(self) -> &'static str
-        ensures { result.now ≡ words_of self }
+        ensures { result.now ≡ sentence_of self }
     {
         match self {
             LineFault::Digit => "a character is no hexadecimal digit",

@@ -5,11 +5,11 @@ use Takes::{Needed, NeededWord, Nothing, Number, Place, Text, Word};
 /// What an argument takes. The first text is what the help calls its value.
 #[derive(Clone, Copy)]
 pub enum Takes<'a> {
-    /// One of some words, in its place.
+    /// One of some values, in its place.
     Place(&'a str, &'a [&'a str]),
     /// A text, in its place.
     PlaceOfText(&'a str),
-    /// One of some words.
+    /// One of some values.
     Word(&'a str, &'a [&'a str]),
     /// A number.
     Number(&'a str),
@@ -19,7 +19,7 @@ pub enum Takes<'a> {
     Text(&'a str),
     /// A text. The option is required.
     Needed(&'a str),
-    /// One of some words. The option is required.
+    /// One of some values. The option is required.
     NeededWord(&'a str, &'a [&'a str]),
     /// Texts, one at each use.
     Texts(&'a str),
