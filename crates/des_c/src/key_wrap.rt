@@ -2,85 +2,38 @@
 //! CMS (RFC 3217) and by TKW (NIST SP 800-38F). No call reads a table. What a call writes is a list of
 //! blocks or semiblocks, so that `capacity` is a number of these.
 
-ghost use Rattle.std.specs.Prelude.{◌≡◌, ◌≢◌, ◌⊎◌, ◌↔◌, ◌<◌, ◌≤◌, ◌+◌, ◌-◌, ◌/◌, ◌^◌, ℕ, List, length, take, drop, replicate, IsOk, OnOk, OnErr};
+ghost use Rattle.std.specs.Prelude.{◌≡◌, ◌≢◌, ◌⊎◌, ◌↔◌, ◌<◌, ◌≤◌, ◌+◌, ◌-◌, ◌/◌, ℕ, List, length, take, drop, replicate};
 ghost use Rattle.std.specs.List.{All};
 ghost use Rattle.des.specs.Blocks.{IsBlock};
-ghost use Rattle.des_modes.specs.CmsKeyWrap.{Wraps};
-ghost use Rattle.des_modes.specs.Tkw.{IsSemiblock, TkwUnder};
+ghost use Rattle.des.specs.Relations.{IsGraphOf};
+ghost use Rattle.des_key_wraps.specs.CmsKeyWrap.{Wraps};
+ghost use Rattle.des_key_wraps.specs.Tkw.{IsSemiblock, TkwUnder};
 ghost use Rattle.des_context.specs.Bytes.{blocks_of};
 ghost use Rattle.des_context.specs.CipherTypes.{relation_of};
 ghost use Rattle.des_c.specs.KeyWraps.{semiblocks_of, IsCmsKeyLength, IsProtectionLength, IsTkwKeyLength};
 
-use des::cipher::KeyInit;
+use des::cipher::{BlockCipherEncrypt, KeyInit, are_bytes};
+use des::tdes::{self, key_part};
 use des_context::status::{
     ERR_BLOCKS, ERR_CAPACITY, ERR_KEY_LENGTH, ERR_PROTECTION_KEY_LENGTH, ERR_WRAPPED_KEY,
     ERR_WRAPPED_LENGTH, OK,
 };
-use des_fast::no_tables::{TdesEde2, TdesEde3};
-use des_modes::{UnwrapError, by_key};
+use des_fast::no_tables::{Des, TdesEde3};
+use des_key_wraps::{cms_key_wrap, tkw};
 
-// Calls with the cipher of a protection key.
-macro_rules! by_cipher_of {
-    ($protection:ident, $call:ident($($argument:expr),*)) => {
-        match $protection.len() {
-            16 => by_key::$call(&TdesEde2::new_from_slice($protection).unwrap(), $($argument),*),
-            _ => by_key::$call(&TdesEde3::new_from_slice($protection).unwrap(), $($argument),*),
-        }
-    };
-}
-
-// Each call by the cipher of a protection key of two parts or three.
-fn wrap_cms(protection: &[u8], iv: &[u8; 8], key: &[[u8; 8]], wrapped: &mut [[u8; 8]])
-    requires protection { IsProtectionLength (length protection.now) }
-    requires count { length wrapped.old ≡ length key.now + 2 }
-    ensures { Wraps (relation_of protection.now) iv.now key.now wrapped.new }
+// The cipher of a protection key. Of two parts the first is the third too.
+fn cipher_of(protection: &[u8]) -> TdesEde3
+    requires { IsProtectionLength (length protection.now) }
+    ensures { IsGraphOf (⟦<TdesEde3 as BlockCipherEncrypt>⟧.encrypted result)
+        (relation_of protection.now) }
 {
-    by_cipher_of!(protection, wrap_cms(iv, key, wrapped))
-}
-
-fn unwrap_cms(
-    protection: &[u8],
-    wrapped: &[[u8; 8]],
-    key: &mut [[u8; 8]],
-) -> Result<(), UnwrapError>
-    requires protection { IsProtectionLength (length protection.now) }
-    requires count { length wrapped.now ≡ length key.old + 2 }
-    ensures unwrapped { OnOk result ((iv : List ℕ) × IsBlock iv
-        × Wraps (relation_of protection.now) iv key.new wrapped.now) }
-    ensures accepted { (iv : List ℕ) (other : List (List ℕ)) → IsBlock iv
-        → Wraps (relation_of protection.now) iv other wrapped.now
-        → IsOk result × (key.new ≡ other) }
-    ensures none { OnErr result (key.new ≡ replicate (length key.old) (replicate 8 0)) }
-{
-    by_cipher_of!(protection, unwrap_cms(wrapped, key))
-}
-
-fn wrap_tkw(protection: &[u8], key: &[[u8; 4]], wrapped: &mut [[u8; 4]])
-    requires protection { IsProtectionLength (length protection.now) }
-    requires some { 2 ≤ length key.now }
-    requires few { length key.now < 2 ^ 28 }
-    requires count { length wrapped.old ≡ length key.now + 1 }
-    ensures { TkwUnder (relation_of protection.now) key.now wrapped.new }
-{
-    by_cipher_of!(protection, wrap_tkw(key, wrapped))
-}
-
-fn unwrap_tkw(
-    protection: &[u8],
-    wrapped: &[[u8; 4]],
-    key: &mut [[u8; 4]],
-) -> Result<(), UnwrapError>
-    requires protection { IsProtectionLength (length protection.now) }
-    requires some { 2 ≤ length key.old }
-    requires few { length key.old < 2 ^ 28 }
-    requires count { length wrapped.now ≡ length key.old + 1 }
-    ensures unwrapped { OnOk result (TkwUnder (relation_of protection.now) key.new wrapped.now) }
-    ensures accepted { (other : List (List ℕ)) → All IsSemiblock other
-        → TkwUnder (relation_of protection.now) other wrapped.now
-        → IsOk result × (key.new ≡ other) }
-    ensures none { OnErr result (key.new ≡ replicate (length key.old) (replicate 4 0)) }
-{
-    by_cipher_of!(protection, unwrap_tkw(wrapped, key))
+    are_bytes(protection);
+    let third = if protection.len() == 16 { 1 } else { 3 };
+    tdes::of_three(
+        Des::new(&key_part(protection, 1)),
+        Des::new(&key_part(protection, 2)),
+        Des::new(&key_part(protection, third)),
+    )
 }
 
 /// Wraps a key of one block or more by the key wrap of CMS, at the front of a buffer, and writes how many
@@ -121,7 +74,7 @@ pub extern "C" fn cukvashe_cms_wrap_key(
         return ERR_CAPACITY;
     }
     let (blocks, _) = key.as_chunks::<8>();
-    wrap_cms(protection, iv, blocks, &mut wrapped[..count]);
+    cms_key_wrap::wrap(&cipher_of(protection), iv, blocks, &mut wrapped[..count]);
     *wrapped_length = key.len() + 16;
     OK
 }
@@ -172,7 +125,7 @@ pub extern "C" fn cukvashe_cms_unwrap_key(
         return ERR_CAPACITY;
     }
     let (blocks, _) = wrapped.as_chunks::<8>();
-    match unwrap_cms(protection, blocks, &mut key[..count]) {
+    match cms_key_wrap::unwrap(&cipher_of(protection), blocks, &mut key[..count]) {
         Ok(()) => {
             *key_length = wrapped.len() - 16;
             OK
@@ -218,7 +171,7 @@ pub extern "C" fn cukvashe_tkw_wrap_key(
         return ERR_CAPACITY;
     }
     let (semiblocks, _) = key.as_chunks::<4>();
-    wrap_tkw(protection, semiblocks, &mut wrapped[..count]);
+    tkw::wrap(&cipher_of(protection), semiblocks, &mut wrapped[..count]);
     *wrapped_length = key.len() + 4;
     OK
 }
@@ -266,7 +219,7 @@ pub extern "C" fn cukvashe_tkw_unwrap_key(
         return ERR_CAPACITY;
     }
     let (semiblocks, _) = wrapped.as_chunks::<4>();
-    match unwrap_tkw(protection, semiblocks, &mut key[..count]) {
+    match tkw::unwrap(&cipher_of(protection), semiblocks, &mut key[..count]) {
         Ok(()) => {
             *key_length = wrapped.len() - 4;
             OK

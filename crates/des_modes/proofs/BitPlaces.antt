@@ -85,7 +85,8 @@ mask_bits true a below =
     let one = ap (λ (m : ℕ). m % 256) (one-mul (2 ^ a)) ∙ mod-eq_of_lt (pow-lt below) in
     rw one (ap (λ (m : ℕ). m == 1) (bit_at-pow_same a), λ k other. ap (λ (m : ℕ). m == 1) (bit_at-pow_other a k other))
 mask_bits false a below =
-    let none : 0 * 2 ^ a % 256 ≡ 0 = omega arith in rw none (ap (λ (m : ℕ). m == 1) (bit_at-zero a), λ k other. ap (λ (m : ℕ). m == 1) (bit_at-zero k))
+    let none : 0 * 2 ^ a % 256 ≡ 0 = omega arith in
+    rw none (ap (λ (m : ℕ). m == 1) (bit_at-zero a), λ k other. ap (λ (m : ℕ). m == 1) (bit_at-zero k))
 
 pub bits_xored : (bytes : List ℕ) (place : ℕ) (bit : Bool) → place < 8 * length bytes
     → bits_of_bytes (set bytes (place / 8) (bit_xor (get_or bytes (place / 8) 0) (bool_byte bit * 2 ^ (7 - place % 8) % 256)))

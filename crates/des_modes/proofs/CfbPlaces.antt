@@ -6,7 +6,7 @@ use Rattle.std.proofs.Math.Nat.{mul-div-le, mul-add, mul-add-div, mod-add-mod, d
 use Rattle.des_modes.specs.Streams.{GoesOn, Xors, ciphertext}
 use Rattle.des_modes.specs.Cfb.{block_bit, cfb_bits, cfb_stream, input_block}
 use Rattle.des_modes.specs.States.{HoldsLastBits, IsAtSegment}
-use Rattle.des_modes.proofs.Pieces.{GoesByFront, Xors-single, texts-map}
+use Rattle.des_modes.proofs.Pieces.{GoesByFront, Xors-other, Xors-single, texts-map}
 use Rattle.des.specs.Bits.{bits_of_bytes, xor}
 use Rattle.des.specs.Blocks.{block_of_bits}
 use Rattle.des.specs.Laws.BitLists.{length-bits_of_bytes}
@@ -49,7 +49,7 @@ module _ {s : ℕ} {E : List ℕ → List ℕ} {iv c register output : List ℕ}
     (is : IsAtSegment s E iv c register output used) (wide : length register ≡ 8) (some : 1 ≤ s) where
   -- the output block of the segment does not depend on what comes
   same_block : (more : List ℕ) → E (input_block s iv c (length c / s)) ≡ E (input_block s iv (c ++ more) (length c / s))
-  same_block more = ap E (sym (window-front 8 (s * (length c / s)) iv c more (length-iv iv c register wide is.register) (mul-div-le (length c) s)))
+  same_block more = ap E (sym (window-front 8 _ iv c more (length-iv iv c register wide is.register) (mul-div-le (length c) s)))
 
   -- between segments the register is the input block of the next
   between : used ≡ 0 → length c ≡ s * (length c / s)
@@ -94,45 +94,48 @@ module _ {s : ℕ} {E : List ℕ → List ℕ} {iv c register output : List ℕ}
       let here : length c / s ≡ (length c + length bytes) / s = omega (arith, segment_at (length bytes), div-eq_of_lt (inside more)) in
       rw (← here) (made ∙ same_block bytes))
 
-  pub Xors-within : {block : List ℕ} (more old new : List ℕ) → block ≡ E (input_block s iv c (length c / s))
+  pub Xors-within : {block : List ℕ} (text more old new : List ℕ) → block ≡ E (input_block s iv c (length c / s))
       → used + length old ≤ s → length new ≡ length old
       → ((i : ℕ) → i < length old → get_or new i 0 ≡ bit_xor (get_or old i 0) (get_or block (used + i) 0))
-      → Xors bit_xor 0 (length c) (cfb_stream s E iv (c ++ more)) old new
-  Xors-within more old new made within same xored = record {
+      → Xors bit_xor 0 (length c) (cfb_stream s E iv ((c ++ text) ++ more)) old new
+  Xors-within text more old new made within same xored = record {
     count = same;
     xored = λ i below.
         let inside : used + i < s = omega arith in
         let split : length c + i ≡ length c / s * s + (used + i) = omega (arith, is.used, div-add-mod' (length c) s) in
         let at = div-mul-add (length c / s) s (used + i) inside in
-        rw (split, at, mod-mul-add (length c / s) s (used + i) inside, ← same_block more, ← made) (xored i below);
+        rw (append_assoc c text more, split, at, mod-mul-add (length c / s) s (used + i) inside, ← same_block (text ++ more), ← made)
+        (xored i below);
   }
 
   -- from the beginning of a segment on, by output blocks of the register and the ciphertext `bytes`
-  pub goes-beyond : {after block : List ℕ} {taken : ℕ} (bytes old new : List ℕ) (blocks : List (List ℕ)) → used ≡ 0
+  pub goes-beyond : {after block : List ℕ} {taken : ℕ} (bytes more old new : List ℕ) (blocks : List (List ℕ)) → used ≡ 0
       → length old ≡ length bytes → length bytes ≤ s * length blocks
       → ((j : ℕ) → j < length blocks → get_or blocks j [] ≡ E (take 8 (drop (s * j) (register ++ bytes))))
       → Xors bit_xor 0 0 (λ i. get_or (get_or blocks (i / s) []) (i % s) 0) old new
       → after ≡ drop (length bytes) (register ++ bytes) → taken ≡ length bytes % s
       → (1 ≤ taken → (length bytes / s < length blocks) × (block ≡ get_or blocks (length bytes / s) []))
-      → IsAtSegment s E iv (c ++ bytes) after block taken × Xors bit_xor 0 (length c) (cfb_stream s E iv (c ++ bytes)) old new
-  goes-beyond bytes old new blocks unused same enough made xors shifted of last =
+      → IsAtSegment s E iv (c ++ bytes) after block taken
+      × Xors bit_xor 0 (length c) (cfb_stream s E iv ((c ++ bytes) ++ more)) old new
+  goes-beyond bytes more old new blocks unused same enough made xors shifted of last =
       let end : length bytes ≡ used + length bytes = omega arith in
       let output_at = λ (j : ℕ) (inside : j < length blocks). made j inside ∙ ap E (input_block-beyond bytes j unused) in (
-        IsAtSegment-further bytes shifted (of ∙ ap (λ (m : ℕ). m % s) end) (λ more.
-            (last more).1 ∙ output_at (length bytes / s) (last more).0
+        IsAtSegment-further bytes shifted (of ∙ ap (λ (m : ℕ). m % s) end) (λ begun.
+            (last begun).1 ∙ output_at (length bytes / s) (last begun).0
             ∙ ap (λ (m : ℕ). E (input_block s iv (c ++ bytes) m))
             (ap (λ (m : ℕ). length c / s + m / s) end ∙ segment_at (length bytes))),
-        record {
-          count = xors.count;
-          xored = λ i below.
-              let at : 0 + i ≡ used + i = omega arith in
-              let j : ℕ = (used + i) / s in
-              xors.xored i below
-              ∙ ap (λ (m : ℕ). bit_xor (get_or old i 0) (get_or (get_or blocks (m / s) []) (m % s) 0)) at
-              ∙ ap₂ (λ (block : List ℕ) (n : ℕ). bit_xor (get_or old i 0) (get_or block n 0))
-              (output_at j (div_below (used + i) s (length blocks) some (omega arith))
-              ∙ ap (λ (n : ℕ). E (input_block s iv (c ++ bytes) n)) (segment_at i)) (place_at i);
-        },
+        Xors-other (length c) (cfb_stream s E iv (c ++ bytes)) _ old new
+            (λ i below. sym (cfb_stream-front is wide (c ++ bytes) more (length c + i) (omega (arith, length-append c bytes)))) (record {
+              count = xors.count;
+              xored = λ i below.
+                  let at : 0 + i ≡ used + i = omega arith in
+                  let j : ℕ = (used + i) / s in
+                  xors.xored i below
+                  ∙ ap (λ (m : ℕ). bit_xor (get_or old i 0) (get_or (get_or blocks (m / s) []) (m % s) 0)) at
+                  ∙ ap₂ (λ (block : List ℕ) (n : ℕ). bit_xor (get_or old i 0) (get_or block n 0))
+                  (output_at j (div_below (used + i) s (length blocks) some (omega arith))
+                  ∙ ap (λ (n : ℕ). E (input_block s iv (c ++ bytes) n)) (segment_at i)) (place_at i);
+            }),
       )
 
 -- ---- bits, from a place behind c on
@@ -168,9 +171,11 @@ pub GoesOn-bit : (E : List ℕ → List ℕ) (iv old new : List ℕ) (direction 
     → GoesOn xor false (HoldsLastBits iv) (cfb_bits 1 E iv) direction old new (x ∷ []) (y ∷ [])
 GoesOn-bit E iv old new direction x y wide shifted is =
     let text = (texts-map (λ (bit : Bool). bit ∷ []) direction x y).1 in record {
-      goes = λ t at. (
+      goes = λ t more at. (
         register-further (bits_of_bytes iv) t _ (bits_of_bytes old) (bits_of_bytes new) at
             (rw (← text) shifted),
-        Xors-single (length t) _ x y (is ∙ ap (xor x) (sym (cfb_bits-next E iv t old wide at _))),
+        Xors-single (length t) _ x y
+            (rw (append_assoc t (ciphertext direction (x ∷ []) (y ∷ [])) more)
+            (is ∙ ap (xor x) (sym (cfb_bits-next E iv t old wide at _)))),
       );
     }

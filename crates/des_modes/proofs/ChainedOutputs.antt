@@ -10,11 +10,9 @@ use Rattle.des_fast.specs.ChainingValues.{AreOutputs}
 use Rattle.des_fast.proofs.OutputBlocks.{xor_blocks-zeros}
 use Rattle.des_modes.specs.Ofb.{output_block}
 
-abbrev pub zero_block : List ℕ
-zero_block = replicate 8 0
-
-pub length-zero_blocks : (most k : ℕ) → k ≤ most → length (take k (replicate most zero_block)) ≡ k
-length-zero_blocks most k few = length-take-le k _ (omega (arith, length-replicate most zero_block))
+-- the first of many times one block
+pub length-blocks : (block : List ℕ) (most k : ℕ) → k ≤ most → length (take k (replicate most block)) ≡ k
+length-blocks block most k few = length-take-le k _ (omega (arith, length-replicate most block))
 
 -- ---- OFB
 

@@ -1,5 +1,3 @@
-pub mod TkwSteps
-pub mod Enclosed
 pub mod BitPlaces
 pub mod Pieces
 pub mod CfbPlaces
@@ -7,5 +5,4 @@ pub mod SegmentBits
 pub mod StreamPlaces
 pub mod OnePlaintext
 pub mod StreamsAlike
-pub mod KnownAnswers
 pub mod ChainedOutputs

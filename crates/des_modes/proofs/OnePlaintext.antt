@@ -14,8 +14,10 @@ use Rattle.des_modes.proofs.Pieces.{Xors-one, bits_undone, bytes_undone}
 bytes_of_bits : (a b : List ℕ) → AreBytes a → AreBytes b → bits_of_bytes a ≡ bits_of_bytes b → a ≡ b
 unfolding bits_of_bytes
 bytes_of_bits [] [] are_a are_b same = refl
-bytes_of_bits [] (y ∷ b) are_a are_b same = absurd (omega (arith, ap length same, length-append (bits_of 8 y) (bits_of_bytes b), length-bits_of 8 y))
-bytes_of_bits (x ∷ a) [] are_a are_b same = absurd (omega (arith, ap length same, length-append (bits_of 8 x) (bits_of_bytes a), length-bits_of 8 x))
+bytes_of_bits [] (y ∷ b) are_a are_b same =
+    absurd (omega (arith, ap length same, length-append (bits_of 8 y) (bits_of_bytes b), length-bits_of 8 y))
+bytes_of_bits (x ∷ a) [] are_a are_b same =
+    absurd (omega (arith, ap length same, length-append (bits_of 8 x) (bits_of_bytes a), length-bits_of 8 x))
 bytes_of_bits (x ∷ a) (y ∷ b) are_a are_b same =
     let same_byte : bits_of 8 x ≡ bits_of 8 y = cc (
       ap (take 8) same,

@@ -168,25 +168,22 @@ module _ {S X : Type 0} {op : X → X → X} {d : X} {At : List X → S → Type
   pub GoesOn-none : (direction : Direction) (state : S) → GoesOn op d At k direction state state [] []
   GoesOn-none direction state =
       let none : ciphertext direction [] [] ≡ [] = ciphertext-is (λ (xs : List X). xs ≡ []) direction [] [] refl refl in
-      record { goes = λ t at. rw (none, append-nil) (at, Xors-none (length t) (k t)) }
+      record { goes = λ t more at. rw (none, append-nil) (at, Xors-none (length t) (k (t ++ more))) }
 
   pub GoesOn-joined : (direction : Direction) {before between after : S} {old now more answers : List X}
-      → ((t : List X) → At t between → GoesByFront k) → GoesOn op d At k direction before between old now
-      → GoesOn op d At k direction between after more answers
+      → GoesOn op d At k direction before between old now → GoesOn op d At k direction between after more answers
       → GoesOn op d At k direction before after (old ++ more) (now ++ answers)
-  GoesOn-joined direction {before} {between} {after} {old} {now} {more} {answers} front first second = record {
-    goes = λ t at.
+  GoesOn-joined direction {before} {between} {after} {old} {now} {more} {answers} first second = record {
+    goes = λ t rest at.
         let c : List X = ciphertext direction old now in
-        let d : List X = ciphertext direction more answers in
-        let one = first.goes t at in
-        let two = second.goes (t ++ c) one.0 in
+        let e : List X = ciphertext direction more answers in
+        let one = first.goes t (e ++ rest) at in
+        let two = second.goes (t ++ c) rest one.0 in
         let size = length-behind direction t old now one.1.count in
-        rw (ciphertext-append direction old now more answers, ← append_assoc t c d) (
+        rw (ciphertext-append direction old now more answers, ← append_assoc t c e) (
           two.0,
-          Xors-append (length t) (length (t ++ c)) (k ((t ++ c) ++ d)) old now more answers size
-              (Xors-other (length t) (k (t ++ c)) (k ((t ++ c) ++ d)) old now
-              (λ i below. sym (front (t ++ c) one.0 (t ++ c) d (length t + i) (omega arith))) one.1)
-              two.1,
+          Xors-append (length t) (length (t ++ c)) (k (((t ++ c) ++ e) ++ rest)) old now more answers size
+              (rw (append_assoc (t ++ c) e rest) one.1) two.1,
         );
   }
 
@@ -199,4 +196,4 @@ module _ {S X : Type 0} {op : X → X → X} {d : X} {At : List X → S → Type
       let all : List X = c ++ ciphertext direction old now in
       Xors-append 0 (length c) (k all) p c _ _ (omega (arith, begun.count))
       (Xors-other 0 (k c) (k all) p c (λ i below. sym (front c at c _ (0 + i) (omega (arith, begun.count)))) begun)
-      (Xors-directed direction _ _ _ _ undone (goes.goes c at).1)
+      (Xors-directed direction _ _ _ _ undone (rw (append-nil all) at (goes.goes c [] at).1))

@@ -4,5 +4,3 @@ pub mod Ofb
 pub mod Cfb
 pub mod States
 pub mod Modes
-pub mod Tkw
-pub mod CmsKeyWrap

@@ -187,7 +187,7 @@ impl CfbMode {
     // a text of one block does no work for many.
     #[inline(never)]
     fn encrypt_segments<C: Feedback>(&self, place: &mut Place, cipher: &C, bytes: &mut [u8])
-        requires blocks { self.now.segment ≡ 8 }
+        requires wide { self.now.segment ≡ 8 }
         requires between { place.old.used ≡ 0 }
         requires some { 8 ≤ length bytes.old }
         requires few { length bytes.old ≤ 2048 }

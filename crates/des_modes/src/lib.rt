@@ -1,5 +1,5 @@
 //! Modes of operation of any lawful cipher: CFB, OFB and CTR, which make a stream cipher of it (FIPS
-//! 81; NIST SP 800-38A), and the key wraps of triple DES (RFC 3217; NIST SP 800-38F, 7).
+//! 81; NIST SP 800-38A).
 //!
 //! CFB, OFB and CTR hide a text only if no initialization vector or counter block is used twice under a
 //! key. They authenticate nothing: in CTR and OFB, whoever knows a text can change its ciphertext
@@ -7,11 +7,8 @@
 //! bytes becomes garbage.
 #![tactic(auto)]
 
-pub mod by_key;
 mod cfb;
 mod cfb_bits;
-mod checks;
-pub mod cms_key_wrap;
 mod ctr;
 pub mod direction;
 pub mod feedback;
@@ -21,10 +18,7 @@ mod ofb;
 mod parts;
 mod place;
 pub mod stream;
-pub mod tkw;
-pub mod unwrap_error;
-mod xored;
+pub mod xored;
 
 pub use direction::Direction;
 pub use feedback::Feedback;
-pub use unwrap_error::UnwrapError;

@@ -1,6 +1,6 @@
 //! Texts of any length, by modes that take a limited number of bytes at a time.
 
-ghost use Rattle.std.specs.Prelude.{◌≡◌, ◌<◌, ◌≤◌, ◌++◌, ℕ, List, length, bit_xor};
+ghost use Rattle.std.specs.Prelude.{◌≡◌, ◌<◌, ◌≤◌, ℕ, List, length, bit_xor};
 ghost use Rattle.des_modes.specs.Streams.{GoesOn};
 ghost use Rattle.des_modes.specs.States.{IsPlace, size_of};
 ghost use Rattle.des_modes.specs.declared.direction.Direction.{Direction as DirectionOf};
@@ -37,11 +37,7 @@ pub(crate) trait TakesParts<C: Feedback> {
         requires few { length bytes.old ≤ limit self.now direction place.old.used }
         ensures fits { place.new.used < size_of (mode self.now) }
         ensures goes { (iv : List ℕ) → GoesOn bit_xor 0 (IsPlace (mode self.now) (C.encrypted cipher.now) iv)
-            (key_stream self.now (C.encrypted cipher.now) iv) direction place.old place.new bytes.old bytes.new }
-        ensures front { (iv c : List ℕ) → IsPlace (mode self.now) (C.encrypted cipher.now) iv c place.old
-            → (d more : List ℕ) (i : ℕ) → i < length d
-            → key_stream self.now (C.encrypted cipher.now) iv (d ++ more) i
-            ≡ key_stream self.now (C.encrypted cipher.now) iv d i };
+            (key_stream self.now (C.encrypted cipher.now) iv) direction place.old place.new bytes.old bytes.new };
 }
 
 /// Encrypts or decrypts the bytes that come next in place, part after part.

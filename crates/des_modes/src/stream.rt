@@ -43,15 +43,14 @@ fn apply_in<C: Feedback>(
         → InMode mode (C.encrypted cipher.now) iv p c → InMode mode (C.encrypted cipher.now) iv
         (p ++ plaintext direction bytes.old bytes.new)
         (c ++ ciphertext direction bytes.old bytes.new) }
-    ensures after_bits { mode ≡ BitFeedback → (iv : List ℕ) (c : List Bool)
+    ensures bits { mode ≡ BitFeedback → (iv : List ℕ) (c : List Bool)
         → HoldsLastBits iv c place.old.register → place.old.used ≡ 0 → HoldsLastBits iv
         (c ++ bits_of_bytes (ciphertext direction bytes.old bytes.new)) place.new.register
-        × (place.new.used ≡ 0) }
-    ensures made_bits { mode ≡ BitFeedback → (iv : List ℕ) (p c : List Bool)
-        → HoldsLastBits iv c place.old.register → place.old.used ≡ 0
-        → CfbBits 1 (C.encrypted cipher.now) iv p c → CfbBits 1 (C.encrypted cipher.now) iv
+        × (place.new.used ≡ 0)
+        × ((p : List Bool) → CfbBits 1 (C.encrypted cipher.now) iv p c
+        → CfbBits 1 (C.encrypted cipher.now) iv
         (p ++ bits_of_bytes (plaintext direction bytes.old bytes.new))
-        (c ++ bits_of_bytes (ciphertext direction bytes.old bytes.new)) }
+        (c ++ bits_of_bytes (ciphertext direction bytes.old bytes.new))) }
 {
     match mode {
         Mode::Counter => apply_parts(&CtrMode, direction, place, cipher, bytes),

@@ -4,7 +4,7 @@ ghost use Rattle.std.specs.Prelude.{◌≡◌, ◌<◌, ◌≤◌, ◌+◌, ◌*
 ghost use Rattle.des_modes.specs.Streams.{Xors};
 
 /// Each byte of the data becomes its xor with a byte of the key stream, from byte `from` of it on.
-pub(crate) fn xor_from(bytes: &mut [u8], key_stream: &[u8], from: usize)
+pub fn xor_from(bytes: &mut [u8], key_stream: &[u8], from: usize)
     requires { from + length bytes.old ≤ length key_stream.now }
     ensures { (i : ℕ) → i < length bytes.old → slice_index bytes.new i
         ≡ bit_xor (slice_index bytes.old i) (slice_index key_stream.now (from + i)) }

@@ -1,11 +1,11 @@
-//! Keys that are wrapped, and unwrapped again: what the clauses of `by_key` give to a caller.
+//! Keys that are wrapped, and unwrapped again: what the clauses of key wraps give to a caller.
 
 ghost use Rattle.std.specs.Prelude.{◌≡◌, ◌↔◌, ◌<◌, ◌≤◌, ◌+◌, ◌^◌, length, IsOk, OnOk};
-ghost use Rattle.des_modes.specs.CmsKeyWrap.{Wraps};
-ghost use Rattle.des_modes.specs.Tkw.{TkwUnder};
+ghost use Rattle.des_key_wraps.specs.CmsKeyWrap.{Wraps};
+ghost use Rattle.des_key_wraps.specs.Tkw.{TkwUnder};
 
 use des::cipher::{InvalidLength, Relating, are_bytes};
-use des_modes::by_key;
+use des_key_wraps::{cms_key_wrap, tkw};
 
 /// Wraps a key by the key wrap of CMS under a protection key, and unwraps it: the key comes back. A
 /// protection key that does not have `KEY_SIZE` bytes is `InvalidLength`.
@@ -24,8 +24,8 @@ pub fn cms_key_again<C: Relating + Drop>(
 {
     let cipher = C::new_from_slice(protection)?;
     are_bytes(iv);
-    by_key::wrap_cms(&cipher, iv, key, wrapped);
-    by_key::unwrap_cms(&cipher, wrapped, again).unwrap();
+    cms_key_wrap::wrap(&cipher, iv, key, wrapped);
+    cms_key_wrap::unwrap(&cipher, wrapped, again).unwrap();
     Ok(())
 }
 
@@ -46,7 +46,7 @@ pub fn tkw_key_again<C: Relating + Drop>(
 {
     let cipher = C::new_from_slice(protection)?;
     are_bytes(key.as_flattened());
-    by_key::wrap_tkw(&cipher, key, wrapped);
-    by_key::unwrap_tkw(&cipher, wrapped, again).unwrap();
+    tkw::wrap(&cipher, key, wrapped);
+    tkw::unwrap(&cipher, wrapped, again).unwrap();
     Ok(())
 }

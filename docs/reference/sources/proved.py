@@ -5,7 +5,7 @@ import re
 from .rattle import Crate, base, split_impl
 from .text import Refused, first_sentence, listed, table
 
-LIBRARIES = ["des", "des_fast", "des_mac", "des_modes", "des_payment", "des_key_blocks", "des_io", "des_passwords", "des_columns"]
+LIBRARIES = ["des", "des_fast", "des_mac", "des_modes", "des_key_wraps", "des_payment", "des_key_blocks", "des_io", "des_passwords", "des_columns"]
 CRATES = [*LIBRARIES, "des_context", "des_c", "des_lines", "des_arguments", "des_commands", "des_tool"]
 
 # Crates whose modules no caller names, and what they have instead.

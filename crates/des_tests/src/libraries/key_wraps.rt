@@ -2,7 +2,7 @@
 
 use des::cipher::KeyInit;
 use des_fast::TdesEde3;
-use des_modes::{UnwrapError, cms_key_wrap, tkw};
+use des_key_wraps::{UnwrapError, cms_key_wrap, tkw};
 use std::test::Fail;
 
 // The example of RFC 3217.

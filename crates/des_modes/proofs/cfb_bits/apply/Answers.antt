@@ -21,7 +21,7 @@ bits-preserved g c iv =
     let bit : c.ciphertext.result ≡ ciphertext c.args.direction (get_or now place false) (xor (get_or now place false) c.key_bit.result) =
     rw (c.ciphertext.ensures, c.bit_at-old.ensures, c.bit_at.ensures, c.xor_bit.ensures, get_or-set_same now place _ false within) refl in
     InPlace-set _ false c.xor_bit.ensures within
-    (λ done. GoesOn-joined c.args.direction (λ t at. cfb_bits-front E iv t c.bits.register c.key_bit.ensures.wide at) done
+    (λ done. GoesOn-joined c.args.direction done
     (GoesOn-bit E iv c.bits.register c.advance.new.register c.args.direction _ _ c.key_bit.ensures.wide (rw bit at c.advance.ensures)
     (ap (xor (get_or now place false)) c.key_bit.ensures.bit))) (c.bits.invariant iv)
 
@@ -32,7 +32,7 @@ returns g c =
     let so_far = λ (iv : List ℕ). rw all at (c.bits.invariant iv) in
     let texts = texts-map (first_bits c.args.bits) c.args.direction c.args.bytes.now c.bits.bytes in
     record {
-      after = λ iv d is. rw texts.1 ((so_far iv).done.goes d is).0;
+      after = λ iv d is. rw texts.1 ((so_far iv).done.goes d [] is).0;
       made = λ iv. rw (texts.0, texts.1)
           (GoesOn-whole c.args.direction bits_undone (λ t. cfb_bits-front E iv t c.args.register.now (omega arith)) (so_far iv).done);
       rest = (so_far []).rest;

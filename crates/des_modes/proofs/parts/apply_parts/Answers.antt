@@ -9,7 +9,7 @@ parts-preserved g c = record {
   fits = c.apply_part.ensures.fits;
   so_far = λ iv.
       InPlace-more _ (omega arith) (omega (arith, c.min-count.ensures)) c.apply_part.auto.bytes
-      (λ done. GoesOn-joined c.args.direction (c.apply_part.ensures.front iv) done (c.apply_part.ensures.goes iv))
+      (λ done. GoesOn-joined c.args.direction done (c.apply_part.ensures.goes iv))
       (c.parts.invariant.so_far iv);
 }
 

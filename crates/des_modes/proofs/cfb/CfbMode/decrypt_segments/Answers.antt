@@ -6,13 +6,13 @@ use Rattle.des_modes.proofs.cfb.CfbMode.decrypt_segments.Goals as goal
 
 pub returns-clause-goes : goal.returns-clause-goes
 returns-clause-goes g c iv = record {
-  goes = λ d is.
+  goes = λ d more is.
       let bytes : List ℕ = c.args.bytes.now in
       let blocks : List (List ℕ) = c.write_outputs.new.blocks in
       let inputs : List ℕ = c.write_joined.new.joined in
       let n : ℕ = length bytes in
-      let many : length blocks ≡ c.count_of.result = c.write_outputs.auto.blocks ∙ length-take-le c.count_of.result _ c.count_of.ensures.few in
-      goes-beyond is (omega arith) c.args.self.now.some bytes bytes _ blocks
+      let many : length blocks ≡ c.count_of.result = c.write_outputs.auto.blocks ∙ length-take-le _ _ c.count_of.ensures.few in
+      goes-beyond is (omega arith) c.args.self.now.some bytes more bytes _ blocks
       c.requires.between refl (rw many c.count_of.ensures.enough) (rw c.write_joined.ensures at c.write_outputs.ensures)
       c.xor_segments.ensures
       (c.copy_from_slice.ensures.after ∙ take_rest inputs n ∙ ap (drop n) c.write_joined.ensures) refl

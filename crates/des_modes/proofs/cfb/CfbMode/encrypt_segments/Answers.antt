@@ -4,7 +4,7 @@ use Rattle.std.proofs.lemmas.List.{get_or_default, take_rest}
 use Rattle.std.proofs.Math.Seq.{drop-append-add}
 use Rattle.des.proofs.KeyParts.{get_or-first_chunks}
 use Rattle.des_modes.proofs.CfbPlaces.{goes-beyond}
-use Rattle.des_modes.proofs.ChainedOutputs.{length-zero_blocks, outputs-of_plaintext}
+use Rattle.des_modes.proofs.ChainedOutputs.{length-blocks, outputs-of_plaintext}
 use Rattle.des_modes.proofs.cfb.CfbMode.encrypt_segments.Goals as goal
 
 pub returns-clause-goes : goal.returns-clause-goes
@@ -19,7 +19,7 @@ returns-clause-goes g c =
     let some : 1 ≤ k = omega (arith, c.count_of.ensures.enough, c.requires.some) in
     let last = c.count_of.ensures.begun (k - 1) (omega (arith, some)) in
     let few : k ≤ 256 = omega (arith, last, c.requires.few) in
-    let many : length q ≡ k = c.write_outputs.auto.outputs ∙ length-zero_blocks 256 k few in
+    let many : length q ≡ k = c.write_outputs.auto.outputs ∙ length-blocks _ 256 k few in
     let m : ℕ = length old - 8 in
     let split : length new ≡ length register + m = omega (arith, same, c.requires.some) in
     let shifted = ap (λ (n : ℕ). drop n (register ++ new)) split ∙ drop-append-add register new m in
@@ -28,9 +28,9 @@ returns-clause-goes g c =
     (λ n below. ap (λ (blocks : List (List ℕ)). get_or blocks n []) c.as_chunks.ensures.front
     ∙ get_or-first_chunks _ n old (omega (arith, c.as_chunks.ensures.front_len)))
     c.are_blocks.ensures (λ i below. c.xor_blocks_from.ensures i below) in
-    rw c.requires.blocks (λ iv. record {
-      goes = λ d is.
-          goes-beyond is (omega arith) (omega arith) new old new q c.requires.between (sym same)
+    rw c.requires.wide (λ iv. record {
+      goes = λ d more is.
+          goes-beyond is (omega arith) (omega arith) new more old new q c.requires.between (sym same)
           (omega (arith, many, same, c.count_of.ensures.enough))
           outputs
           (record { count = same; xored = λ i below. c.xor_blocks_from.ensures i below })

@@ -6,7 +6,7 @@ use Rattle.des_modes.proofs.ctr.CtrModeTakesParts.apply_part.Goals as goal
 
 pub returns-clause-goes : goal.returns-clause-goes
 returns-clause-goes g c t = record {
-  goes = λ d at.
+  goes = λ d more at.
       let old : List ℕ = c.args.bytes.now in
       let used : ℕ = c.args.place.now.used in
       let number : ℕ = c.from_be_bytes-counter.result in
@@ -16,7 +16,10 @@ returns-clause-goes g c t = record {
       λ i. omega (arith, is, at.1) in
       let fits : (number + (used + length old) / 8) % 2 ^ 64 < 2 ^ 64 = omega arith in
       rw (length-behind c.args._direction d old _ c.apply_outputs.auto.bytes) (
-        (ap (from_be_bytes w64) c.to_be_bytes-place.ensures ∙ from_be_bytes-to_be_bytes_8 _ fits ∙ counter (length old), omega (arith, at.1)),
+        (
+          ap (from_be_bytes w64) c.to_be_bytes-place.ensures ∙ from_be_bytes-to_be_bytes_8 _ fits ∙ counter (length old),
+          omega (arith, at.1),
+        ),
         record {
           count = c.apply_outputs.auto.bytes;
           xored = λ i below.

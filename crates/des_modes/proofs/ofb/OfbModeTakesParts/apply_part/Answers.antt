@@ -9,7 +9,7 @@ returns-then-bytes-gt8-clause-goes g c = c.apply_chained.ensures.goes c.args._di
 
 pub returns-else-bytes-gt8-clause-goes : goal.returns-else-bytes-gt8-clause-goes
 returns-else-bytes-gt8-clause-goes g c iv = record {
-  goes = λ d at.
+  goes = λ d more at.
       let E : List ℕ → List ℕ = g.C.BlockCipherEncrypt.encrypted c.args.cipher.now in
       let bytes : List ℕ = c.args.bytes.now in
       let n : ℕ = length d in

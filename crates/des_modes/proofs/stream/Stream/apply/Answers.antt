@@ -34,9 +34,9 @@ returns-clause-undone g c number iv p d text is bytes made =
 pub returns-clause-bits : goal.returns-clause-bits
 returns-clause-bits g c iv p d is =
     let same : c.args.mode ≡ BitFeedback = c.requires.2 ∙ ap mode_by is.is_mode in
-    record {
+    let bits = c.apply_in.ensures.bits same iv d is.place.0 is.place.1 in record {
       begun = returns-clause-begun g c;
       is_mode = is.is_mode;
-      place = c.apply_in.ensures.after_bits same iv d is.place.0 is.place.1;
-      made = c.apply_in.ensures.made_bits same iv p d is.place.0 is.place.1 is.made;
+      place = (bits.0, bits.1);
+      made = bits.2 p is.made;
     }

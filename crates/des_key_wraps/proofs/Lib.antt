@@ -1,0 +1,2 @@
+pub mod TkwSteps
+pub mod Enclosed

@@ -1,0 +1,2 @@
+pub mod Tkw
+pub mod CmsKeyWrap
