@@ -21,8 +21,8 @@ export const BLOCK_SIZE = 8;
 export const TAG_SIZE = 8;
 
 // The SHA-256 of the modules that this file was built with: the one of a 64-bit memory, and the same of a 32-bit memory.
-const MODULE_SUM = "ddbb537c93a9245bd1898edc92acef0959155aa800319cef91701d0841150ff1";
-const NARROW_SUM = "dce3d7c32fe7c6d9dcb8800753e70dde90b4c4cf62d1e7ee755d08eb4eb2fc90";
+const MODULE_SUM = "77afbd0c2004e6e9721ed82458935887e19d5fcca4ff48e7050ca60a3a6fd107";
+const NARROW_SUM = "a937c34fbe366477c1a80e3716bd5ffe702d330a35fb143b118e43ca32c53465";
 
 // The bytes of the module's stack, which lies at its address 0. `build` links it so.
 const STACK_SIZE = 131072;
