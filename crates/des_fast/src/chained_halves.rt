@@ -6,34 +6,19 @@
 //! these halves xored with those of its plaintext: they wait for the rounds before them, and for no
 //! permutation.
 
-ghost use Rattle.std.specs.Prelude.{◌≡◌, ℕ, List, bit_xor};
+ghost use Rattle.std.specs.Prelude.{◌≡◌};
 ghost use Rattle.std.specs.List.{All};
 ghost use Rattle.des.specs.Blocks.{IsBlock};
-ghost use Rattle.des.specs.Cbc.{Cbc, xor_blocks};
+ghost use Rattle.des.specs.Cbc.{Cbc};
 ghost use Rattle.des_fast.specs.Groups.{half_of};
 ghost use Rattle.des_fast.specs.HalfBlocks.{last_block};
 ghost use Rattle.des_fast.specs.ChainingValues.{AreOutputs};
 ghost use Rattle.des_fast.specs.SideBySide.{AreExpansions, AreHalvesOf};
-ghost use Rattle.des_fast.specs.Slices.{InEachBlock};
 
 use crate::box_lookup::BoxLookup;
 use crate::rounds::{Groups, OneWord};
 use crate::side_by_side::BlockTransform;
 use des::cipher::are_blocks;
-
-// The halves of the xor of a block with the block of these.
-#[inline(always)]
-fn xored<G: OneWord>(halves: (G, G), block: &[u8; 8]) -> (G, G)
-    requires left { AreExpansions G.BLOCKS G.word halves.0 }
-    requires right { AreExpansions G.BLOCKS G.word halves.1 }
-    ensures left { AreExpansions G.BLOCKS G.word result.0 }
-    ensures right { AreExpansions G.BLOCKS G.word result.1 }
-    ensures halves { (other : List ℕ) → AreHalvesOf G.word other halves
-        → AreHalvesOf G.word (xor_blocks block.now other) result }
-{
-    let (left, right) = G::of_blocks(&[*block]);
-    (left.xor(halves.0), right.xor(halves.1))
-}
 
 // The block of the halves after its rounds, which exchanged are its own.
 #[inline(always)]
@@ -62,8 +47,11 @@ pub(crate) fn cbc_encrypt<W: BoxLookup, A: BlockTransform>(
     are_blocks(blocks);
     let mut halves = W::One::of_blocks(&[*iv]);
     for block in blocks.iter_mut() {
-        let (first_left, first_right) = xored(halves, block);
-        let (left, right) = passes.process_halves(first_left, first_right);
+        let (block_left, block_right) = W::One::of_blocks(&[*block]);
+        let (left, right) = passes.process_halves(
+            block_left.xor(halves.0),
+            block_right.xor(halves.1),
+        );
         *block = block_after(left, right);
         halves = (right, left);
     }
@@ -85,7 +73,10 @@ pub(crate) fn write_outputs<W: BoxLookup, A: BlockTransform>(
         let (left, right) = passes.process_halves(halves.0, halves.1);
         // What the next block waits for comes first.
         halves = match plaintext.get(j) {
-            Some(block) => xored((right, left), block),
+            Some(block) => {
+                let (block_left, block_right) = W::One::of_blocks(&[*block]);
+                (block_left.xor(right), block_right.xor(left))
+            }
             None => (right, left),
         };
         outputs[j] = block_after(left, right);
