@@ -91,8 +91,8 @@ fn shift(register: &mut [u8; 8], bytes: &[u8])
         return;
     }
     if let [byte] = bytes {
-        let [_, b, c, d, e, f, g, h] = *register;
-        *register = [b, c, d, e, f, g, h, *byte];
+        register.copy_within(1.., 0);
+        register[7] = *byte;
         return;
     }
     let count = bytes.len();
