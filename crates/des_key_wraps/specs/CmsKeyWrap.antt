@@ -18,7 +18,7 @@ second_iv = 0x4a ∷ 0xdd ∷ 0xa2 ∷ 0x2c ∷ 0x79 ∷ 0xe8 ∷ 0x21 ∷ 0x05 
 abbrev pub reversed : List (List ℕ) → List (List ℕ)
 reversed blocks = map reverse (reverse blocks)
 
--- blocks are encrypted by CBC (to TEMP1), and with the initialization vector before them, and in reverse order, again
+-- CBC from IV makes TEMP1 of the blocks; IV | TEMP1, all bytes reversed (TEMP3), is encrypted by CBC from the second vector
 pub record Encloses (Encrypts : List ℕ → List ℕ → Type 0) (iv : List ℕ) (p enclosed : List (List ℕ)) : Type 0 where
   pub temp1 : List (List ℕ)
   pub are_blocks : All IsBlock p × All IsBlock temp1

@@ -8,8 +8,8 @@ use Rattle.des_modes.specs.Streams.{Under}
 abbrev pub IsSemiblock : List ℕ → Type 0
 IsSemiblock word = (length word ≡ 4) × AreBytes word
 
--- step t of TW, of A and R(2), .., R(n): A becomes MSB32(E(A | R(2))) ^ [t]32, and R(3), .., R(n) move to the left, with
--- LSB32(E(A | R(2))) behind
+-- step t of TW, of A and R(2), .., R(n): A becomes MSB32(E(A | R(2))) ^ [t]32, and R(3), .., R(n) move to the left, before
+-- LSB32(E(A | R(2)))
 abbrev pub tw_step : (List ℕ → List ℕ) → ℕ → List (List ℕ) → List (List ℕ)
 tw_step encryption t (a ∷ r ∷ rest) =
     xor_blocks (take 4 (encryption (a ++ r))) (to_be_bytes w32 t) ∷ rest ++ drop 4 (encryption (a ++ r)) ∷ []

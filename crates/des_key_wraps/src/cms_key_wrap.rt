@@ -2,8 +2,9 @@
 //! bytes is wrapped together with its checksum by SHA-1, and becomes two blocks longer.
 //!
 //! RFC 3217 wraps keys of triple DES, which have three blocks; libraries take other numbers of blocks
-//! too. The key is wrapped as it is. RFC 3217 wants odd parity before a key is wrapped and after it is
-//! unwrapped: `des::weak_key::with_odd_parity` sets it, and keeps a key that has it.
+//! too. The key is wrapped as it is. RFC 3217 sets odd parity before a key is wrapped, as
+//! `des::weak_key::with_odd_parity` does, and refuses an unwrapped key that lacks it: one that this call
+//! would change.
 
 ghost use Rattle.std.specs.Prelude.{◌≡◌, ◌≤◌, ◌+◌, ◌++◌, ℕ, List, [], ◌∷◌, length, drop, replicate, IsOk, OnOk, OnErr};
 ghost use Rattle.std.specs.List.{All};
@@ -41,7 +42,7 @@ fn reverse_bytes(blocks: &mut [[u8; 8]])
     }
 }
 
-// Writes a key, and its checksum behind it.
+// Writes a key, and its checksum after it.
 fn write_checked(checked: &mut [[u8; 8]], key: &[[u8; 8]])
     requires { length checked.old ≡ length key.now + 1 }
     ensures { checked.new ≡ key.now ++ checksum_of key.now ∷ [] }
@@ -81,7 +82,7 @@ fn decrypt<C: BlockCipher>(cipher: &C, iv: &[u8; 8], blocks: &mut [[u8; 8]], las
     are_bytes(last);
 }
 
-// Undoes `enclose`: writes the key, and returns the initialization vector and the block behind the key,
+// Undoes `enclose`: writes the key, and returns the initialization vector and the block after the key,
 // which is to be its checksum.
 fn open<C: BlockCipher>(cipher: &C, enclosed: &[[u8; 8]], key: &mut [[u8; 8]]) -> ([u8; 8], [u8; 8])
     requires { length enclosed.now ≡ length key.old + 2 }
@@ -121,7 +122,8 @@ pub fn wrap<C: BlockCipherEncrypt>(
 }
 
 /// Unwraps a key, which is two blocks shorter than `wrapped`. If `wrapped` wraps no key under this
-/// cipher, the answer is `UnwrapError`, and `key` is zeros. Every byte of the checksum is compared.
+/// cipher, the answer is `UnwrapError`, and `key` is zeros. The checksum is compared whole, wherever the
+/// first difference is.
 pub fn unwrap<C: BlockCipher>(
     cipher: &C,
     wrapped: &[[u8; 8]],

@@ -15,8 +15,8 @@ use des::cipher::{BlockCipher, BlockCipherEncrypt, are_bytes};
 use des_mac::mac::are_equal;
 use des_modes::xored::xor_from;
 
-// The check value in front of the key, ICV3.
-const CHECK_VALUE: [u8; 4] = [0xa6; 4];
+// The integrity check value before the key.
+const ICV3: [u8; 4] = [0xa6; 4];
 
 // The block of two semiblocks.
 fn joined(first: &[u8; 4], second: &[u8; 4]) -> [u8; 8]
@@ -69,8 +69,8 @@ fn step_back<C: BlockCipher>(cipher: &C, first: &mut [u8; 4], word: &mut [u8; 4]
     split(&block, first, word);
 }
 
-// TW, on the first semiblock and the others. Step t is of the semiblock at place t - 1, round and round:
-// the standard moves them to the left.
+// TW, on the first semiblock and the others. Step t takes the semiblock at place (t - 1) mod n; the
+// standard moves all of them to the left instead.
 fn transform<C: BlockCipherEncrypt>(cipher: &C, first: &mut [u8; 4], words: &mut [[u8; 4]])
     requires some { 1 ≤ length words.old }
     requires few { length words.old < 2 ^ 28 }
@@ -106,14 +106,15 @@ pub fn wrap<C: BlockCipherEncrypt>(cipher: &C, key: &[[u8; 4]], wrapped: &mut [[
     requires capacity { length wrapped.old ≡ length key.now + 1 }
     ensures { wrapped.new ≡ tkw (C.encrypted cipher.now) key.now }
 {
-    let mut first = CHECK_VALUE;
+    let mut first = ICV3;
     wrapped[1..].copy_from_slice(key);
     transform(cipher, &mut first, &mut wrapped[1..]);
     wrapped[0] = first;
 }
 
 /// Unwraps a key into a list of one semiblock less. If `wrapped` wraps no key under this cipher, the
-/// answer is `UnwrapError`, and the list is zeros. Every byte of the check value is compared.
+/// answer is `UnwrapError`, and the list is zeros. The check value is compared whole, wherever the first
+/// difference is.
 pub fn unwrap<C: BlockCipher>(
     cipher: &C,
     wrapped: &[[u8; 4]],
@@ -131,7 +132,7 @@ pub fn unwrap<C: BlockCipher>(
     let mut first = wrapped[0];
     key.copy_from_slice(&wrapped[1..]);
     transform_back(cipher, &mut first, key);
-    if are_equal(&first, &CHECK_VALUE) {
+    if are_equal(&first, &ICV3) {
         return Ok(());
     }
     key.fill([0; 4]);

@@ -5,7 +5,7 @@ ghost use Rattle.std.specs.Prelude.{codes, Some};
 use std::error::Error;
 use std::fmt;
 
-/// The error of data that wrap no key under the given one: they were made under another, or changed.
+/// The data are no key wrapped under this one: they were wrapped under another, or changed.
 #[derive(Clone, Copy, Debug, PartialEq, Eq)]
 pub struct UnwrapError;
 

@@ -1,4 +1,4 @@
--- How far streams have come: by the parts of their states, and in words.
+-- How far streams have come: by the parts of their states, and as machine words.
 use Rattle.std.specs.Prelude.{◌≡◌, ℕ, ◌+◌, ◌/◌, ◌%◌, ◌^◌, ◌<◌, ◌≤◌, Bool, List, ◌++◌, length, drop}
 use Rattle.std.specs.Int.{w64, from_be_bytes}
 use Rattle.des.specs.Bits.{bits_of_bytes}
@@ -13,17 +13,17 @@ use Rattle.des_modes.specs.declared.place.Place.{Place}
 use Rattle.des_modes.specs.declared.stream.Stream.{Stream}
 use Rattle.des_modes.specs.declared.stream.TheConstants.{MARK}
 
--- OFB, n bytes behind: the block is the last output block that they took from, of which n modulo 8 are taken, 0 for all
+-- OFB, after n bytes: the block is the last output block that they took from, of which n modulo 8 are taken, 0 for all
 abbrev pub IsAtOutput : (List ℕ → List ℕ) → List ℕ → ℕ → List ℕ → ℕ → Type 0
 IsAtOutput encryption iv n last taken = (last ≡ output_block encryption iv ((n + 7) / 8)) × (taken ≡ n % 8)
 
--- CFB, the ciphertext c behind: the bytes are the last eight of IV | C, and of a segment that has begun the block is the output block
+-- CFB, after the ciphertext c: the bytes are the last eight of IV | C; the block is the output block of a segment that has begun
 pub record IsAtSegment (s : ℕ) (encryption : List ℕ → List ℕ) (iv c bytes block : List ℕ) (taken : ℕ) : Type 0 where
   pub register : bytes ≡ drop (length c) (iv ++ c)
   pub used : taken ≡ length c % s
   pub output : 1 ≤ taken → block ≡ encryption (input_block s iv c (length c / s))
 
--- CFB of one bit, the bits c of the ciphertext behind: the register holds the last 64 bits of IV | C
+-- CFB of one bit, after the bits c of ciphertext: the register holds the last 64 bits of IV | C
 abbrev pub HoldsLastBits : (iv : List ℕ) (c : List Bool) (register : List ℕ) → Type 0
 HoldsLastBits iv c register = bits_of_bytes register ≡ drop (length c) (bits_of_bytes iv ++ c)
 
@@ -48,7 +48,7 @@ IsPlace OutputFeedback encryption iv c place = IsAtOutput encryption iv (length 
 IsPlace BitFeedback encryption iv c place = HoldsLastBits iv (bits_of_bytes c) place.register × (place.used ≡ 0)
 IsPlace (CipherFeedback s) encryption iv c place = IsAtSegment s encryption iv c place.register place.output place.used
 
--- a stream in words: in the mode of a number p became c under the encryption, and it goes on from there
+-- a stream as machine words: in the mode of a number it took p to c under the encryption, and it goes on from there
 pub record IsStreamAt (number : ℕ) (encryption : List ℕ → List ℕ) (iv p c : List ℕ) (stream : Stream) : Type 0 where
   pub begun : HasBegun stream
   pub is_mode : stream.mode ≡ number
@@ -57,7 +57,7 @@ pub record IsStreamAt (number : ℕ) (encryption : List ℕ → List ℕ) (iv p 
   pub place : IsPlace (mode_by number) encryption iv c stream.place
   pub made : InMode (mode_by number) encryption iv p c
 
--- by CFB1 bits became bits
+-- in CFB of one bit it took the bits p to the bits c
 pub record IsBitStreamAt (encryption : List ℕ → List ℕ) (iv : List ℕ) (p c : List Bool) (stream : Stream) : Type 0 where
   pub begun : HasBegun stream
   pub is_mode : stream.mode ≡ CFB1

@@ -184,7 +184,7 @@ impl CfbMode {
     }
 
     // Encrypts segments of eight bytes together, of which the last may be cut short. Not inlined, so that
-    // a text of one block does no work for many.
+    // a text of one block clears no buffer for many.
     #[inline(never)]
     fn encrypt_segments<C: Feedback>(&self, place: &mut Place, cipher: &C, bytes: &mut [u8])
         requires wide { self.now.segment ≡ 8 }
@@ -244,8 +244,8 @@ impl<C: Feedback> TakesParts<C> for CfbMode {
 
     ghost key_stream = { λ cfb encryption iv c. cfb_stream cfb.segment encryption iv c };
 
-    // The bytes that are left of a segment that has begun. Else 256 segments to decrypt, or to encrypt if
-    // they have eight bytes, and one to encrypt if they have fewer.
+    // What is left of a segment that has begun; otherwise 256 segments, but only one to encrypt if it has
+    // fewer than eight bytes.
     ghost limit = { λ cfb direction used.
         if nat_eq used 0 then
         (plaintext direction (if nat_eq cfb.segment 8 then 2048 else cfb.segment)
@@ -263,7 +263,7 @@ impl<C: Feedback> TakesParts<C> for CfbMode {
 
     fn apply_part(&self, direction: Direction, place: &mut Place, cipher: &C, bytes: &mut [u8]) {
         match direction {
-            // More than a segment comes only between segments of eight bytes.
+            // Only segments of eight bytes, between two of them, come several at once.
             Direction::Encrypt if bytes.len() > self.segment => {
                 self.encrypt_segments(place, cipher, bytes);
             }

@@ -1,5 +1,5 @@
 //! Cipher feedback of one bit over any block cipher (FIPS 81, cipher feedback mode; NIST SP 800-38A,
-//! 6.3): CFB-1. Lengths are in bits, of which the first is the most significant of the first byte.
+//! 6.3): CFB-1. Lengths are in bits. The first bit is the most significant of the first byte.
 
 ghost use Rattle.std.specs.Prelude.{◌≡◌, ◌<◌, ◌≤◌, ◌*◌, ◌++◌, ℕ, Bool, List, [], ◌∷◌, length, drop, slice_set};
 ghost use Rattle.des.specs.Bits.{bits_of_bytes, xor};

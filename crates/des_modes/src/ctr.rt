@@ -47,7 +47,7 @@ fn apply_output<C: BlockCipherEncrypt>(cipher: &C, counter: u64, used: usize, by
 }
 
 // Encrypts or decrypts bytes by the output blocks of a counter and of those that follow it, from byte
-// `used` of the first on. Not inlined, so that a text of one block does no work for many.
+// `used` of the first on. Not inlined, so that a text of one block clears no buffer for many.
 #[inline(never)]
 fn apply_many<C: BlockCipherEncrypt>(cipher: &C, counter: u64, used: usize, bytes: &mut [u8])
     requires { used + length bytes.old ≤ 2048 }
@@ -77,7 +77,7 @@ fn apply_outputs<C: BlockCipherEncrypt>(cipher: &C, counter: u64, used: usize, b
     }
 }
 
-/// The counter mode. The register of a place holds the counter of the block that it stands in.
+/// The counter mode. The register of a place holds the counter of the block that the next byte is in.
 pub(crate) struct CtrMode;
 
 impl<C: Feedback> TakesParts<C> for CtrMode {

@@ -13,7 +13,7 @@ pub enum Direction {
 }
 
 impl Direction {
-    /// Of two bits, before and after, that of the ciphertext.
+    /// The bit of the ciphertext, of the bits before and after a call in place.
     #[inline]
     pub(crate) fn ciphertext(self, old: bool, new: bool) -> bool
         ensures { result ≡ ciphertext_of self old new }

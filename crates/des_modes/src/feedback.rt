@@ -9,7 +9,7 @@ use des::cipher::BlockCipherEncrypt;
 use des::tdes::{Form, Parts, Triple};
 use des_fast::box_lookup::BoxLookup;
 
-/// The block at a place, or zeros behind the end of the blocks.
+/// The block at a place, or zeros after the last.
 pub(crate) fn block_at(blocks: &[[u8; 8]], place: usize) -> [u8; 8]
     ensures { result ≡ slice_index_or blocks.now place (replicate 8 0) }
 {

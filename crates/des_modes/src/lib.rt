@@ -2,9 +2,9 @@
 //! 81; NIST SP 800-38A).
 //!
 //! CFB, OFB and CTR hide a text only if no initialization vector or counter block is used twice under a
-//! key. They authenticate nothing: in CTR and OFB, whoever knows a text can change its ciphertext
-//! into that of any other of its length; in CFB, any bits of a segment, and what follows within eight
-//! bytes becomes garbage.
+//! key. They authenticate nothing. In CTR and OFB, an attacker who knows a text can turn its ciphertext
+//! into that of any other text of its length. In CFB, he can change any bits of a segment, and the
+//! eight bytes after it become garbage.
 #![tactic(auto)]
 
 mod cfb;

@@ -22,12 +22,12 @@ pub enum Mode {
     OutputFeedback,
     /// Cipher feedback of one bit.
     BitFeedback,
-    /// Cipher feedback with segments of 1 to 8 bytes, as many as it holds.
+    /// Cipher feedback with segments of this many bytes, 1 to 8.
     CipherFeedback(usize),
 }
 
 impl Mode {
-    /// The mode of a number, if it is that of one.
+    /// The mode of a number. `None` if no mode has it.
     pub fn of(number: u32) -> Option<Mode>
         ensures none { IfNone result (¬ (IsMode number)) }
         ensures some { IfSome result (λ mode. IsMode number × (mode ≡ mode_by number)) }

@@ -30,7 +30,7 @@ fn current<C: BlockCipherEncrypt>(place: &Place, cipher: &C) -> [u8; 8]
 }
 
 // Encrypts or decrypts bytes from the beginning of an output block on. Not inlined, so that a text of
-// one block does no work for many.
+// one block clears no buffer for many.
 #[inline(never)]
 fn apply_chained<C: Feedback>(place: &mut Place, cipher: &C, bytes: &mut [u8])
     requires between { place.old.used ≡ 0 }

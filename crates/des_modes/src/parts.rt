@@ -10,8 +10,7 @@ use crate::direction::Direction;
 use crate::feedback::Feedback;
 use crate::place::Place;
 
-/// The most blocks that go through the cipher together. A part costs something beside its blocks, which
-/// is then shared by many.
+/// The most blocks that go through the cipher in one call, which share its cost.
 pub(crate) const TOGETHER: usize = 256;
 
 /// A mode that goes on from place to place, by a limited number of bytes at a time.
@@ -21,7 +20,7 @@ pub(crate) trait TakesParts<C: Feedback> {
     // The key stream under an encryption, from an initialization vector, along the ciphertext.
     ghost key_stream: { Self → (List ℕ → List ℕ) → List ℕ → List ℕ → ℕ → ℕ };
 
-    // The most bytes that may go together, if that number of an output block is used.
+    // The most bytes of a part, if that many bytes of the output block are used.
     ghost limit: { Self → DirectionOf → ℕ → ℕ };
 
     /// The most bytes that may be encrypted or decrypted together.

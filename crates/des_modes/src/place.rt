@@ -14,7 +14,7 @@ pub struct Place {
 }
 
 impl Place {
-    // The beginning of a stream, or the place behind eight bytes of ciphertext.
+    // A place between two output blocks: the beginning of a stream, or where a register is known.
     pub(crate) fn new(register: &[u8; 8]) -> Place
         ensures register { result.register ≡ register.now }
         ensures used { result.used ≡ 0 }

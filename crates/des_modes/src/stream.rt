@@ -93,25 +93,25 @@ impl Stream {
     }
 
     /// The place `blocks` blocks after the beginning of the counter mode's stream whose first counter
-    /// block is `block`. To decrypt a part, no other bytes are needed.
-    pub fn ctr_at(block: &[u8; 8], blocks: u64) -> Stream
+    /// block is `counter`. To decrypt a part, no other bytes are needed.
+    pub fn ctr_at(counter: &[u8; 8], blocks: u64) -> Stream
         ensures begun { HasBegun result }
         ensures place { (encryption : List ℕ → List ℕ) (p c : List ℕ) → length p ≡ 8 * blocks
-            → AreBytes c → Ctr encryption block.now p c
-            → IsStreamAt CTR encryption block.now p c result }
+            → AreBytes c → Ctr encryption counter.now p c
+            → IsStreamAt CTR encryption counter.now p c result }
     {
-        are_bytes(block);
-        let counter = u64::from_be_bytes(*block).wrapping_add(blocks);
+        are_bytes(counter);
+        let there = u64::from_be_bytes(*counter).wrapping_add(blocks);
         Stream {
-            place: Place::new(&counter.to_be_bytes()),
+            place: Place::new(&there.to_be_bytes()),
             mode: CTR,
             mark: MARK,
         }
     }
 
     /// The place in a stream of cipher feedback before a segment of `segment` bytes: `before` is the
-    /// last eight bytes of the initialization vector and the ciphertext before it. To decrypt a part, no
-    /// others are needed.
+    /// last eight bytes of the initialization vector followed by the ciphertext before it. To decrypt a
+    /// part, no others are needed.
     pub fn cfb_at(before: &[u8; 8], segment: usize) -> Stream
         requires some { 1 ≤ segment }
         requires short { segment ≤ 8 }
@@ -153,7 +153,7 @@ impl Stream {
     }
 
     /// The feedback register: the counter block, the last output block, or the last 64 bits of the
-    /// initialization vector and the ciphertext. In OFB it holds key stream, which is a secret.
+    /// initialization vector followed by the ciphertext. In OFB it holds key stream, which is a secret.
     pub fn register(&self) -> [u8; 8]
         ensures { result ≡ self.now.place.register }
     {

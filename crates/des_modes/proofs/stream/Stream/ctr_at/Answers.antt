@@ -10,7 +10,7 @@ pub returns-clause-place : goal.returns-clause-place
 returns-clause-place c = λ encryption p d size bytes made.
     let many : length d ≡ 8 * c.args.blocks = omega (arith, size, made.count) in
     let counter : (c.from_be_bytes.result + c.args.blocks) % 2 ^ 64
-    ≡ (from_be_bytes w64 c.args.block.now + 8 * c.args.blocks / 8) % 2 ^ 64 =
+    ≡ (from_be_bytes w64 c.args.counter.now + 8 * c.args.blocks / 8) % 2 ^ 64 =
     omega (arith, c.from_be_bytes.ensures) in
     let fits : (c.from_be_bytes.result + c.args.blocks) % 2 ^ 64 < 2 ^ 64 = omega arith in record {
       begun = returns-clause-begun c;
