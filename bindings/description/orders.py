@@ -29,6 +29,8 @@ FAULTS = {
     "*.BLOCKS": {"length": "8 * count + 1"},
     "pad.CAPACITY": {"capacity": "77"},
     "*_key.CAPACITY": {"capacity": "7"},
+    "*_wrap_key.OVERLAP*": {"wrapped": "(void *)key"},
+    "*_unwrap_key.OVERLAP*": {"key": "(void *)blocks"},
     "*.WRAPPED_LENGTH": {"wrapped_length": "9"},
     "*.WRAPPED_KEY*": {},
     "combine_*.WEAK_KEY": {"first": "no_bytes"},

@@ -225,6 +225,8 @@ class OverExport:
             lengths = [it for it in agree.groups()[:2] if it in self.values]
             compared = [f"!are_elements({agree[3]}, {self.size_of(it.removesuffix('_length'))}, {it})" for it in lengths]
             return [*lengths, agree[3]], compared
+        if apart := re.fullmatch(r"if `(\w+)` overlaps `(\w+)`", error.said):
+            return [], [f"overlap({apart[1]}, capacity, {apart[2]}, {apart[2]}_length)"]
         if error.said == "if `count` is not `length` / 8":
             return ["count", "length"], [f"count != {BLOCKS}"]
         if equal := re.fullmatch(r"if `(\w+)` is not (\d+)", error.said):

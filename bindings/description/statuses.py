@@ -18,7 +18,7 @@ NAMES = {
     "ITERATIONS": "IterationCount",
 }
 # Those that no caller meets, and those of which a call says more than their sentence.
-NO_ERRORS = {"OK", "CAPACITY", "NO_OPTIONAL_BLOCK", "CONTEXT", "MODE", "STREAM", "VALUES", "WEAK_KEY", "NO_SERIAL"}
+NO_ERRORS = {"OK", "CAPACITY", "NO_OPTIONAL_BLOCK", "CONTEXT", "MODE", "STREAM", "VALUES", "WEAK_KEY", "NO_SERIAL", "OVERLAP"}
 
 SAID = "made of it by bindings/describe"
 

@@ -145,10 +145,10 @@ const (
 	// ErrStream: the stream is not one that was begun.
 	ErrStream Error = 46
 
-	// ErrWrappedLength: the wrapped key does not have a length that it can have.
+	// ErrWrappedLength: the wrapped key does not have 24 bytes or more, a multiple of 8 (CMS), or 12 or more, a multiple of 4 (TKW).
 	ErrWrappedLength Error = 47
 
-	// ErrWrappedKey: the bytes are no key that was wrapped under the protection key.
+	// ErrWrappedKey: the bytes are no key wrapped under the protection key, or were changed.
 	ErrWrappedKey Error = 48
 
 	// ErrNotEncrypted: the value is none that MySQL encrypted.
@@ -165,4 +165,7 @@ const (
 
 	// ErrKeyNumber: the number is not 0 to 9, or the file has no key of that number.
 	ErrKeyNumber Error = 53
+
+	// ErrOverlap: what the call would write overlaps what it reads.
+	ErrOverlap Error = 54
 )

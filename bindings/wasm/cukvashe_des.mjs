@@ -109,6 +109,7 @@ const VALUES = 50;
 const ALGORITHM = 51;
 const BASE64 = 52;
 const KEY_NUMBER = 53;
+const OVERLAP = 54;
 const SENTENCES = [
   "success",
   "the key does not have a length that the call takes",
@@ -157,13 +158,14 @@ const SENTENCES = [
   "the context is not one that the init of this type made",
   "the mode is not one that the call takes",
   "the stream is not one that was begun",
-  "the wrapped key does not have a length that it can have",
-  "the bytes are no key that was wrapped under the protection key",
+  "the wrapped key does not have 24 bytes or more, a multiple of 8 (CMS), or 12 or more, a multiple of 4 (TKW)",
+  "the bytes are no key wrapped under the protection key, or were changed",
   "the value is none that MySQL encrypted",
   "some values can't be read: their statuses say why",
   "the algorithm is not one that the call takes",
   "the value is not Base64",
   "the number is not 0 to 9, or the file has no key of that number",
+  "what the call would write overlaps what it reads",
 ];
 export const KeyLength = fault("KeyLength");
 export const BlockLength = fault("BlockLength");

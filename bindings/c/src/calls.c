@@ -274,6 +274,7 @@ int cukvashe_tdes_ede3_decrypt_stream_bits(const cukvashe_tdes_ede3 *context, cu
 
 int cukvashe_cms_wrap_key(const uint8_t *protection, size_t protection_length, const uint8_t iv[8], const uint8_t *key,
     size_t key_length, uint8_t *wrapped, size_t capacity, size_t *wrapped_length) {
+  if (overlap(wrapped, capacity, key, key_length)) return CUKVASHE_ERR_OVERLAP;
   const int result = cukvashe_unwiped_cms_wrap_key(protection, protection_length, iv, key, key_length, wrapped,
     capacity / 8, wrapped_length);
   cukvashe_internal_wipe_stack(STACK_cms_wrap_key);
@@ -282,6 +283,7 @@ int cukvashe_cms_wrap_key(const uint8_t *protection, size_t protection_length, c
 
 int cukvashe_cms_unwrap_key(const uint8_t *protection, size_t protection_length, const uint8_t *wrapped,
     size_t wrapped_length, uint8_t *key, size_t capacity, size_t *key_length) {
+  if (overlap(key, capacity, wrapped, wrapped_length)) return CUKVASHE_ERR_OVERLAP;
   const int result = cukvashe_unwiped_cms_unwrap_key(protection, protection_length, wrapped, wrapped_length, key,
     capacity / 8, key_length);
   cukvashe_internal_wipe_stack(STACK_cms_unwrap_key);
@@ -290,6 +292,7 @@ int cukvashe_cms_unwrap_key(const uint8_t *protection, size_t protection_length,
 
 int cukvashe_tkw_wrap_key(const uint8_t *protection, size_t protection_length, const uint8_t *key, size_t key_length,
     uint8_t *wrapped, size_t capacity, size_t *wrapped_length) {
+  if (overlap(wrapped, capacity, key, key_length)) return CUKVASHE_ERR_OVERLAP;
   const int result = cukvashe_unwiped_tkw_wrap_key(protection, protection_length, key, key_length, wrapped,
     capacity / 4, wrapped_length);
   cukvashe_internal_wipe_stack(STACK_tkw_wrap_key);
@@ -298,6 +301,7 @@ int cukvashe_tkw_wrap_key(const uint8_t *protection, size_t protection_length, c
 
 int cukvashe_tkw_unwrap_key(const uint8_t *protection, size_t protection_length, const uint8_t *wrapped,
     size_t wrapped_length, uint8_t *key, size_t capacity, size_t *key_length) {
+  if (overlap(key, capacity, wrapped, wrapped_length)) return CUKVASHE_ERR_OVERLAP;
   const int result = cukvashe_unwiped_tkw_unwrap_key(protection, protection_length, wrapped, wrapped_length, key,
     capacity / 4, key_length);
   cukvashe_internal_wipe_stack(STACK_tkw_unwrap_key);

@@ -48,6 +48,13 @@ static inline bool are_elements(size_t count, size_t size, size_t length) {
   return length % size == 0 && length / size == count;
 }
 
+/* Whether two buffers have a byte in common. */
+static inline bool overlap(const void *first, size_t first_length, const void *second, size_t second_length) {
+  const uintptr_t one = (uintptr_t)first, other = (uintptr_t)second;
+  if (first_length == 0 || second_length == 0) return false;
+  return one <= other ? other - one < first_length : one - other < second_length;
+}
+
 /* Writes zeros over `size` bytes of the stack below its caller's frame: there lies what the caller's calls left. */
 void cukvashe_internal_wipe_stack(size_t size);
 

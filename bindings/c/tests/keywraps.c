@@ -1,8 +1,9 @@
-/* Key wraps: keys of each length, under protection keys of both, and what is refused: other lengths, small buffers, each changed bit and
-   another protection key. Nothing behind a result is written, and zeros stand where a refused key would. Known calls are in known.c. */
+/* Key wraps: keys of each length, under protection keys of both, and what is refused: other lengths, small buffers, those that overlap,
+   each changed bit and another protection key. Nothing after a result is written, and zeros stand where a refused key would. Known calls
+   are in known.c. */
 #include "check.h"
 
-enum { MOST = 44, BUFFER_SIZE = 80, PAINT = 0x77 };
+enum { MOST = 44, BUFFER_SIZE = 80, CAPACITY = 40, PAINT = 0x77 };
 
 typedef int unwrap(const uint8_t *protection, size_t protection_length, const uint8_t *wrapped, size_t wrapped_length, uint8_t *key,
                    size_t capacity, size_t *key_length);
@@ -119,8 +120,35 @@ static void refuses_long_keys(void) {
   refused(cukvashe_tkw_unwrap_key, protection, 16, given, (size_t)1 << 30, 0, CUKVASHE_ERR_CAPACITY);
 }
 
+/* What is written lies before what is read, or after it. If they share a byte, nothing is changed. */
+static void takes_buffers_apart(unwrap *call, const uint8_t *protection, const uint8_t *given, size_t length) {
+  for (size_t at = 0; at <= CAPACITY + length; at++) {
+    const bool are_apart = at == 0 || at == CAPACITY + length;
+    uint8_t buffer[3 * CAPACITY] = {0}, before[3 * CAPACITY];
+    size_t made_length = PAINT;
+    memcpy(buffer + CAPACITY, given, length);
+    memcpy(before, buffer, sizeof buffer);
+    CHECK(call(protection, 24, buffer + CAPACITY, length, buffer + at, CAPACITY, &made_length) ==
+          (are_apart ? CUKVASHE_OK : CUKVASHE_ERR_OVERLAP));
+    CHECK(are_apart || (made_length == PAINT && memcmp(buffer, before, sizeof buffer) == 0));
+  }
+}
+
+static void refuses_overlap(const struct wrap *by) {
+  uint8_t protection[24], key[24], wrapped[CAPACITY];
+  size_t length;
+  random_bytes(protection, sizeof protection);
+  random_bytes(key, sizeof key);
+  CHECK(by->wrap(protection, sizeof protection, key, sizeof key, wrapped, sizeof wrapped, &length) == CUKVASHE_OK);
+  takes_buffers_apart(by->wrap, protection, key, sizeof key);
+  takes_buffers_apart(by->unwrap, protection, wrapped, length);
+}
+
 int main(void) {
-  for (size_t i = 0; i < sizeof wraps / sizeof *wraps; i++) takes_lengths(&wraps[i]);
+  for (size_t i = 0; i < sizeof wraps / sizeof *wraps; i++) {
+    takes_lengths(&wraps[i]);
+    refuses_overlap(&wraps[i]);
+  }
   refuses_long_keys();
   printf("keywraps: both key wraps, lengths up to %d, capacities up to %d, every changed bit\n", MOST, BUFFER_SIZE);
   return 0;

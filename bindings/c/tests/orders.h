@@ -189,20 +189,20 @@ static int faulty_tdes_ede3_decrypt_stream_bits(const bool *has) {
     has[1] ? (void *)no_bytes : has[2] ? &streams[0] : &streams[1], (void *)outputs[0], 8 * count);
 }
 static int faulty_cms_wrap_key(const bool *has) {
-  return cukvashe_cms_wrap_key(key, has[0] ? 8 : 24, blocks, key, has[1] ? 7 : 24, (void *)outputs[0],
-    has[2] ? 7 : sizeof blocks, (void *)outputs[1]);
+  return cukvashe_cms_wrap_key(key, has[1] ? 8 : 24, blocks, key, has[2] ? 7 : 24,
+    has[0] ? (void *)key : (void *)outputs[0], has[3] ? 7 : sizeof blocks, (void *)outputs[1]);
 }
 static int faulty_tkw_wrap_key(const bool *has) {
-  return cukvashe_tkw_wrap_key(key, has[0] ? 8 : 24, key, has[1] ? 7 : 24, (void *)outputs[0],
-    has[2] ? 7 : sizeof blocks, (void *)outputs[1]);
+  return cukvashe_tkw_wrap_key(key, has[1] ? 8 : 24, key, has[2] ? 7 : 24, has[0] ? (void *)key : (void *)outputs[0],
+    has[3] ? 7 : sizeof blocks, (void *)outputs[1]);
 }
 static int faulty_cms_unwrap_key(const bool *has) {
-  return cukvashe_cms_unwrap_key(key, has[0] ? 8 : 24, blocks, has[1] ? 9 : 40, (void *)outputs[0],
-    has[2] ? 7 : sizeof blocks, (void *)outputs[1]);
+  return cukvashe_cms_unwrap_key(key, has[1] ? 8 : 24, blocks, has[2] ? 9 : 40,
+    has[0] ? (void *)blocks : (void *)outputs[0], has[3] ? 7 : sizeof blocks, (void *)outputs[1]);
 }
 static int faulty_tkw_unwrap_key(const bool *has) {
-  return cukvashe_tkw_unwrap_key(key, has[0] ? 8 : 24, blocks, has[1] ? 9 : 40, (void *)outputs[0],
-    has[2] ? 7 : sizeof blocks, (void *)outputs[1]);
+  return cukvashe_tkw_unwrap_key(key, has[1] ? 8 : 24, blocks, has[2] ? 9 : 40,
+    has[0] ? (void *)blocks : (void *)outputs[0], has[3] ? 7 : sizeof blocks, (void *)outputs[1]);
 }
 static int faulty_des_encrypt_each(const bool *has) {
   return cukvashe_des_encrypt_each(keys, has[1] ? count + 1 : count, (void *)outputs[0],
@@ -704,14 +704,14 @@ static const struct order orders[] = {
     CUKVASHE_ERR_MODE}},
     {"tdes_ede3_decrypt_stream_bits", faulty_tdes_ede3_decrypt_stream_bits, {CUKVASHE_ERR_CONTEXT, CUKVASHE_ERR_STREAM,
     CUKVASHE_ERR_MODE}},
-    {"cms_wrap_key", faulty_cms_wrap_key, {CUKVASHE_ERR_PROTECTION_KEY_LENGTH, CUKVASHE_ERR_BLOCKS,
-    CUKVASHE_ERR_CAPACITY}},
-    {"tkw_wrap_key", faulty_tkw_wrap_key, {CUKVASHE_ERR_PROTECTION_KEY_LENGTH, CUKVASHE_ERR_KEY_LENGTH,
-    CUKVASHE_ERR_CAPACITY}},
-    {"cms_unwrap_key", faulty_cms_unwrap_key, {CUKVASHE_ERR_PROTECTION_KEY_LENGTH, CUKVASHE_ERR_WRAPPED_LENGTH,
-    CUKVASHE_ERR_CAPACITY, CUKVASHE_ERR_WRAPPED_KEY}},
-    {"tkw_unwrap_key", faulty_tkw_unwrap_key, {CUKVASHE_ERR_PROTECTION_KEY_LENGTH, CUKVASHE_ERR_WRAPPED_LENGTH,
-    CUKVASHE_ERR_CAPACITY, CUKVASHE_ERR_WRAPPED_KEY}},
+    {"cms_wrap_key", faulty_cms_wrap_key, {CUKVASHE_ERR_OVERLAP, CUKVASHE_ERR_PROTECTION_KEY_LENGTH,
+    CUKVASHE_ERR_BLOCKS, CUKVASHE_ERR_CAPACITY}},
+    {"tkw_wrap_key", faulty_tkw_wrap_key, {CUKVASHE_ERR_OVERLAP, CUKVASHE_ERR_PROTECTION_KEY_LENGTH,
+    CUKVASHE_ERR_KEY_LENGTH, CUKVASHE_ERR_CAPACITY}},
+    {"cms_unwrap_key", faulty_cms_unwrap_key, {CUKVASHE_ERR_OVERLAP, CUKVASHE_ERR_PROTECTION_KEY_LENGTH,
+    CUKVASHE_ERR_WRAPPED_LENGTH, CUKVASHE_ERR_CAPACITY, CUKVASHE_ERR_WRAPPED_KEY}},
+    {"tkw_unwrap_key", faulty_tkw_unwrap_key, {CUKVASHE_ERR_OVERLAP, CUKVASHE_ERR_PROTECTION_KEY_LENGTH,
+    CUKVASHE_ERR_WRAPPED_LENGTH, CUKVASHE_ERR_CAPACITY, CUKVASHE_ERR_WRAPPED_KEY}},
     {"des_encrypt_each", faulty_des_encrypt_each, {CUKVASHE_ERR_BLOCKS, CUKVASHE_ERR_COUNTS}},
     {"des_decrypt_each", faulty_des_decrypt_each, {CUKVASHE_ERR_BLOCKS, CUKVASHE_ERR_COUNTS}},
     {"tdes_ede2_encrypt_each", faulty_tdes_ede2_encrypt_each, {CUKVASHE_ERR_BLOCKS, CUKVASHE_ERR_COUNTS}},

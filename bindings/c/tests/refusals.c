@@ -7,7 +7,7 @@
 enum { MOST = 33, PAINT = 0x77 };
 
 /* The statuses that a call returned, or gave a value of a column. */
-enum { LAST = CUKVASHE_ERR_KEY_NUMBER };
+enum { LAST = CUKVASHE_ERR_OVERLAP };
 
 static int was_returned[LAST + 1];
 
@@ -408,6 +408,7 @@ static void returns_statuses_of_key_wraps(void) {
   size_t length;
   CHECK(seen(cukvashe_cms_unwrap_key(key, 16, wrapped, 23, made, 8, &length)) == CUKVASHE_ERR_WRAPPED_LENGTH);
   CHECK(seen(cukvashe_cms_unwrap_key(key, 16, wrapped, 24, made, 8, &length)) == CUKVASHE_ERR_WRAPPED_KEY);
+  CHECK(seen(cukvashe_cms_unwrap_key(key, 16, wrapped, 24, (void *)wrapped, 8, &length)) == CUKVASHE_ERR_OVERLAP);
 }
 
 /* Those of columns. */
@@ -481,8 +482,8 @@ static const char *const words[] = {
     "optional blocks can't be read", "encrypted key data do not have", "0 to 9 or A to F", "MAC is not that of the key block",
     "padding of the key", "no optional block at this place", "hash function is not one", "number of iterations", "do not begin with Salted__",
     "end within the salt, or it does not have 0 or 8 bytes", "context is not one", "mode is not one", "stream is not one",
-    "wrapped key does not have a length", "no key that was wrapped", "none that MySQL encrypted", "some values can't be read",
-    "algorithm is not one", "is not Base64", "has no key of that number",
+    "wrapped key does not have 24 bytes", "no key wrapped under", "none that MySQL encrypted", "some values can't be read",
+    "algorithm is not one", "is not Base64", "has no key of that number", "overlaps what it reads",
 };
 
 /* Every status was returned by some call, and has a sentence of its own; other numbers have one sentence. */
@@ -539,7 +540,7 @@ static void has_numbers(void) {
       CUKVASHE_ERR_ITERATIONS, CUKVASHE_ERR_NOT_SALTED, CUKVASHE_ERR_SALT_LENGTH, CUKVASHE_ERR_CONTEXT,
       CUKVASHE_ERR_MODE, CUKVASHE_ERR_STREAM, CUKVASHE_ERR_WRAPPED_LENGTH, CUKVASHE_ERR_WRAPPED_KEY,
       CUKVASHE_ERR_NOT_ENCRYPTED, CUKVASHE_ERR_VALUES, CUKVASHE_ERR_ALGORITHM, CUKVASHE_ERR_BASE64,
-      CUKVASHE_ERR_KEY_NUMBER};
+      CUKVASHE_ERR_KEY_NUMBER, CUKVASHE_ERR_OVERLAP};
   CHECK(sizeof statuses / sizeof *statuses == LAST + 1);
   for (int i = 0; i <= LAST; i++) CHECK(statuses[i] == i);
   CHECK(CUKVASHE_BLOCK_SIZE == 8 && CUKVASHE_TAG_SIZE == 8);

@@ -224,11 +224,11 @@ class SaltLengthError(Error, ValueError):
 
 
 class WrappedLengthError(Error, ValueError):
-    """The wrapped key does not have a length that it can have."""
+    """The wrapped key does not have 24 bytes or more, a multiple of 8 (CMS), or 12 or more, a multiple of 4 (TKW)."""
 
 
 class WrappedKeyError(VerificationError):
-    """The bytes are no key that was wrapped under the protection key."""
+    """The bytes are no key wrapped under the protection key, or were changed."""
 
 
 class NotEncryptedError(Error, ValueError):

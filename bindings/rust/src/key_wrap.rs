@@ -38,7 +38,8 @@ pub enum WrapError {
 pub enum UnwrapError {
     /// The protection key does not have 16 or 24 bytes.
     ProtectionKeyLength,
-    /// The wrapped key does not have a length that it can have.
+    /// The wrapped key does not have 24 bytes or more, a multiple of 8 (CMS), or 12 or more, a multiple of 4
+    /// (TKW).
     WrappedLength,
     /// The buffer is too small for the key.
     BufferTooSmall,

@@ -58,13 +58,14 @@ pub const VALUES: c_int = 50;
 pub const ALGORITHM: c_int = 51;
 pub const BASE64: c_int = 52;
 pub const KEY_NUMBER: c_int = 53;
+pub const OVERLAP: c_int = 54;
 
 /// The sentence of a status.
 pub fn sentence(status: c_int) -> &'static str {
     SENTENCES[status as usize]
 }
 
-const SENTENCES: [&str; 54] = [
+const SENTENCES: [&str; 55] = [
     "success",
     "the key does not have a length that the call takes",
     "the length is not a multiple of 8 bytes",
@@ -112,11 +113,12 @@ const SENTENCES: [&str; 54] = [
     "the context is not one that the init of this type made",
     "the mode is not one that the call takes",
     "the stream is not one that was begun",
-    "the wrapped key does not have a length that it can have",
-    "the bytes are no key that was wrapped under the protection key",
+    "the wrapped key does not have 24 bytes or more, a multiple of 8 (CMS), or 12 or more, a multiple of 4 (TKW)",
+    "the bytes are no key wrapped under the protection key, or were changed",
     "the value is none that MySQL encrypted",
     "some values can't be read: their statuses say why",
     "the algorithm is not one that the call takes",
     "the value is not Base64",
     "the number is not 0 to 9, or the file has no key of that number",
+    "what the call would write overlaps what it reads",
 ];

@@ -145,10 +145,11 @@ pub const ERR_MODE: i32 = 45;
 /// The stream is not one that was begun.
 pub const ERR_STREAM: i32 = 46;
 
-/// The wrapped key does not have a length that it can have.
+/// The wrapped key does not have 24 bytes or more, a multiple of 8 (CMS), or 12 or more, a multiple
+/// of 4 (TKW).
 pub const ERR_WRAPPED_LENGTH: i32 = 47;
 
-/// The bytes are no key that was wrapped under the protection key.
+/// The bytes are no key wrapped under the protection key, or were changed.
 pub const ERR_WRAPPED_KEY: i32 = 48;
 
 /// The value is none that MySQL encrypted.
@@ -165,3 +166,6 @@ pub const ERR_BASE64: i32 = 52;
 
 /// The number is not 0 to 9, or the file has no key of that number.
 pub const ERR_KEY_NUMBER: i32 = 53;
+
+/// What the call would write overlaps what it reads.
+pub const ERR_OVERLAP: i32 = 54;

@@ -75,11 +75,11 @@ static ENCRYPTION: CommandGroup<'static> = group! {
         "derive": Text("METHOD") =>
             "How a password gives the key: pbkdf2-sha256:COUNT [default: pbkdf2-sha256:600000]";
     }, AnyCount] "\
-Limits: encrypt no more than 2^20 blocks (8 MiB) under one key, by
-NIST SP 800-67 Rev. 2, and only what an old system needs: NIST disallows
-encryption with triple DES after 2023 (SP 800-131A Rev. 2). Nothing is
-authenticated. In CFB, OFB and CTR use no vector and no counter block twice
-under one key: whoever has both files then has the xor of their texts.
+Limits: encrypt no more than 2^20 blocks (8 MiB, in CFB8 1 MiB) under one
+key, by NIST SP 800-67 Rev. 2, and only what an old system needs: NIST
+disallows encryption with triple DES after 2023 (SP 800-131A Rev. 2). Nothing
+is authenticated. In CFB, OFB and CTR use no vector and no counter block
+twice under one key: two such files reveal the xor of their texts.
 
 Example:
   echo 0123456789abcdeffedcba9876543210 >KEY

@@ -100,10 +100,10 @@ public enum Status {
   MODE("the mode is not one that the call takes"),
   /** The stream is not one that was begun. */
   STREAM("the stream is not one that was begun"),
-  /** The wrapped key does not have a length that it can have. */
-  WRAPPED_LENGTH("the wrapped key does not have a length that it can have"),
-  /** The bytes are no key that was wrapped under the protection key. */
-  WRAPPED_KEY("the bytes are no key that was wrapped under the protection key"),
+  /** The wrapped key does not have 24 bytes or more, a multiple of 8 (CMS), or 12 or more, a multiple of 4 (TKW). */
+  WRAPPED_LENGTH("the wrapped key does not have 24 bytes or more, a multiple of 8 (CMS), or 12 or more, a multiple of 4 (TKW)"),
+  /** The bytes are no key wrapped under the protection key, or were changed. */
+  WRAPPED_KEY("the bytes are no key wrapped under the protection key, or were changed"),
   /** The value is none that MySQL encrypted. */
   NOT_ENCRYPTED("the value is none that MySQL encrypted"),
   /** Some values can't be read: their statuses say why. */
@@ -113,7 +113,9 @@ public enum Status {
   /** The value is not Base64. */
   BASE64("the value is not Base64"),
   /** The number is not 0 to 9, or the file has no key of that number. */
-  KEY_NUMBER("the number is not 0 to 9, or the file has no key of that number");
+  KEY_NUMBER("the number is not 0 to 9, or the file has no key of that number"),
+  /** What the call would write overlaps what it reads. */
+  OVERLAP("what the call would write overlaps what it reads");
 
   private static final Status[] BY_NUMBER = values();
 
