@@ -11,6 +11,7 @@ PLACE = "bindings/c/cukvashe_des.h"
 # What the headers that this one includes declare, as far as it is taken from them.
 PRELUDE = (
     "typedef _Bool bool; typedef unsigned long size_t; typedef unsigned char uint8_t; typedef unsigned uint32_t; typedef unsigned long uint64_t;"
+    "typedef unsigned long uintptr_t;"
 )
 
 # A conditional of these is for the compiler, and so is what stands within it; of the others only the directives are passed over.
