@@ -1731,7 +1731,7 @@ const CMS = { more: 16, unit: 8 };
 const TKW = { more: 4, unit: 4 };
 
 // The lengths of a key that TKW takes: CMS has another status for its own.
-const WRAPPABLE = new Map([[KEY_LENGTH, ": a multiple of 4 bytes, 8 at least"]]);
+const WRAPPABLE = new Map([[KEY_LENGTH, ": a multiple of 4 bytes, at least 8"]]);
 
 /** What a call makes of bytes under a protection key: `more` bytes more than were given. It takes the capacity in units. */
 function through(call, protection, given, { more, unit }, vectors = []) {

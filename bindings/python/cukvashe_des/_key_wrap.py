@@ -17,7 +17,7 @@ from ._types import ReadableBuffer
 _CMS_MORE, _TKW_MORE = 16, 4
 
 # The lengths of a key that TKW takes: CMS has another status for its own.
-_TAKEN = {KEY_LENGTH: ": a multiple of 4 bytes, 8 at least"}
+_TAKEN = {KEY_LENGTH: ": a multiple of 4 bytes, at least 8"}
 
 _cms_wrap = function("cms_wrap_key")
 _cms_unwrap = function("cms_unwrap_key")

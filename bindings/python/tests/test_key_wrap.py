@@ -43,7 +43,7 @@ class KeyWraps(unittest.TestCase):
                     self.assertEqual(len(tkw_wrap_key(kek, key)), len(key) + 4)
                     self.assertEqual(tkw_unwrap_key(kek, tkw_wrap_key(kek, key)), key)
                 else:
-                    self.assertRaisesRegex(KeyLengthError, ": a multiple of 4 bytes, 8 at least$", tkw_wrap_key, kek, key)
+                    self.assertRaisesRegex(KeyLengthError, ": a multiple of 4 bytes, at least 8$", tkw_wrap_key, kek, key)
                     self.assertRaises(WrappedLengthError, tkw_unwrap_key, kek, bytes(4) + key)
             for length in range(16):
                 self.assertRaises(WrappedLengthError, cms_unwrap_key, kek, bytes(length))

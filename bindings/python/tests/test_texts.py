@@ -16,7 +16,7 @@ from .values import faults_of_package, in_places, lines_of, methods, opens, to_f
 KNOWN = (re.match("! ([A-Za-z]+) (.*)", line) for line in lines_of("bindings", "known_calls.txt") if line.startswith("!"))
 SENTENCES = {(known[1] + "Error", known[2]) for known in KNOWN} | {
     ("ClosedError", "the object was closed"),
-    ("KeyLengthError", "the key does not have a length that the call takes: a multiple of 4 bytes, 8 at least"),
+    ("KeyLengthError", "the key does not have a length that the call takes: a multiple of 4 bytes, at least 8"),
     ("DirectionError", "this stream encrypts: begin another to decrypt"),
     ("PositionError", "a position in a stream is 0 to 2^67 - 1"),
     ("SegmentSizeError", "a segment has 1 bit, or 8, 16, 24, 32, 40, 48, 56 or 64"),

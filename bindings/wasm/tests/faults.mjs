@@ -285,7 +285,7 @@ for (const wrong of [1.5, NaN, 0.5, 2 ** 32 + 1, Infinity]) {
 }
 
 for (const length of [0, 4, 9, 10, 11, 13]) {
-  const text = "the key does not have a length that the call takes: a multiple of 4 bytes, 8 at least";
+  const text = "the key does not have a length that the call takes: a multiple of 4 bytes, at least 8";
   throwsFault(() => library.tkwWrapKey(PAIR, of(length)), "KeyLength", text);
 }
 
