@@ -1793,7 +1793,7 @@ function iterationsOf(number) {
 function derivedLengthOf(number) {
   if (typeof number !== "number") throw new TypeError("the length of a key: a number is needed");
   if (Number.isInteger(number) && number >= 1 && number < 2 ** 32) return number;
-  throw new KeyLength("a key that is derived has one byte at least, and less than 2^32");
+  throw new KeyLength("a key that is derived has at least one byte, and less than 2^32");
 }
 
 /** The key of `length` bytes that a call derives. */

@@ -51,7 +51,7 @@ def iterations_of(number: int) -> int:
 def length_of(number: int) -> int:
     count = _count_of(number, "the length of a key is a number")
     if count in (0, TOO_MANY):
-        raise KeyLengthError("a key that is derived has one byte at least, and less than 2^32")
+        raise KeyLengthError("a key that is derived has at least one byte, and less than 2^32")
     return count
 
 
