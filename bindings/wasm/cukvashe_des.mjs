@@ -510,9 +510,9 @@ class Workspace {
       const example = Base === Cipher ? "a cipher, such as new TdesEde2(key)," : "one that its class has made";
       throw new TypeError(`${what}: ${example} is needed`);
     }
-    if (state.context === null) throw new Closed("the object was closed");
+    if (state.context === null) throw new Closed("the cipher, MAC or terminal was closed");
     if (state.maker !== this && state.maker.isSpoiled) {
-      throw new Closed("the object was closed by a call that did not end: make it anew");
+      throw new Closed("the cipher, MAC or terminal was closed by a call that did not end: make it anew");
     }
     return state;
   }

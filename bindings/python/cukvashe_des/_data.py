@@ -299,7 +299,7 @@ class Keyed:
         """The context. The caller keeps it in use until its call has ended, which keeps it from being wiped."""
         context = self._context
         if context is None:
-            raise ClosedError("the object was closed")
+            raise ClosedError("the cipher, MAC or terminal was closed")
         return context
 
     def close(self) -> None:

@@ -15,7 +15,7 @@ from .values import faults_of_package, in_places, lines_of, methods, opens, to_f
 # of other ones.
 KNOWN = (re.match("! ([A-Za-z]+) (.*)", line) for line in lines_of("bindings", "known_calls.txt") if line.startswith("!"))
 SENTENCES = {(known[1] + "Error", known[2]) for known in KNOWN} | {
-    ("ClosedError", "the object was closed"),
+    ("ClosedError", "the cipher, MAC or terminal was closed"),
     ("KeyLengthError", "the key does not have a length that the call takes: a multiple of 4 bytes, at least 8"),
     ("DirectionError", "this stream encrypts: begin another to decrypt"),
     ("PositionError", "a position in a stream is 0 to 2^67 - 1"),

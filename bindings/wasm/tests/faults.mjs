@@ -200,8 +200,8 @@ for (const [Cipher, size] of CIPHERS) {
       throwsType(() => stream.copy(1), "a copy of something");
       (closesCipher ? instance : stream).close();
       const closed = [["encrypt", IV], ["decrypt", IV], ...(mode === "Ctr" ? [["seek", 3]] : mode === "Cfb" ? [["encryptBits", IV, 3]] : [])];
-      for (const [call, ...words] of closed) throwsFault(() => stream[call](...words), "Closed", "the object was closed");
-      if (closesCipher) throwsFault(() => new library[mode](instance, named), "Closed", "the object was closed");
+      for (const [call, ...words] of closed) throwsFault(() => stream[call](...words), "Closed", "the cipher, MAC or terminal was closed");
+      if (closesCipher) throwsFault(() => new library[mode](instance, named), "Closed", "the cipher, MAC or terminal was closed");
       else instance.encryptEcb(IV);
     }
   }
@@ -257,7 +257,7 @@ for (const [Mac, size] of [...PADDED, ...CMACS]) {
   mac.close();
   mac.close();
   for (const [call, ...words] of [["update", IV], ["digest"], ["verify", IV], ["verifyTruncatedLeft", IV], ["copy"]]) {
-    throwsFault(() => mac[call](...words), "Closed", "the object was closed");
+    throwsFault(() => mac[call](...words), "Closed", "the cipher, MAC or terminal was closed");
   }
   assert.equal(copy.digest("hex"), new Mac(key, ...padding, MESSAGE).digest("hex"));
 }
@@ -265,9 +265,9 @@ for (const [Cipher, size] of CIPHERS) {
   const cipher = new Cipher(KEY.subarray(0, size));
   if (Symbol.dispose === undefined) cipher.close();
   else cipher[Symbol.dispose]();
-  for (const call of ["encryptEcb", "decryptEcb"]) throwsFault(() => cipher[call](IV), "Closed", "the object was closed");
-  for (const call of CBC) throwsFault(() => cipher[call](IV, { iv: IV }), "Closed", "the object was closed");
-  throwsFault(() => library.encryptCbcRecords(cipher, IV, { vectors: IV, counts: [1] }), "Closed", "the object was closed");
+  for (const call of ["encryptEcb", "decryptEcb"]) throwsFault(() => cipher[call](IV), "Closed", "the cipher, MAC or terminal was closed");
+  for (const call of CBC) throwsFault(() => cipher[call](IV, { iv: IV }), "Closed", "the cipher, MAC or terminal was closed");
+  throwsFault(() => library.encryptCbcRecords(cipher, IV, { vectors: IV, counts: [1] }), "Closed", "the cipher, MAC or terminal was closed");
 }
 
 // ---- Numbers that are whole in no integer of the module, and what the calls of bindings/known_calls.txt can't say
@@ -408,7 +408,7 @@ async function breaking(name, error) {
   return { memory, ask: () => { isAsked = true; } };
 }
 
-const OLD = "the object was closed by a call that did not end: make it anew";
+const OLD = "the cipher, MAC or terminal was closed by a call that did not end: make it anew";
 const unended = [new RangeError("Maximum call stack size exceeded"), new WebAssembly.RuntimeError("unreachable"), new Error("other")];
 for (const error of unended) {
   for (const [name, call] of [
@@ -448,7 +448,7 @@ for (const error of unended) {
       assert(!Buffer.from(bytes).includes(Buffer.from(secret)), "a key is left in the old instance");
     }
     mac.close();
-    throwsFault(() => mac.digest(), "Closed", "the object was closed");
+    throwsFault(() => mac.digest(), "Closed", "the cipher, MAC or terminal was closed");
     await library.load();
     throwsFault(() => cipher.encryptEcb(IV), "Closed", OLD);
     assert.deepEqual(answers(made()), right);
@@ -522,7 +522,7 @@ state.fill(0);
 other.state().fill(0);
 is(other.state(), digits);
 terminal.close();
-for (const call of ["nextKey", "state"]) throwsFault(() => terminal[call](), "Closed", "the object was closed");
+for (const call of ["nextKey", "state"]) throwsFault(() => terminal[call](), "Closed", "the cipher, MAC or terminal was closed");
 
 // ---- Wrong types: each of these in the place of each argument
 
