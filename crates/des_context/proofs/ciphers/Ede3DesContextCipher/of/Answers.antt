@@ -19,7 +19,7 @@ from_words-requires-3-clause-made g c =
 
 pub returns : goal.returns
 returns g c key made =
-    c.of_three.ensures key (omega (arith, made.0.0, made.1, c.requires.cipher_type), made.0.1)
+    c.of_three.ensures.made key (omega (arith, made.0.0, made.1, c.requires.cipher_type), made.0.1)
     (c.from_words.ensures (part 1 key) (made.2 1 (omega arith) (omega (arith, c.requires.cipher_type, made.1))))
     (c.from_words-2.ensures (part 2 key) (made.2 2 (omega arith) (omega (arith, c.requires.cipher_type, made.1))))
     (c.from_words-3.ensures (part 3 key) (made.2 3 (omega arith) (omega (arith, c.requires.cipher_type, made.1))))
