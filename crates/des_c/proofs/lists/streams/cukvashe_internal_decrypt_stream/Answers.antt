@@ -5,8 +5,5 @@ use Rattle.des_c.proofs.lists.streams.cukvashe_internal_decrypt_stream.Goals as 
 pub returns-clause-bytes : goal.returns-clause-bytes
 returns-clause-bytes c = rw (to_z-of_z w32 c.apply_stream.result (search rules)) c.apply_stream.ensures.bytes
 
-pub returns-clause-under : goal.returns-clause-under
-returns-clause-under c = rw (to_z-of_z w32 c.apply_stream.result (search rules)) c.apply_stream.ensures.under
-
 pub returns-clause-bits : goal.returns-clause-bits
 returns-clause-bits c = rw (to_z-of_z w32 c.apply_stream.result (search rules)) c.apply_stream.ensures.bits
