@@ -42,8 +42,9 @@
  * The calls of a context of init may read tables, those of one of init_no_tables read none; the results are the same,
  * and a copy is of its kind. With tables, these read them at addresses that depend on the key and the data: MACs, CBC
  * and CFB encryption, OFB and CFB1, which go block by block; ECB, CTR, and CBC and CFB decryption if the number of
- * blocks modulo 128 is 1 to 31. Without tables no call does, and these take up to four times as long. Take contexts
- * without tables if others run programs on the processor.
+ * blocks modulo 128 is 1 to 31: in CTR with one that has begun, in CFB each segment is one, in CFB8 each byte. Without
+ * tables no call does, and these take up to four times as long. Take contexts without tables if others run programs on
+ * the processor.
  *
  * Other calls, and those of records, read none. Calls branch on lengths, on the status that they return, and on account
  * and key serial numbers, dates, codes, fill digits and decimalization tables, which are not secret here; on anything
@@ -176,13 +177,15 @@ enum cukvashe_status {
   CUKVASHE_ERR_CONTEXT = 44,               /* the context is not one that the init of this type made */
   CUKVASHE_ERR_MODE = 45,                  /* the mode is not one that the call takes */
   CUKVASHE_ERR_STREAM = 46,                /* the stream is not one that was begun */
-  CUKVASHE_ERR_WRAPPED_LENGTH = 47,        /* the wrapped key does not have a length that it can have */
-  CUKVASHE_ERR_WRAPPED_KEY = 48,           /* the bytes are no key that was wrapped under the protection key */
+  CUKVASHE_ERR_WRAPPED_LENGTH = 47,        /* the wrapped key does not have 24 bytes or more, a multiple of 8 (CMS), or 12
+                                              or more, a multiple of 4 (TKW) */
+  CUKVASHE_ERR_WRAPPED_KEY = 48,           /* the bytes are no key wrapped under the protection key, or were changed */
   CUKVASHE_ERR_NOT_ENCRYPTED = 49,         /* the value is none that MySQL encrypted */
   CUKVASHE_ERR_VALUES = 50,                /* some values can't be read: their statuses say why */
   CUKVASHE_ERR_ALGORITHM = 51,             /* the algorithm is not one that the call takes */
   CUKVASHE_ERR_BASE64 = 52,                /* the value is not Base64 */
   CUKVASHE_ERR_KEY_NUMBER = 53,            /* the number is not 0 to 9, or the file has no key of that number */
+  CUKVASHE_ERR_OVERLAP = 54,               /* what the call would write overlaps what it reads */
 };
 
 /* Sizes, in bytes. */
@@ -366,16 +369,18 @@ CUKVASHE_CHECK int cukvashe_tdes_ede3_decrypt_cbc_to(const cukvashe_tdes_ede3 *c
  * or CUKVASHE_CFB1 + n: cipher feedback with segments of n bytes, 1 to 8.
  *
  * Never use a vector or a counter block twice under a key: two texts then reveal their xor. In CTR begin the next text
- * after the last counter block of this one. These modes authenticate nothing: an attacker who knows a text can change
- * the ciphertext so that it decrypts to any other; in CFB, so that a segment of it does.
+ * after the last counter block of this one. These modes authenticate nothing. In CTR and OFB, an attacker who knows a
+ * text can turn its ciphertext into that of any other text of its length. In CFB, he can change any bits of a segment,
+ * and the next 8 bytes become garbage.
  *
  * int cukvashe_NAME_encrypt_mode(const cukvashe_NAME *context, int mode, const uint8_t iv[8], uint8_t *data,
  *                                size_t length)
  * int cukvashe_NAME_decrypt_mode(const cukvashe_NAME *context, int mode, const uint8_t iv[8], uint8_t *data,
  *                                size_t length)
  *
- * Encrypts or decrypts a whole text in place. Unlike in CBC, `iv` is unchanged. Errors of encrypt_mode and
- * decrypt_mode: CUKVASHE_ERR_CONTEXT, _MODE.
+ * Encrypts or decrypts a whole text in place. Unlike in CBC, `iv` is unchanged: a second call with it uses the same key
+ * stream again. If a text comes in pieces, take a stream. Errors of encrypt_mode and decrypt_mode:
+ * CUKVASHE_ERR_CONTEXT, _MODE.
  *
  * int cukvashe_stream_begin(cukvashe_stream *stream, int mode, const uint8_t iv[8])
  * void cukvashe_stream_begin_ctr_at(cukvashe_stream *stream, const uint8_t counter[8], uint64_t blocks)
@@ -402,9 +407,9 @@ CUKVASHE_CHECK int cukvashe_tdes_ede3_decrypt_cbc_to(const cukvashe_tdes_ede3 *c
  *
  * void cukvashe_stream_position(const cukvashe_stream *stream, uint8_t iv[8], size_t *used)
  *
- * Writes where a stream stands: in CTR the counter block, in OFB the last output block, in CFB the last eight bytes of
- * the vector followed by the ciphertext; and how many bytes of the current output block are used. If `used` is 0, a
- * stream that begins with this `iv` goes on from there.
+ * Writes where a stream stands: in CTR the counter block, in OFB the last output block, in CFB the last 64 bits of the
+ * vector followed by the ciphertext; and how many bytes of the current output block are used. If `used` is 0, a stream
+ * that begins with this `iv` goes on from there.
  */
 typedef struct {
   uint64_t words[4];
@@ -453,9 +458,9 @@ void cukvashe_stream_position(const cukvashe_stream *stream, uint8_t iv[8], size
 /*
  * KEY WRAP
  *
- * A key encrypted and authenticated under a protection key, one of triple DES of 16 or 24 bytes: by the key wrap of CMS
- * (RFC 3217, of keys of any number of blocks), and by TKW (NIST SP 800-38F, 7). Parity bits are neither changed nor
- * tested. No call reads a table (see SECRETS AND TIME).
+ * A key encrypted with an integrity check under a protection key, one of triple DES of 16 or 24 bytes: by the key wrap
+ * of CMS (RFC 3217, of keys of any number of blocks), and by TKW (NIST SP 800-38F, 7), whose check is of 32 bits. Parity
+ * bits are neither changed nor tested. No call reads a table (see SECRETS AND TIME).
  *
  * int cukvashe_cms_wrap_key(const uint8_t *protection, size_t protection_length, const uint8_t iv[8],
  *                           const uint8_t *key, size_t key_length, uint8_t *wrapped, size_t capacity,
@@ -465,18 +470,19 @@ void cukvashe_stream_position(const cukvashe_stream *stream, uint8_t iv[8], size
  *
  * Writes the wrapped key, which is 16 bytes longer in CMS and 4 bytes in TKW, and its length to `wrapped_length`. `iv`
  * is random. CMS takes keys of 8 bytes or a multiple, TKW keys of 8 bytes or more, a multiple of 4 below 2^30. No call
- * of this section works in place: `key` and `wrapped` must not overlap. Errors of cms_wrap_key:
- * CUKVASHE_ERR_PROTECTION_KEY_LENGTH; _BLOCKS also if `key_length` is 0; _CAPACITY. Errors of tkw_wrap_key:
- * CUKVASHE_ERR_PROTECTION_KEY_LENGTH, _KEY_LENGTH, _CAPACITY.
+ * of this section works in place. Errors of cms_wrap_key: CUKVASHE_ERR_OVERLAP if `wrapped` overlaps `key`; then
+ * _PROTECTION_KEY_LENGTH; _BLOCKS also if `key_length` is 0; _CAPACITY. Errors of tkw_wrap_key: CUKVASHE_ERR_OVERLAP if
+ * `wrapped` overlaps `key`; then _PROTECTION_KEY_LENGTH, _KEY_LENGTH, _CAPACITY.
  *
  * int cukvashe_cms_unwrap_key(const uint8_t *protection, size_t protection_length, const uint8_t *wrapped,
  *                             size_t wrapped_length, uint8_t *key, size_t capacity, size_t *key_length)
  * int cukvashe_tkw_unwrap_key(const uint8_t *protection, size_t protection_length, const uint8_t *wrapped,
  *                             size_t wrapped_length, uint8_t *key, size_t capacity, size_t *key_length)
  *
- * Writes the key, and its length to `key_length`. Errors of cms_unwrap_key: CUKVASHE_ERR_PROTECTION_KEY_LENGTH,
- * _WRAPPED_LENGTH, _CAPACITY; _WRAPPED_KEY, and then zeros stand where the key would. Errors of tkw_unwrap_key:
- * CUKVASHE_ERR_PROTECTION_KEY_LENGTH, _WRAPPED_LENGTH, _CAPACITY; _WRAPPED_KEY, and then zeros stand where the key would.
+ * Writes the key, and its length to `key_length`. Errors of cms_unwrap_key: CUKVASHE_ERR_OVERLAP if `key` overlaps
+ * `wrapped`; then _PROTECTION_KEY_LENGTH, _WRAPPED_LENGTH, _CAPACITY; _WRAPPED_KEY, and then zeros stand where the key
+ * would. Errors of tkw_unwrap_key: CUKVASHE_ERR_OVERLAP if `key` overlaps `wrapped`; then _PROTECTION_KEY_LENGTH,
+ * _WRAPPED_LENGTH, _CAPACITY; _WRAPPED_KEY, and then zeros stand where the key would.
  */
 CUKVASHE_CHECK int cukvashe_cms_wrap_key(const uint8_t *protection, size_t protection_length, const uint8_t iv[8],
                                          const uint8_t *key, size_t key_length, uint8_t *wrapped, size_t capacity,

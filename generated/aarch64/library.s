@@ -52701,18 +52701,18 @@
 	tbz	w8, #0, .LBB82_58
 	b	.LBB82_50
 .LBB82_65:
-	add	x8, x20, #5
-	ldur	s1, [x20, #1]
-	ld1r	{ v0.4h }, [x8]
-	add	x8, x20, #7
-	ld1	{ v0.b }[6], [x8]
-	add	x8, x23, #1
-	cmp	x8, x24
+	ldurb	w8, [x20, #7]
+	ldurh	w9, [x20, #5]
+	ldur	w10, [x20, #1]
+	strb	w8, [x20, #6]
+	strh	w9, [x20, #4]
+	add	x9, x23, #1
+	str	w10, [x20]
+	cmp	x9, x24
+	ldrb	w8, [x26]
+	strb	w8, [x20, #7]
 	csinc	x8, xzr, x23, eq
-	ld1	{ v0.b }[7], [x26]
 	stp	x27, x8, [x20, #8]
-	mov	v1.s[1], v0.s[1]
-	str	d1, [x20]
 	b	.LBB82_126
 .LBB82_66:
 	mov	w8, #8
@@ -52883,14 +52883,14 @@
 	b.lo	.LBB82_105
 	b	.LBB82_44
 .LBB82_106:
-	add	x8, x20, #5
-	ldur	s1, [x20, #1]
-	ld1r	{ v0.4h }, [x8]
-	add	x8, x20, #7
-	ld1	{ v0.b }[6], [x8]
-	ld1	{ v0.b }[7], [x26]
-	mov	v1.s[1], v0.s[1]
-	str	d1, [x20]
+	ldurb	w8, [x20, #7]
+	ldurh	w9, [x20, #5]
+	ldur	w10, [x20, #1]
+	strb	w8, [x20, #6]
+	strh	w9, [x20, #4]
+	str	w10, [x20]
+	ldrb	w8, [x26]
+	strb	w8, [x20, #7]
 	b	.LBB82_44
 .LBB82_107:
 	and	x10, x8, #0x18
@@ -57117,18 +57117,18 @@
 	tbz	w8, #0, .LBB90_69
 	b	.LBB90_51
 .LBB90_63:
-	add	x8, x20, #5
-	ldur	s1, [x20, #1]
-	ld1r	{ v0.4h }, [x8]
-	add	x8, x20, #7
-	ld1	{ v0.b }[6], [x8]
-	add	x8, x23, #1
-	cmp	x8, x24
+	ldurb	w8, [x20, #7]
+	ldurh	w9, [x20, #5]
+	ldur	w10, [x20, #1]
+	strb	w8, [x20, #6]
+	strh	w9, [x20, #4]
+	add	x9, x23, #1
+	str	w10, [x20]
+	cmp	x9, x24
+	ldrb	w8, [x26]
+	strb	w8, [x20, #7]
 	csinc	x8, xzr, x23, eq
-	ld1	{ v0.b }[7], [x26]
 	stp	x28, x8, [x20, #8]
-	mov	v1.s[1], v0.s[1]
-	str	d1, [x20]
 	b	.LBB90_127
 .LBB90_64:
 	mov	w8, #8
@@ -57334,14 +57334,14 @@
 	b.lo	.LBB90_106
 	b	.LBB90_45
 .LBB90_107:
-	add	x8, x20, #5
-	ldur	s1, [x20, #1]
-	ld1r	{ v0.4h }, [x8]
-	add	x8, x20, #7
-	ld1	{ v0.b }[6], [x8]
-	ld1	{ v0.b }[7], [x26]
-	mov	v1.s[1], v0.s[1]
-	str	d1, [x20]
+	ldurb	w8, [x20, #7]
+	ldurh	w9, [x20, #5]
+	ldur	w10, [x20, #1]
+	strb	w8, [x20, #6]
+	strh	w9, [x20, #4]
+	str	w10, [x20]
+	ldrb	w8, [x26]
+	strb	w8, [x20, #7]
 	b	.LBB90_45
 .LBB90_108:
 	and	x10, x8, #0x18
@@ -59398,18 +59398,18 @@
 	tbz	w8, #0, .LBB98_69
 	b	.LBB98_51
 .LBB98_63:
-	add	x8, x20, #5
-	ldur	s1, [x20, #1]
-	ld1r	{ v0.4h }, [x8]
-	add	x8, x20, #7
-	ld1	{ v0.b }[6], [x8]
-	add	x8, x23, #1
-	cmp	x8, x24
+	ldurb	w8, [x20, #7]
+	ldurh	w9, [x20, #5]
+	ldur	w10, [x20, #1]
+	strb	w8, [x20, #6]
+	strh	w9, [x20, #4]
+	add	x9, x23, #1
+	str	w10, [x20]
+	cmp	x9, x24
+	ldrb	w8, [x26]
+	strb	w8, [x20, #7]
 	csinc	x8, xzr, x23, eq
-	ld1	{ v0.b }[7], [x26]
 	stp	x27, x8, [x20, #8]
-	mov	v1.s[1], v0.s[1]
-	str	d1, [x20]
 	b	.LBB98_127
 .LBB98_64:
 	mov	w8, #8
@@ -59615,14 +59615,14 @@
 	b.lo	.LBB98_106
 	b	.LBB98_45
 .LBB98_107:
-	add	x8, x20, #5
-	ldur	s1, [x20, #1]
-	ld1r	{ v0.4h }, [x8]
-	add	x8, x20, #7
-	ld1	{ v0.b }[6], [x8]
-	ld1	{ v0.b }[7], [x26]
-	mov	v1.s[1], v0.s[1]
-	str	d1, [x20]
+	ldurb	w8, [x20, #7]
+	ldurh	w9, [x20, #5]
+	ldur	w10, [x20, #1]
+	strb	w8, [x20, #6]
+	strh	w9, [x20, #4]
+	str	w10, [x20]
+	ldrb	w8, [x26]
+	strb	w8, [x20, #7]
 	b	.LBB98_45
 .LBB98_108:
 	and	x10, x8, #0x18

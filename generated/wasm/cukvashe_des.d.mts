@@ -151,9 +151,9 @@ export class IterationCount extends CukvasheError {}
 export class NotSalted extends CukvasheError {}
 /** The bytes end within the salt, or it does not have 0 or 8 bytes. */
 export class SaltLength extends CukvasheError {}
-/** The wrapped key does not have a length that it can have. */
+/** The wrapped key does not have 24 bytes or more, a multiple of 8 (CMS), or 12 or more, a multiple of 4 (TKW). */
 export class WrappedLength extends CukvasheError {}
-/** The bytes are no key that was wrapped under the protection key. */
+/** The bytes are no key wrapped under the protection key, or were changed. */
 export class WrappedKey extends CukvasheError {}
 /** The value is none that MySQL encrypted. */
 export class NotEncrypted extends CukvasheError {}

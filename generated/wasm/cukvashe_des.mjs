@@ -21,8 +21,8 @@ export const BLOCK_SIZE = 8;
 export const TAG_SIZE = 8;
 
 // The SHA-256 of the modules that this file was built with: the one of a 64-bit memory, and the same of a 32-bit memory.
-const MODULE_SUM = "77afbd0c2004e6e9721ed82458935887e19d5fcca4ff48e7050ca60a3a6fd107";
-const NARROW_SUM = "a937c34fbe366477c1a80e3716bd5ffe702d330a35fb143b118e43ca32c53465";
+const MODULE_SUM = "a73a1c9e7964ce5e9c075ecd443a537f9e009a40a2ffda240929a2e976d53c3b";
+const NARROW_SUM = "60af052975eed6af8afaee768f82483d830b47a3a4ad22e360a8eb79b81fe835";
 
 // The bytes of the module's stack, which lies at its address 0. `build` links it so.
 const STACK_SIZE = 131072;
@@ -109,6 +109,7 @@ const VALUES = 50;
 const ALGORITHM = 51;
 const BASE64 = 52;
 const KEY_NUMBER = 53;
+const OVERLAP = 54;
 const SENTENCES = [
   "success",
   "the key does not have a length that the call takes",
@@ -157,13 +158,14 @@ const SENTENCES = [
   "the context is not one that the init of this type made",
   "the mode is not one that the call takes",
   "the stream is not one that was begun",
-  "the wrapped key does not have a length that it can have",
-  "the bytes are no key that was wrapped under the protection key",
+  "the wrapped key does not have 24 bytes or more, a multiple of 8 (CMS), or 12 or more, a multiple of 4 (TKW)",
+  "the bytes are no key wrapped under the protection key, or were changed",
   "the value is none that MySQL encrypted",
   "some values can't be read: their statuses say why",
   "the algorithm is not one that the call takes",
   "the value is not Base64",
   "the number is not 0 to 9, or the file has no key of that number",
+  "what the call would write overlaps what it reads",
 ];
 export const KeyLength = fault("KeyLength");
 export const BlockLength = fault("BlockLength");
@@ -508,9 +510,9 @@ class Workspace {
       const example = Base === Cipher ? "a cipher, such as new TdesEde2(key)," : "one that its class has made";
       throw new TypeError(`${what}: ${example} is needed`);
     }
-    if (state.context === null) throw new Closed("the object was closed");
+    if (state.context === null) throw new Closed("the cipher, MAC or terminal was closed");
     if (state.maker !== this && state.maker.isSpoiled) {
-      throw new Closed("the object was closed by a call that did not end: make it anew");
+      throw new Closed("the cipher, MAC or terminal was closed by a call that did not end: make it anew");
     }
     return state;
   }
@@ -1729,7 +1731,7 @@ const CMS = { more: 16, unit: 8 };
 const TKW = { more: 4, unit: 4 };
 
 // The lengths of a key that TKW takes: CMS has another status for its own.
-const WRAPPABLE = new Map([[KEY_LENGTH, ": a multiple of 4 bytes, 8 at least"]]);
+const WRAPPABLE = new Map([[KEY_LENGTH, ": a multiple of 4 bytes, at least 8"]]);
 
 /** What a call makes of bytes under a protection key: `more` bytes more than were given. It takes the capacity in units. */
 function through(call, protection, given, { more, unit }, vectors = []) {
@@ -1791,7 +1793,7 @@ function iterationsOf(number) {
 function derivedLengthOf(number) {
   if (typeof number !== "number") throw new TypeError("the length of a key: a number is needed");
   if (Number.isInteger(number) && number >= 1 && number < 2 ** 32) return number;
-  throw new KeyLength("a key that is derived has one byte at least, and less than 2^32");
+  throw new KeyLength("a key that is derived has at least one byte, and less than 2^32");
 }
 
 /** The key of `length` bytes that a call derives. */

@@ -55691,18 +55691,18 @@ LBB82_63:
 	tbz	w8, #0, LBB82_58
 	b	LBB82_50
 LBB82_65:
-	add	x8, x20, #5
-	ld1r.4h	{ v0 }, [x8]
-	add	x8, x20, #7
-	ld1.b	{ v0 }[6], [x8]
-	ldur	s1, [x20, #1]
-	ld1.b	{ v0 }[7], [x26]
-	add	x8, x23, #1
-	cmp	x8, x24
-	csinc	x8, xzr, x23, eq
-	mov.s	v1[1], v0[1]
-	str	d1, [x20]
-	stp	x27, x8, [x20, #8]
+	ldurb	w8, [x20, #7]
+	ldurh	w9, [x20, #5]
+	ldur	w10, [x20, #1]
+	strb	w8, [x20, #6]
+	strh	w9, [x20, #4]
+	str	w10, [x20]
+	ldrb	w8, [x26]
+	add	x9, x23, #1
+	cmp	x9, x24
+	csinc	x9, xzr, x23, eq
+	strb	w8, [x20, #7]
+	stp	x27, x9, [x20, #8]
 	b	LBB82_126
 LBB82_66:
 	mov	w8, #8
@@ -55873,14 +55873,14 @@ LBB82_105:
 	b.lo	LBB82_105
 	b	LBB82_44
 LBB82_106:
-	add	x8, x20, #5
-	ld1r.4h	{ v0 }, [x8]
-	add	x8, x20, #7
-	ld1.b	{ v0 }[6], [x8]
-	ld1.b	{ v0 }[7], [x26]
-	ldur	s1, [x20, #1]
-	mov.s	v1[1], v0[1]
-	str	d1, [x20]
+	ldurb	w8, [x20, #7]
+	ldurh	w9, [x20, #5]
+	ldur	w10, [x20, #1]
+	strb	w8, [x20, #6]
+	strh	w9, [x20, #4]
+	str	w10, [x20]
+	ldrb	w8, [x26]
+	strb	w8, [x20, #7]
 	b	LBB82_44
 LBB82_107:
 	and	x10, x8, #0x18
@@ -60193,18 +60193,18 @@ LBB90_61:
 	tbz	w8, #0, LBB90_69
 	b	LBB90_51
 LBB90_63:
-	add	x8, x20, #5
-	ld1r.4h	{ v0 }, [x8]
-	add	x8, x20, #7
-	ld1.b	{ v0 }[6], [x8]
-	ldur	s1, [x20, #1]
-	ld1.b	{ v0 }[7], [x26]
-	add	x8, x23, #1
-	cmp	x8, x24
-	csinc	x8, xzr, x23, eq
-	mov.s	v1[1], v0[1]
-	str	d1, [x20]
-	stp	x28, x8, [x20, #8]
+	ldurb	w8, [x20, #7]
+	ldurh	w9, [x20, #5]
+	ldur	w10, [x20, #1]
+	strb	w8, [x20, #6]
+	strh	w9, [x20, #4]
+	str	w10, [x20]
+	ldrb	w8, [x26]
+	add	x9, x23, #1
+	cmp	x9, x24
+	csinc	x9, xzr, x23, eq
+	strb	w8, [x20, #7]
+	stp	x28, x9, [x20, #8]
 	b	LBB90_127
 LBB90_64:
 	mov	w8, #8
@@ -60410,14 +60410,14 @@ LBB90_106:
 	b.lo	LBB90_106
 	b	LBB90_45
 LBB90_107:
-	add	x8, x20, #5
-	ld1r.4h	{ v0 }, [x8]
-	add	x8, x20, #7
-	ld1.b	{ v0 }[6], [x8]
-	ld1.b	{ v0 }[7], [x26]
-	ldur	s1, [x20, #1]
-	mov.s	v1[1], v0[1]
-	str	d1, [x20]
+	ldurb	w8, [x20, #7]
+	ldurh	w9, [x20, #5]
+	ldur	w10, [x20, #1]
+	strb	w8, [x20, #6]
+	strh	w9, [x20, #4]
+	str	w10, [x20]
+	ldrb	w8, [x26]
+	strb	w8, [x20, #7]
 	b	LBB90_45
 LBB90_108:
 	and	x10, x8, #0x18
@@ -62427,18 +62427,18 @@ LBB98_61:
 	tbz	w8, #0, LBB98_69
 	b	LBB98_51
 LBB98_63:
-	add	x8, x20, #5
-	ld1r.4h	{ v0 }, [x8]
-	add	x8, x20, #7
-	ld1.b	{ v0 }[6], [x8]
-	ldur	s1, [x20, #1]
-	ld1.b	{ v0 }[7], [x26]
-	add	x8, x23, #1
-	cmp	x8, x24
-	csinc	x8, xzr, x23, eq
-	mov.s	v1[1], v0[1]
-	str	d1, [x20]
-	stp	x27, x8, [x20, #8]
+	ldurb	w8, [x20, #7]
+	ldurh	w9, [x20, #5]
+	ldur	w10, [x20, #1]
+	strb	w8, [x20, #6]
+	strh	w9, [x20, #4]
+	str	w10, [x20]
+	ldrb	w8, [x26]
+	add	x9, x23, #1
+	cmp	x9, x24
+	csinc	x9, xzr, x23, eq
+	strb	w8, [x20, #7]
+	stp	x27, x9, [x20, #8]
 	b	LBB98_127
 LBB98_64:
 	mov	w8, #8
@@ -62644,14 +62644,14 @@ LBB98_106:
 	b.lo	LBB98_106
 	b	LBB98_45
 LBB98_107:
-	add	x8, x20, #5
-	ld1r.4h	{ v0 }, [x8]
-	add	x8, x20, #7
-	ld1.b	{ v0 }[6], [x8]
-	ld1.b	{ v0 }[7], [x26]
-	ldur	s1, [x20, #1]
-	mov.s	v1[1], v0[1]
-	str	d1, [x20]
+	ldurb	w8, [x20, #7]
+	ldurh	w9, [x20, #5]
+	ldur	w10, [x20, #1]
+	strb	w8, [x20, #6]
+	strh	w9, [x20, #4]
+	str	w10, [x20]
+	ldrb	w8, [x26]
+	strb	w8, [x20, #7]
 	b	LBB98_45
 LBB98_108:
 	and	x10, x8, #0x18
