@@ -1,5 +1,5 @@
 -- The end of a part that is decrypted: its last block, with more after it or at the end of the input.
-use Rattle.std.proofs.Common.{◌≡◌, ◌≢◌, ◌⊎◌, inl, inr, ap₂, refl, None, Some, ℕ, List, [], ◌++◌, Option, length, take, drop, ap, sym, subst, ◌∙◌, arith, length-append, append-nil, take-append-drop}
+use Rattle.std.proofs.Common.{◌≡◌, ◌≢◌, ◌⊎◌, inl, inr, refl, None, Some, ℕ, List, [], ◌++◌, Option, length, take, drop, ap, sym, subst, ◌∙◌, arith, length-append, append-nil, take-append-drop}
 use Rattle.std.specs.Io.KnownBytes.{Consumes, Appends, IsAtEnd}
 use Rattle.std.proofs.KnownBytes.{Consumes-trans, Consumes-nil}
 use Rattle.std.proofs.lemmas.Option.{none-some}
@@ -14,7 +14,7 @@ use Rattle.des_io.specs.declared.padding.Padding.{Padding}
 use Rattle.des_io.specs.declared.padding.Padding.TheVariants.{Unpadded}
 use Rattle.des_io.proofs.DecryptedEnds.{Decrypts-ended, WithinPrefix-ended, WithinPrefix-fault, IsWronglyPadded-ended}
 use Rattle.des_io.proofs.DecryptedPrefixes.{DeciphersPrefix-ended, DeciphersPrefix-more, HoldsPrefix-read, WithinPrefix-pending, DecryptsPartPrefix-within}
-use Rattle.des_io.proofs.ModesInPieces.{Deciphered-nil, Deciphered-only_nil}
+use Rattle.des_io.proofs.ModesInPieces.{Deciphered-nil}
 
 -- ---- what was written
 
@@ -131,15 +131,6 @@ some_blocks {decryption} {mode} {block} holds none =
     let blocks : holds.p ≡ [] = Deciphered-nil decryption mode holds.q holds.p holds.deciphered none in
     let lengths : length (holds.put ++ block) ≡ 0 = ap length (holds.whole ∙ ap joined blocks) in
     omega (arith, length-append holds.put block, lengths, holds.size)
-
--- if none was held back, none was read
-pub no_blocks : {decryption : List ℕ → List ℕ} {mode : BlockMode} {r s : Option (List ℕ)} (t : Option (List ℕ))
-    {u v : Option (List ℕ)} {pending : Option (List ℕ)} (bytes : List ℕ)
-    → pending ≡ None → HoldsLast decryption mode (passage_of r s u v) pending → Consumes s t bytes → (bytes ≡ []) × IsAtEnd t
-    → Consumes r t [] × IsAtEnd t
-no_blocks {decryption} {mode} {r} {s} t bytes is holds read end =
-    let blocks : holds.q ≡ [] = Deciphered-only_nil decryption mode holds.q holds.p holds.deciphered (holds.none is) in
-    (subst (Consumes r t) (ap₂ ◌++◌ (ap joined blocks) end.0) (Consumes-trans r s t _ _ holds.read read), end.1)
 
 -- ---- the end of a part
 

@@ -1,25 +1,16 @@
 -- Blocks that are read before a part, piece after piece.
-use Rattle.std.proofs.Common.{◌≡◌, ℕ, ◌+◌, ◌*◌, ◌<◌, List, [], ◌++◌, Option, length, ap, sym, subst, ◌∙◌, arith, length-append}
+use Rattle.std.proofs.Common.{◌≡◌, ℕ, ◌+◌, ◌*◌, ◌<◌, List, ◌++◌, Option, length, ap, sym, subst, ◌∙◌, arith, length-append}
 use Rattle.std.specs.Io.KnownBytes.{Consumes, IsAtEnd}
 use Rattle.std.specs.List.{All}
-use Rattle.std.proofs.KnownBytes.{Consumes-trans, Consumes-nil}
-use Rattle.std.proofs.lemmas.List.Elements.{All-append, All-nil}
+use Rattle.std.proofs.KnownBytes.{Consumes-trans}
+use Rattle.std.proofs.lemmas.List.Elements.{All-append}
 use Rattle.des.specs.Blocks.{IsBlock}
 use Rattle.des_io.specs.CipherModes.{mode_after}
 use Rattle.des_io.specs.Streams.{joined, Skips}
 use Rattle.des_io.specs.StreamFaults.{EndsBefore}
 use Rattle.des_io.specs.declared.mode.BlockMode.{BlockMode}
 use Rattle.des_io.proofs.EncryptedPieces.{joined-append, length-joined}
-use Rattle.des_io.proofs.ModesInPieces.{mode_after-append, mode_after-none}
-
-pub Skips-none : (mode : BlockMode) (r : Option (List ℕ)) (count : ℕ) → count ≡ 0 → Skips mode mode count r r
-Skips-none mode r count none = record {
-  q = [];
-  read = Consumes-nil r;
-  blocks = All-nil IsBlock;
-  size = sym none;
-  after = sym (mode_after-none mode);
-}
+use Rattle.des_io.proofs.ModesInPieces.{mode_after-append}
 
 -- one piece more
 pub Skips-more : {mode next last : BlockMode} {m n : ℕ} {r s t : Option (List ℕ)} (bytes : List ℕ) (more : List (List ℕ))

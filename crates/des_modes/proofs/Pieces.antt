@@ -3,7 +3,7 @@ use Rattle.std.proofs.Common.{◌≡◌, inl, inr, ℕ, ◌+◌, ◌-◌, ◌<�
 use Rattle.std.specs.Int.Bits.{xor_self, xor_assoc, xor_zero_r}
 use Rattle.std.proofs.Math.ListN.{get_or-append}
 use Rattle.std.proofs.lemmas.Bool.{cases_lt}
-use Rattle.std.proofs.lemmas.List.{get_or-append_right, get_or-take, ext_get_or, append-nil, take_all, take_more_set, drop-drop, drop-set-lt, drop_more}
+use Rattle.std.proofs.lemmas.List.{get_or-append_right, get_or-take, ext_get_or, append-nil, take_more_set, drop-drop, drop-set-lt, drop_more}
 use Rattle.des.specs.Bits.{xor}
 use Rattle.des.proofs.KeyParts.{get_or-first_chunks}
 use Rattle.des_modes.specs.Streams.{GoesOn, Xors, ciphertext, plaintext}
@@ -124,11 +124,6 @@ module _ {X : Type 0} {Done Next : List X → List X → Type 0} {from : ℕ} {o
       (ap (drop (from + 1)) is ∙ drop-set-lt (from + 1) now from x (omega arith))
       (λ done. rw (drop_more now from d within) (goes done)) so_far
 
--- at the end
-pub InPlace-all : {X : Type 0} {Done : List X → List X → Type 0} {from : ℕ} {old now : List X} → length old ≤ from
-    → length now ≤ from → InPlace Done from old now → Done old now
-InPlace-all {X} {Done} {from} {old} {now} all same so_far = rw (take_all from old all, take_all from now same) at so_far.done
-
 -- ---- each text is one of the two
 
 pub ciphertext-is : {X : Type 0} (P : X → Type 0) (direction : Direction) (old new : X) → P old → P new
@@ -165,11 +160,6 @@ abbrev pub GoesByFront : {X : Type 0} → (List X → ℕ → X) → Type 0
 GoesByFront {X} k = (t more : List X) (i : ℕ) → i < length t → k (t ++ more) i ≡ k t i
 
 module _ {S X : Type 0} {op : X → X → X} {d : X} {At : List X → S → Type 0} {k : List X → ℕ → X} where
-  pub GoesOn-none : (direction : Direction) (state : S) → GoesOn op d At k direction state state [] []
-  GoesOn-none direction state =
-      let none : ciphertext direction [] [] ≡ [] = ciphertext-is (λ (xs : List X). xs ≡ []) direction [] [] refl refl in
-      record { goes = λ t more at. rw (none, append-nil) (at, Xors-none (length t) (k (t ++ more))) }
-
   pub GoesOn-joined : (direction : Direction) {before between after : S} {old now more answers : List X}
       → GoesOn op d At k direction before between old now → GoesOn op d At k direction between after more answers
       → GoesOn op d At k direction before after (old ++ more) (now ++ answers)

@@ -1,5 +1,5 @@
 -- Streams mode by mode: where they begin.
-use Rattle.std.proofs.Common.{◌≡◌, ℕ, ◌+◌, ◌%◌, ◌≤◌, List, [], ap, sym, arith, length, drop, ◌++◌, ◌∙◌}
+use Rattle.std.proofs.Common.{◌≡◌, ℕ, ◌≤◌, List, [], ap, sym, arith, ◌∙◌}
 use Rattle.std.proofs.Math.Nat.{zero-mod}
 use Rattle.std.proofs.lemmas.Bool.Decides.{nat_tests}
 use Rattle.std.proofs.lemmas.List.{append-nil}
@@ -11,7 +11,6 @@ use Rattle.des_modes.specs.Modes.{InMode, IsMode, mode_by}
 use Rattle.des_modes.specs.States.{IsPlace, size_of}
 use Rattle.des_modes.specs.declared.modes.Mode.{Mode}
 use Rattle.des_modes.specs.declared.modes.Mode.TheVariants.{Counter, OutputFeedback, BitFeedback, CipherFeedback}
-use Rattle.des_modes.specs.declared.modes.TheConstants.{CFB1}
 use Rattle.des_modes.specs.declared.place.Place.{Place}
 use Rattle.des_modes.proofs.Pieces.{Xors-none}
 
@@ -26,17 +25,6 @@ InMode-none OutputFeedback encryption iv = Xors-none 0 _
 InMode-none BitFeedback encryption iv = Xors-none 0 _
 InMode-none (CipherFeedback s) encryption iv = Xors-none 0 _
 
--- before a segment of cipher feedback
-pub mode_by-cfb : (s : ℕ) → 1 ≤ s → mode_by (CFB1 + s) ≡ CipherFeedback s
-mode_by-cfb s some = grind (arith, nat_tests)
-
-pub IsPlace-cfb : (s : ℕ) (encryption : List ℕ → List ℕ) (iv c : List ℕ) (place : Place) → length c % s ≡ 0
-    → place.register ≡ drop (length c) (iv ++ c) → place.used ≡ 0 → IsPlace (CipherFeedback s) encryption iv c place
-IsPlace-cfb s encryption iv c place whole holds unused =
-    record { register = holds; used = unused ∙ sym whole; output = λ more. absurd (omega arith) }
-
--- ---- where a stream begins
-
 pub IsPlace-begin : (mode : Mode) (encryption : List ℕ → List ℕ) (iv : List ℕ) (place : Place)
     → IsBlock iv → place.register ≡ iv → place.used ≡ 0 → IsPlace mode encryption iv [] place
 unfolding bits_of_bytes
@@ -45,4 +33,4 @@ IsPlace-begin Counter encryption iv place is_block begins unused =
 IsPlace-begin OutputFeedback encryption iv place is_block begins unused = (begins, unused)
 IsPlace-begin BitFeedback encryption iv place is_block begins unused = (rw begins (sym (append-nil (bits_of_bytes iv))), unused)
 IsPlace-begin (CipherFeedback s) encryption iv place is_block begins unused =
-    IsPlace-cfb s encryption iv [] place (zero-mod s) (begins ∙ sym (append-nil iv)) unused
+    record { register = begins ∙ sym (append-nil iv); used = unused ∙ sym (zero-mod s); output = λ more. absurd (omega arith) }

@@ -1,23 +1,14 @@
-use Rattle.std.proofs.Common.{◌≡◌, ◌≢◌, ◌∙◌, Some, rules, arith, ap, sym, length, length-take-le, take, below_more}
+use Rattle.std.proofs.Common.{◌≡◌, ◌≢◌, ◌∙◌, Some, rules, arith, ap, sym, length, length-take-le, take}
 use Rattle.des_io.specs.PaddedBytes.{padded, taken_off}
 use Rattle.des_io.specs.declared.padding.Padding.{Padding}
 use Rattle.des_io.specs.declared.padding.Padding.TheVariants.{Unpadded}
 use Rattle.des_io.proofs.PaddedLists.{padded-injective, length-padded, take-padded, taken_off-twice}
 use Rattle.des_io.proofs.padding.count_before.Goals as goal
 
-pub loop-count-preserved : goal.loop-count-preserved
-loop-count-preserved c =
-    let differ : c.padded_prefix.result ≢ c.args.block.now = search rules in
-    below_more _ _ c.loop-count.invariant (λ same. differ (c.padded_prefix.ensures ∙ same))
-
 -- what is taken off is that of what is taken off
 taken_off-some : (padding taken : Padding) → taken ≡ taken_off padding → taken ≢ Unpadded → taken_off taken ≢ Unpadded
 taken_off-some padding taken is differs same =
     differs (is ∙ sym (taken_off-twice padding) ∙ ap taken_off (sym is) ∙ same)
-
-pub padded_prefix-requires-clause-padding : goal.padded_prefix-requires-clause-padding
-padded_prefix-requires-clause-padding c =
-    taken_off-some c.args.padding c.taken_off-padding.result c.taken_off-padding.ensures (search rules)
 
 pub returns-then-eq-2-clause-back : goal.returns-then-eq-2-clause-back
 returns-then-eq-2-clause-back c bytes same =

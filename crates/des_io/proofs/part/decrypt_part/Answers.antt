@@ -1,5 +1,5 @@
 use Rattle.std.proofs.Common.{◌≡◌, true, false, rules}
-use Rattle.des_io.proofs.DecryptedParts.{EndsPart-more, EndsPart-last, DecryptsPartPrefix-pending, DecryptsPartPrefix-read, no_blocks}
+use Rattle.des_io.proofs.DecryptedParts.{EndsPart-more, EndsPart-last, DecryptsPartPrefix-pending, DecryptsPartPrefix-read}
 use Rattle.des_io.proofs.part.decrypt_part.Goals as goal
 
 pub returns-then-not-branch : goal.returns-then-not-branch
@@ -10,13 +10,6 @@ returns-then-not-branch g c =
     let all = EndsPart-more _ c.args.transformation.now.padding bytes c.in_ok-last.ensures.done read more
     c.finish.ensures.ended in
     record { done = all.done; prefix = all.prefix; fault = all.fault }
-
-pub returns-in-None-clause-fault : goal.returns-in-None-clause-fault
-returns-in-None-clause-fault g c =
-    let (bytes, read, after) = c.in_ok-is_at_end.ensures.read in
-    let on : c.in_ok-is_at_end.field-0 ≡ true = search rules in
-    let end = rw on at after in
-    no_blocks _ bytes c.in-None.is c.in_ok-last.ensures.done.holds read end
 
 pub returns-in-None-clause-prefix : goal.returns-in-None-clause-prefix
 returns-in-None-clause-prefix g c =

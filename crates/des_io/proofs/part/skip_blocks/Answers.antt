@@ -1,15 +1,8 @@
-use Rattle.std.proofs.Common.{◌≡◌, ◌+◌, ◌-◌, ◌*◌, ◌/◌, ◌<◌, ◌∙◌, length, take, rules, arith, refl, ap, length-take-le}
+use Rattle.std.proofs.Common.{◌≡◌, ◌+◌, ◌-◌, ◌*◌, ◌/◌, ◌<◌, ◌∙◌, length, take, rules, arith, ap, length-take-le}
 use Rattle.des_io.specs.Streams.{joined}
 use Rattle.des_io.proofs.JoinedPieces.{joined_chunks}
-use Rattle.des_io.proofs.SkippedBlocks.{Skips-none, Skips-more, EndsBefore-read}
+use Rattle.des_io.proofs.SkippedBlocks.{Skips-more, EndsBefore-read}
 use Rattle.des_io.proofs.part.skip_blocks.Goals as goal
-
-pub loop-init : goal.loop-init
-loop-init g c = record {
-  count = refl;
-  so_far = Skips-none _ _ _ (omega arith);
-  within = omega arith;
-}
 
 pub returns-then-n-count-clause-fault : goal.returns-then-n-count-clause-fault
 returns-then-n-count-clause-fault g c =

@@ -5,12 +5,9 @@ use Rattle.des.specs.Bits.{bits_of_bytes, xor}
 use Rattle.des.specs.Laws.BitLists.{length-bits_of_bytes}
 use Rattle.des_modes.specs.Cfb.{first_bits}
 use Rattle.des_modes.specs.Streams.{ciphertext}
-use Rattle.des_modes.proofs.Pieces.{GoesOn-none, GoesOn-joined, texts-map, GoesOn-whole, InPlace-set, bits_undone}
+use Rattle.des_modes.proofs.Pieces.{GoesOn-joined, texts-map, GoesOn-whole, InPlace-set, bits_undone}
 use Rattle.des_modes.proofs.CfbPlaces.{GoesOn-bit, cfb_bits-front}
 use Rattle.des_modes.proofs.cfb_bits.apply.Goals as goal
-
-pub bits-init : goal.bits-init
-bits-init g c iv = record { done = GoesOn-none c.args.direction c.args.register.now; rest = refl }
 
 pub bits-preserved : goal.bits-preserved
 bits-preserved g c iv =

@@ -1,6 +1,6 @@
 -- A part more.
 use Rattle.std.proofs.Common.{arith}
-use Rattle.des_modes.proofs.Pieces.{GoesOn-joined, InPlace-more, InPlace-all}
+use Rattle.des_modes.proofs.Pieces.{GoesOn-joined, InPlace-more}
 use Rattle.des_modes.proofs.parts.apply_parts.Goals as goal
 
 pub parts-preserved : goal.parts-preserved
@@ -12,6 +12,3 @@ parts-preserved g c = record {
       (λ done. GoesOn-joined c.args.direction done (c.apply_part.ensures.goes iv))
       (c.parts.invariant.so_far iv);
 }
-
-pub returns-clause-goes : goal.returns-clause-goes
-returns-clause-goes g c iv = InPlace-all (omega arith) (omega arith) (c.parts.invariant.so_far iv)

@@ -5,28 +5,13 @@ use Rattle.std.proofs.lemmas.List.{length-drop, length-take-le}
 use Rattle.std.proofs.lemmas.Slice.{drop-put_mid}
 use Rattle.des_columns.specs.EncryptedBytes.{joined}
 use Rattle.des_columns.specs.Forms.{blocks_of, part_of, xored}
-use Rattle.des_columns.specs.Columns.{decrypted, deciphered}
+use Rattle.des_columns.specs.Columns.{decrypted}
 use Rattle.des_columns.specs.declared.form.BlockMode.{BlockMode}
 use Rattle.des_columns.specs.declared.form.ValueForm.{ValueForm}
 use Rattle.des_columns.proofs.Pieces.{length-first_chunks}
 use Rattle.des_columns.proofs.Turns.{length-put, next-waits, others-wait}
 use Rattle.des_columns.proofs.column.Reader.decrypt_next.Goals as goal
 use borrow.Rule.Slice.PartMut.{put_mid}
-
-pub returns-then-waiting-eq0 : goal.returns-then-waiting-eq0
-returns-then-waiting-eq0 g c =
-    let none : c.args.waiting.now.count ≡ 0 = c.if-waiting-eq0.true in
-    record {
-      plain =
-          c.decipher.ensures
-          ∙ ap (deciphered c.args.self.now.mode (g.K.ValueKeys.decryption c.args.self.now.keys c.args.value.now))
-          (c.copy_from_slice.ensures.after ∙ c.part_of-part.ensures.part);
-      waiting = λ others are. record {
-        fit = omega (arith, none);
-        within = omega (arith, are.within, c.decipher.auto.buffer);
-        in_turn = rw none tt;
-      };
-    }
 
 pub returns : goal.returns
 returns g c =

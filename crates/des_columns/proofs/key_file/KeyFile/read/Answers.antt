@@ -1,10 +1,8 @@
 -- A byte more.
-use Rattle.std.proofs.Common.{◌≡◌, ℕ, ◌+◌, ◌-◌, true, false, None, List, [], length, take, drop, get_or, ap, sym, ◌∙◌, arith, rules}
+use Rattle.std.proofs.Common.{◌≡◌, ℕ, ◌+◌, ◌-◌, true, false, None, List, length, take, drop, get_or, ap, ◌∙◌, arith, rules}
 use Rattle.std.specs.Option.{option_map, option_or}
-use Rattle.std.proofs.lemmas.List.{drop_all}
-use Rattle.std.proofs.lemmas.List.FromFn.{fill_by_all}
 use Rattle.des_columns.specs.Mysql.{key_of}
-use Rattle.des_columns.specs.KeyFile.{is_line, lines_after, string_in}
+use Rattle.des_columns.specs.KeyFile.{is_line, string_in}
 use Rattle.des_columns.proofs.KeyFileLines.{line-begun, line-taken}
 use Rattle.des_columns.proofs.key_file.KeyFile.read.Goals as goal
 use Rattle.des_columns.proofs.key_file.KeyFile.read.Goals.{then-is_line, else-is_line}
@@ -37,14 +35,3 @@ bytes-preserved c =
             ∙ c.bytes.invariant.keys number few);
       }
     ]
-
-pub returns : goal.returns
-returns c =
-    let file : List ℕ = c.args.file.now in
-    let keys = c.bytes.keys in
-    let begun : List ℕ = take (c.bytes.at - c.bytes.start) (drop c.bytes.start file) in
-    fill_by_all (λ number. option_map key_of (string_in number (lines_after [] file))) keys 10 None c.bytes.invariant.count
-    (λ number few.
-    ap (λ l. option_or (option_map key_of (string_in number (lines_after begun l))) (get_or keys number None))
-    (sym (drop_all c.bytes.at file c.bytes-test.false))
-    ∙ c.bytes.invariant.keys number few)

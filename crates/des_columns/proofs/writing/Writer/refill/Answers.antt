@@ -1,29 +1,14 @@
 -- Texts that were gathered, encrypted.
-use Rattle.std.proofs.Common.{◌≡◌, ℕ, List, length, take, drop, refl, ap, sym, ◌∙◌, arith}
-use Rattle.std.proofs.lemmas.List.{length-map, length-take, length-take-le}
+use Rattle.std.proofs.Common.{◌≡◌, ℕ, List, length, take, drop, refl, ap, arith}
+use Rattle.std.proofs.lemmas.List.{length-map}
 use Rattle.des_columns.specs.Columns.{pieces}
 use Rattle.des_columns.specs.EncryptedBytes.{AreEncrypted, IsEncrypted, joined}
 use Rattle.des_columns.specs.Writings.{padded_by, size_in_blocks}
 use Rattle.des_columns.specs.declared.form.BlockMode.{BlockMode}
 use Rattle.des_columns.specs.declared.form.ValueForm.{ValueForm}
 use Rattle.des_columns.proofs.Pieces.{length-pieces}
-use Rattle.des_columns.proofs.SpreadKeySizes.{spread_keys-le}
 use Rattle.des_columns.proofs.Turns.{in_turn-longer, in_turn-related}
 use Rattle.des_columns.proofs.writing.Writer.refill.Goals as goal
-
-pub encrypt_records-requires : goal.encrypt_records-requires
-encrypt_records-requires g c = (
-  omega (arith, spread_keys-le _ _ g.met.S.Slice.small_gaps g.met.S.Slice.few_bytes),
-  (
-    c.requires.keys,
-    (
-      omega (arith, length-take c.gather-taken.result.count c.gather-taken.new.sizes, c.gather-taken.ensures.count),
-      sym c.gather-taken.ensures.whole
-          ∙ sym (length-take-le c.gather-taken.result.blocks c.gather-taken.new.buffer
-          (omega (arith, c.gather-taken.ensures.blocks, c.gather-taken.auto.buffer))),
-    ),
-  ),
-)
 
 pub returns : goal.returns
 returns g c =

@@ -2,7 +2,6 @@ use Rattle.std.proofs.Common.{◌≡◌, ◌<◌, ap, ◌∙◌}
 use Rattle.std.proofs.lemmas.List.Elements.{All-append}
 use Rattle.des.specs.Blocks.{AreBytes}
 use Rattle.des_modes.specs.Modes.{mode_by}
-use Rattle.des_modes.specs.declared.modes.Mode.TheVariants.{BitFeedback}
 use Rattle.des_modes.proofs.OnePlaintext.{InMode-one}
 use Rattle.des_modes.proofs.Pieces.{ciphertext-is}
 use Rattle.des_modes.proofs.stream.Stream.apply.Goals as goal
@@ -30,13 +29,3 @@ returns-clause-undone g c number iv p d text is bytes made =
     InMode-one c.args.mode _ iv p _ text _
     (ciphertext-is AreBytes c.args.direction c.apply_in.new.bytes c.args.bytes.now c.are_bytes-2.ensures c.are_bytes.ensures) bytes
     (c.apply_in.ensures.made iv p d (rw (← same) at is.place) (rw (← same) at is.made)) made
-
-pub returns-clause-bits : goal.returns-clause-bits
-returns-clause-bits g c iv p d is =
-    let same : c.args.mode ≡ BitFeedback = c.requires.2 ∙ ap mode_by is.is_mode in
-    let bits = c.apply_in.ensures.bits same iv d is.place.0 is.place.1 in record {
-      begun = returns-clause-begun g c;
-      is_mode = is.is_mode;
-      place = (bits.0, bits.1);
-      made = bits.2 p is.made;
-    }
