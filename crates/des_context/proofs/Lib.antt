@@ -1,4 +1,3 @@
-mod CipherTypeOfWords
 mod JoinedParts
 mod KeysOfBytes
 mod MacCases

@@ -19,7 +19,7 @@ use Rattle.des_io.specs.PaddedBytes.{padded, taken_off}
 use Rattle.des_io.specs.Streams.{joined}
 use Rattle.des_io.specs.declared.padding.Padding.TheVariants.{Pkcs7, Unpadded}
 use Rattle.des_io.proofs.EncryptedPieces.{joined-append}
-use Rattle.des_io.proofs.PaddedLists.{length-padded, padded-append, padded-injective}
+use Rattle.des_io.proofs.PaddedLists.{padded-append, padded-injective}
 use Rattle.des_context.specs.declared.ciphers.CipherType.{CipherType}
 use Rattle.des_context.specs.declared.ciphers.CipherType.TheVariants.{Des, Ede2, Ede3}
 use Rattle.des_context.specs.declared.status.TheConstants.{OK}
@@ -113,11 +113,6 @@ put-behind front part old now from to long within is = grind (arith, common_step
 
 takes_off : taken_off Pkcs7 ≢ Unpadded
 takes_off = λ same. cc
-
--- it has a block at least
-pub opened-some : {Relates : List ℕ → List ℕ → Type 0} {vector : List ℕ} (encrypted plain : List ℕ)
-    → IsOpened Relates vector encrypted plain → 0 < length (blocks_of encrypted)
-opened-some encrypted plain opened = omega (arith, length-plain opened.1, length-padded Pkcs7 plain takes_off)
 
 -- the last of the blocks is decrypted by the CBC that goes on after the others
 module _ {forth back : List ℕ → List ℕ} {Relates : List ℕ → List ℕ → Type 0} (by : HasGraphs forth back Relates)

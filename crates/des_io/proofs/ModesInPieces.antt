@@ -54,14 +54,8 @@ pub Deciphered-count : (decryption : List ℕ → List ℕ) (mode : BlockMode) (
 Deciphered-count decryption Ecb q p deciphered = ap length deciphered ∙ length-map q decryption
 Deciphered-count decryption (CbcMode iv) q p deciphered = deciphered.count
 
--- of no blocks no blocks are deciphered, and the other way round
+-- of no blocks no blocks are deciphered
 pub Deciphered-nil : (decryption : List ℕ → List ℕ) (mode : BlockMode) (q p : List (List ℕ)) → Deciphered decryption mode q p
     → q ≡ [] → p ≡ []
 Deciphered-nil decryption mode q p deciphered none =
     nil_from_length p (Deciphered-count decryption mode q p deciphered ∙ ap length none)
-
-pub Deciphered-only_nil : (decryption : List ℕ → List ℕ) (mode : BlockMode) (q p : List (List ℕ))
-    → Deciphered decryption mode q p
-    → p ≡ [] → q ≡ []
-Deciphered-only_nil decryption mode q p deciphered none =
-    nil_from_length q (sym (Deciphered-count decryption mode q p deciphered) ∙ ap length none)

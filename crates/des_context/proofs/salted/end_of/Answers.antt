@@ -1,12 +1,8 @@
-use Rattle.std.proofs.Common.{length, ap, sym, ◌∙◌, arith, rules}
+use Rattle.std.proofs.Common.{length, sym, ◌∙◌, rules}
 use Rattle.des.proofs.ByteArrays.{IsBlock-array}
 use Rattle.des_context.specs.CipherTypes.{cipher_type_of_length}
-use Rattle.des_context.proofs.OpenedBlocks.{HasGraphs-cipher_type, opened-some, opened-never, EndsWith-padded}
+use Rattle.des_context.proofs.OpenedBlocks.{HasGraphs-cipher_type, opened-never, EndsWith-padded}
 use Rattle.des_context.proofs.salted.end_of.Goals as goal
-
-pub returns-in_err-last-clause-none : goal.returns-in_err-last-clause-none
-returns-in_err-last-clause-none c none key made plain opened =
-    absurd (omega (arith, opened-some c.args.encrypted.now plain opened, ap length c.as_chunks.ensures.front, c.in_err-last.ensures.cases))
 
 pub returns-in_err-count-clause-none : goal.returns-in_err-count-clause-none
 returns-in_err-count-clause-none c none key made =
