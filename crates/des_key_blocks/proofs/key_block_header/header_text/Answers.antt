@@ -1,15 +1,8 @@
-use Rattle.std.proofs.Common.{◌≡◌, ℕ, List, length, get_or, sym, ap, ◌∙◌, rules}
+use Rattle.std.proofs.Common.{◌≡◌, ℕ, List, length, get_or, ◌∙◌, rules}
 use Rattle.des_key_blocks.specs.declared.key_block_header.Header.{Header}
 use Rattle.des_key_blocks.specs.declared.key_block_header.KeyContext.TheVariants.{StorageOrExchange}
 use Rattle.des_key_blocks.proofs.HeaderTexts.{two-are, header-made}
 use Rattle.des_key_blocks.proofs.key_block_header.header_text.Goals as goal
-
-pub returns-clause-is_header : goal.returns-clause-is_header
-returns-clause-is_header c =
-    let usage : List ℕ = c.text-usage.result in
-    let two : length usage ≡ 2 = search rules in
-    let version_two : length c.args.header.now.key_version ≡ 2 = search rules in
-    (ap length (sym c.text-usage.ensures) ∙ two, version_two)
 
 pub returns-clause-text : goal.returns-clause-text
 returns-clause-text c =

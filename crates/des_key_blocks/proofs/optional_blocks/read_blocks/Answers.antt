@@ -43,13 +43,6 @@ some-size : (name content text : List ℕ) (size : ℕ) → IsOptionalBlock name
 some-size name content text size is =
     omega (arith, block-least name content (take size text) is, length-take size text)
 
-pub loop-at-smaller : goal.loop-at-smaller
-loop-at-smaller c =
-    let text : List ℕ = c.args.text.now in
-    let some = some-size c.in-Some.block.name c.in-Some.block.content.now _ c.in-Some.size c.in-Some.ensures.first in
-    let there = c.loop-at-test.true in
-    omega (arith, some, there)
-
 pub loop-at-preserved : goal.loop-at-preserved
 loop-at-preserved c =
     let text : List ℕ = c.args.text.now in

@@ -1,7 +1,7 @@
 use Rattle.std.proofs.Common.{◌≡◌, ℕ, ◌+◌, List, length, ◌∙◌, arith, rules}
 use Rattle.des_key_blocks.proofs.OptionalBlockSizes.{size_of-long}
 use Rattle.des_key_blocks.proofs.OptionalBlockTexts.{long-pieces}
-use Rattle.des_key_blocks.proofs.WrittenTexts.{short-pieces-text, long-pieces-text}
+use Rattle.des_key_blocks.proofs.WrittenTexts.{long-pieces-text}
 use Rattle.des_key_blocks.proofs.optional_blocks.write_block.Goals as goal
 
 pub returns-else-size-lt256-clause-is : goal.returns-else-size-lt256-clause-is
@@ -15,13 +15,6 @@ returns-else-size-lt256-clause-is c =
     (c.copy_from_slice-else-size-lt256-3.ensures.after ∙ c.two_digits-else-size-lt256.ensures)
     (c.copy_from_slice-else-size-lt256-4.ensures.after ∙ c.two_digits-else-size-lt256-2.ensures)
     c.copy_from_slice-else-size-lt256-5.ensures.after
-
-pub returns-then-size-lt256-clause-text : goal.returns-then-size-lt256-clause-text
-returns-then-size-lt256-clause-text c =
-    short-pieces-text (length c.args.text.now) c.args.block.now.name c.args.block.now.content.now _ _ _
-    c.requires.size c.if-size-lt256.true c.copy_from_slice.ensures.after
-    (c.copy_from_slice-then-size-lt256.ensures.after ∙ c.two_digits.ensures)
-    c.copy_from_slice-then-size-lt256-2.ensures.after
 
 pub returns-else-size-lt256-clause-text : goal.returns-else-size-lt256-clause-text
 returns-else-size-lt256-clause-text c =

@@ -2,7 +2,7 @@ use Rattle.std.proofs.Common.{ℕ, ◌+◌, ◌-◌, ◌≤◌, List, length, ta
 use Rattle.des_key_blocks.specs.OptionalBlocks.{AreOptionalBlocks, blocks_text, size_of_all}
 use Rattle.des_key_blocks.proofs.OptionalBlockSizes.{no_block, pairs_of, size-within, size-more, size_of-least, size-filled_least, all-pairs}
 use Rattle.des_key_blocks.proofs.OptionalBlockWrites.{are-step, are-filled, eight-zeros, last-fits, last-size}
-use Rattle.des_key_blocks.proofs.WrittenTexts.{text-step, text-filled, text-whole}
+use Rattle.des_key_blocks.proofs.WrittenTexts.{text-step, text-filled}
 use Rattle.des_key_blocks.proofs.optional_blocks.write_blocks.Goals as goal
 
 pub loop-block-init : goal.loop-block-init
@@ -97,10 +97,3 @@ returns-then-at-ne0-clause-text c =
     text-filled (pairs_of c.args.blocks.now) at (length text - at) text _ c.write_block-then-at-ne0.new.text all
     c.if-at-ne0.true (omega arith) (search rules) (eight-zeros at c.zeros_after.result c.zeros_after.ensures)
     (c.loop-block.invariant.text ∙ ap blocks_text front) c.write_block-then-at-ne0.ensures.text
-
-pub returns-else-at-ne0-clause-text : goal.returns-else-at-ne0-clause-text
-returns-else-at-ne0-clause-text c =
-    let front = all-pairs c.args.blocks.now c.loop-block.block-index c.loop-block-test.false in
-    let all = c.loop-block.invariant.so_far ∙ ap size_of_all front in
-    text-whole (pairs_of c.args.blocks.now) c.loop-block.at c.loop-block.text all c.if-at-ne0.false
-    (c.loop-block.auto.text ∙ c.requires.size) (c.loop-block.invariant.text ∙ ap blocks_text front)

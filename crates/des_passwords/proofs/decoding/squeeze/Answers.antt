@@ -1,5 +1,4 @@
 use Rattle.std.proofs.Common.{◌∙◌, ◌<◌, length, sym, arith}
-use Rattle.std.proofs.lemmas.List.{take_all}
 use Rattle.des_passwords.proofs.DecodedTexts.{squeezed_begins, squeezed_none, squeezed_more}
 use Rattle.des_passwords.proofs.decoding.squeeze.Goals as goal
 use Rattle.des_passwords.proofs.decoding.squeeze.Goals.{in-Some, in_default}
@@ -17,9 +16,3 @@ bytes-preserved g c =
       | in_default w ↦ rw (w.text-is, w.kept-is, c.after.ensures)
           (squeezed_none _ _ _ _ _ _ _ _ c.bytes.invariant within (sym c.given.ensures ∙ w.in_default.is))
     ]
-
-pub returns-clause-given : goal.returns-clause-given
-returns-clause-given g c = rw (← take_all c.bytes.at c.args.text.now (omega (arith, c.bytes-test.false))) c.bytes.invariant.front
-
-pub returns-clause-position : goal.returns-clause-position
-returns-clause-position g c = rw (← take_all c.bytes.at c.args.text.now (omega (arith, c.bytes-test.false))) c.bytes.invariant.position_is

@@ -1,4 +1,4 @@
-use Rattle.std.proofs.Common.{◌≡◌, ◌∙◌, sym, ap, subst, ℕ, ◌-◌, List, [], ◌++◌, bit_xor, arith}
+use Rattle.std.proofs.Common.{◌∙◌, sym, ap, subst, ℕ, ◌-◌, List, [], ◌++◌, bit_xor, arith}
 use Rattle.std.specs.Int.{w32, to_be_bytes}
 use Rattle.std.specs.Simd.Lanes.{zip2}
 use Rattle.des_passwords.specs.Hmac.{hmac, IsHmacOf}
@@ -49,9 +49,3 @@ steps-preserved g c =
     }
 
 -- as many as there are iterations
-pub returns-clause-block : goal.returns-clause-block
-returns-clause-block g c key is =
-    let digest = g.H.HashFunction.digest in
-    let all : c.steps.counter - 1 ≡ c.args.iterations - 1 = omega (arith, c.steps-test.false) in
-    c.steps.invariant.answer key is
-    ∙ ap (xor_of (hmac digest key) (c.args.salt.now ++ to_be_bytes w32 c.args.index)) all

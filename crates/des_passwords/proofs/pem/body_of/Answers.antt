@@ -1,5 +1,5 @@
 use Rattle.std.proofs.Common.{◌∙◌, sym, subst, List, ℕ, [], arith}
-use Rattle.des_passwords.proofs.LinesOfPem.{IsBodySoFar, body_begins, body_cut, body_goes_on, body_read, body_wrong, front_is}
+use Rattle.des_passwords.proofs.LinesOfPem.{IsBodySoFar, body_begins, body_goes_on, front_is}
 use Rattle.des_passwords.proofs.pem.body_of.Goals as goal
 
 pub lines-init : goal.lines-init
@@ -24,20 +24,5 @@ lines-preserved c = record {
 }
 
 -- the last line
-pub returns-then-is_line-clause-read : goal.returns-then-is_line-clause-read
-returns-then-is_line-clause-read c =
-    body_read c.args.last.now c.args.text.now c.in-Some.line.now c.lines.rest.now c.in-Some.after.now
-    c.lines.invariant.so_far
-    c.in-Some.ensures.lines (sym c.starts_with.ensures.value ∙ c.if-starts_with.true) (sym c.is_line.ensures ∙ c.if-is_line.true)
-
 -- another line with hyphens
-pub returns-then-starts_with-clause-read : goal.returns-then-starts_with-clause-read
-returns-then-starts_with-clause-read c =
-    body_wrong c.args.last.now c.args.text.now c.in-Some.line.now c.lines.rest.now c.in-Some.after.now
-    c.lines.invariant.so_far
-    c.in-Some.ensures.lines (sym c.starts_with.ensures.value ∙ c.if-starts_with.true) (sym c.is_line.ensures ∙ c.if-is_line.false)
-
 -- no line is left
-pub returns-clause-read : goal.returns-clause-read
-returns-clause-read c =
-    body_cut c.args.last.now c.args.text.now c.lines.rest.now c.lines.invariant.so_far c.in_default.ensures.lines

@@ -1,4 +1,4 @@
-use Rattle.std.proofs.Common.{rules, ℕ, suc, ◌≡◌, ◌+◌, ◌-◌, ◌*◌, ◌∙◌, ◌++◌, List, length, append-nil, append_assoc, ap, sym, subst, arith}
+use Rattle.std.proofs.Common.{rules, ℕ, suc, ◌≡◌, ◌+◌, ◌-◌, ◌*◌, ◌∙◌, ◌++◌, List, length, append_assoc, ap, sym, subst, arith}
 use Rattle.des_passwords.specs.Pkcs12.{copies, raised_by}
 use Rattle.des_passwords.proofs.BlocksOfTexts.{raised_copies, raised_more}
 use Rattle.des_passwords.proofs.pkcs12.add_blocks.Goals as goal
@@ -33,16 +33,3 @@ steps-preserved g c =
                 ∙ before.2,
           );
     }
-
-pub returns : goal.returns
-returns g c = λ m holds.
-    let text : List ℕ = g.T.Blocks.text c.args.text.now in
-    let all = c.steps.invariant.added m holds in
-    let none : c.count-count.result - c.steps.counter ≡ 0 = omega (arith, c.steps-test.false) in
-    let made : all.0 ≡ raised_copies c.args.b text (g.T.Blocks.left c.args.text.now) c.count-count.result =
-    sym (append-nil all.0)
-    ∙ ap (λ n. all.0 ++ raised_copies c.args.b text (g.T.Blocks.left c.steps.text) n) (sym none)
-    ∙ all.2 in
-    subst (λ (l : List ℕ). g.H.HashFunction.holds c.steps.hash (m ++ l))
-    (made ∙ ap (raised_copies c.args.b text (g.T.Blocks.left c.args.text.now)) c.count-count.ensures)
-    all.1

@@ -32,9 +32,3 @@ places-preserved c =
           (c.places.invariant.bytes ∙ ap (λ j. take j xs ++ bytes_of k (sum_from xs ys j)) before)
           ∙ ap (λ n. take i xs ++ bytes_of n (sum_from xs ys i)) more;
     }
-
-pub returns : goal.returns
-returns c =
-    let done : c.places.i ≡ 0 = omega (arith, c.places-test.false) in
-    c.places.invariant.bytes
-    ∙ ap (λ j. take j c.args.block.now ++ bytes_of (64 - j) (sum_from c.args.block.now c.args.b.now j)) done

@@ -1,6 +1,5 @@
-use Rattle.std.proofs.Common.{ℕ, ◌<◌, List, take, sym, ap, ◌∙◌, subst}
+use Rattle.std.proofs.Common.{ℕ, ◌<◌, sym, subst}
 use Rattle.std.proofs.lemmas.List.Elements.{All-take}
-use Rattle.des_payment.specs.Digits.{bytes_of}
 use Rattle.des_payment.proofs.FieldDigits.{AreDigits, AreDigits-values}
 use Rattle.des_payment.proofs.card_verification.first_block.Goals as goal
 
@@ -9,6 +8,3 @@ pub block_of-requires-clause-digits : goal.block_of-requires-clause-digits
 block_of-requires-clause-digits c =
     All-take (λ (digit : ℕ). digit < 16) 16 c.to_values.new.text
     (subst AreDigits (sym c.to_values.ensures) (AreDigits-values c.args.text.now c.requires))
-
-pub returns : goal.returns
-returns c = c.block_of.ensures.bytes ∙ ap (λ (xs : List ℕ). bytes_of (take 16 xs)) c.to_values.ensures

@@ -1,13 +1,7 @@
-use Rattle.std.proofs.Common.{ℕ, take, subst, sym, ap, ◌∙◌, arith}
+use Rattle.std.proofs.Common.{ℕ, take, subst, sym, ap, ◌∙◌}
 use Rattle.des_payment.proofs.FieldDigits.{AreDigits, AreDigits-values}
 use Rattle.des_payment.proofs.PinFields.{pin_field-made}
 use Rattle.des_payment.proofs.fields.pin_field.Goals as goal
-
-pub filled-requires-clause-at_least : goal.filled-requires-clause-at_least
-filled-requires-clause-at_least c = omega (arith, c.count-count.ensures.count, c.count-count.ensures.is_pin.0)
-
-pub filled-requires-clause-at_most : goal.filled-requires-clause-at_most
-filled-requires-clause-at_most c = omega (arith, c.count-count.ensures.count, c.count-count.ensures.is_pin.1)
 
 -- its values are of digits
 pub filled-requires-clause-values : goal.filled-requires-clause-values

@@ -1,10 +1,6 @@
 use Rattle.std.proofs.Common.{◌∙◌}
-use Rattle.des_payment.proofs.PickedDigits.{picked-few, picked-taken, picked-decimal, picked-text}
+use Rattle.des_payment.proofs.PickedDigits.{picked-taken, picked-decimal, picked-text}
 use Rattle.des_payment.proofs.fields.pin_or_zeros.Goals as goal
-
-pub first_or_zeros-requires-clause-count : goal.first_or_zeros-requires-clause-count
-first_or_zeros-requires-clause-count c =
-    picked-few c.args.is_right c.args.field.now c.chosen-taken.result c.chosen-taken.ensures c.requires.at_most
 
 pub of_first-requires-clause-digits : goal.of_first-requires-clause-digits
 of_first-requires-clause-digits c =

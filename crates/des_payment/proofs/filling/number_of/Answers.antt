@@ -1,10 +1,6 @@
-use Rattle.std.proofs.Common.{◌≡◌, ℕ, ◌+◌, ◌*◌, ◌%◌, ◌^◌, ◌<◌, length, get_or, refl, subst, arith, rules}
-use Rattle.des_payment.specs.Digits.{digit_in}
+use Rattle.std.proofs.Common.{ℕ, ◌+◌, ◌*◌, ◌%◌, ◌^◌, ◌<◌, get_or, refl, arith, rules}
 use Rattle.des_payment.proofs.FillPlaces.{digits-more, within-more, fits}
 use Rattle.des_payment.proofs.filling.number_of.Goals as goal
-
-pub loop-digit-init : goal.loop-digit-init
-loop-digit-init c = record { few = omega arith; small = omega arith; digits = λ i within. absurd (omega arith) }
 
 pub overflow_mul-number : goal.overflow_mul-number
 overflow_mul-number c =
@@ -34,16 +30,3 @@ loop-digit-preserved c =
       small = within-more c.loop-digit.number digit m small c.loop-digit.invariant.small;
       digits = digits-more c.args.digits.now c.loop-digit.number digit m small refl c.loop-digit.invariant.digits;
     }
-
-pub returns-clause-small : goal.returns-clause-small
-returns-clause-small c =
-    let all : c.loop-digit.digit-index ≡ length c.args.digits.now =
-    omega (arith, c.loop-digit.invariant.few, c.loop-digit-test.false) in
-    subst (λ (m : ℕ). c.loop-digit.number < 2 ^ (4 * m)) all c.loop-digit.invariant.small
-
-pub returns-clause-digits : goal.returns-clause-digits
-returns-clause-digits c = λ i within.
-    let all : c.loop-digit.digit-index ≡ length c.args.digits.now =
-    omega (arith, c.loop-digit.invariant.few, c.loop-digit-test.false) in
-    subst (λ (m : ℕ). i < m → digit_in c.loop-digit.number m i ≡ get_or c.args.digits.now i 0 % 16) all
-    (c.loop-digit.invariant.digits i) within

@@ -1,12 +1,9 @@
 use Rattle.std.proofs.Common.{ℕ, List, replicate, refl, sym, ap₂, ◌∙◌, subst, lit<}
 use Rattle.des.specs.Cbc.{xor_blocks}
 use Rattle.des_payment.specs.PinBlocks.{pin_field, account_field, IsFormat0}
-use Rattle.des_payment.proofs.FieldDigits.{AreDigits, AreDigits-fill, AreDigits-fields}
+use Rattle.des_payment.proofs.FieldDigits.{AreDigits, AreDigits-fields}
 use Rattle.des_payment.proofs.Decoding.{IsTheOne-digits}
 use Rattle.des_payment.proofs.pin_blocks.encode_format_0.Goals as goal
-
-pub pin_field-requires : goal.pin_field-requires
-pin_field-requires c = AreDigits-fill 15 (replicate 10 15) (refl, refl)
 
 pub block_of-requires-clause-digits : goal.block_of-requires-clause-digits
 block_of-requires-clause-digits c =

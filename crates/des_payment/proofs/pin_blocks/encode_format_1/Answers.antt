@@ -1,11 +1,8 @@
 use Rattle.std.proofs.Common.{ℕ, List, ◌∙◌, sym, subst, lit<}
 use Rattle.des_payment.specs.PinBlocks.{pin_field, AreFill, IsFormat1}
-use Rattle.des_payment.proofs.FieldDigits.{AreDigits, AreDigits-fill, AreDigits-pin_field}
+use Rattle.des_payment.proofs.FieldDigits.{AreDigits, AreDigits-pin_field}
 use Rattle.des_payment.proofs.Decoding.{IsTheOne-digits}
 use Rattle.des_payment.proofs.pin_blocks.encode_format_1.Goals as goal
-
-pub pin_field-requires : goal.pin_field-requires
-pin_field-requires c = AreDigits-fill 0 c.args.transaction.now (c.told-transaction, sym c.if-not-are_fill.ensures)
 
 pub block_of-requires-clause-digits : goal.block_of-requires-clause-digits
 block_of-requires-clause-digits c =

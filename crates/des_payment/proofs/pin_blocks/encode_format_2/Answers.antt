@@ -1,11 +1,8 @@
 use Rattle.std.proofs.Common.{ℕ, List, replicate, refl, ◌∙◌, sym, subst, lit<}
 use Rattle.des_payment.specs.PinBlocks.{pin_field, IsFormat2}
-use Rattle.des_payment.proofs.FieldDigits.{AreDigits, AreDigits-fill, AreDigits-pin_field}
+use Rattle.des_payment.proofs.FieldDigits.{AreDigits, AreDigits-pin_field}
 use Rattle.des_payment.proofs.Decoding.{IsTheOne-digits}
 use Rattle.des_payment.proofs.pin_blocks.encode_format_2.Goals as goal
-
-pub pin_field-requires : goal.pin_field-requires
-pin_field-requires c = AreDigits-fill 15 (replicate 10 15) (refl, refl)
 
 pub block_of-requires-clause-digits : goal.block_of-requires-clause-digits
 block_of-requires-clause-digits c =

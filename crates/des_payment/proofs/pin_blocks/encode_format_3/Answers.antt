@@ -1,12 +1,9 @@
 use Rattle.std.proofs.Common.{ℕ, List, sym, ap₂, ◌∙◌, subst, lit<}
 use Rattle.des.specs.Cbc.{xor_blocks}
 use Rattle.des_payment.specs.PinBlocks.{pin_field, account_field, AreFill, IsFormat3}
-use Rattle.des_payment.proofs.FieldDigits.{AreDigits, AreDigits-fill, AreDigits-fields}
+use Rattle.des_payment.proofs.FieldDigits.{AreDigits, AreDigits-fields}
 use Rattle.des_payment.proofs.Decoding.{IsTheOne-digits}
 use Rattle.des_payment.proofs.pin_blocks.encode_format_3.Goals as goal
-
-pub pin_field-requires : goal.pin_field-requires
-pin_field-requires c = AreDigits-fill 10 c.args.fill.now (c.told-fill, sym c.if-not-are_fill.ensures)
 
 pub block_of-requires-clause-digits : goal.block_of-requires-clause-digits
 block_of-requires-clause-digits c =

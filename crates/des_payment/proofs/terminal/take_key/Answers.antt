@@ -1,9 +1,7 @@
 -- The key is that of the register; the registers of the places below are written from it, those above stay.
-use Rattle.std.proofs.Common.{ℕ, List, [], ◌∙◌, ap, arith}
+use Rattle.std.proofs.Common.{ℕ, List, [], ◌∙◌, arith}
 use Rattle.std.proofs.lemmas.List.{get_or-set_other}
-use Rattle.des_fast.specs.Transposition.{block_at}
 use Rattle.des_payment.proofs.FutureTaken.{taken, kept}
-use Rattle.des_payment.proofs.RegistersAfter.{registers-made, registers-left}
 use Rattle.des_payment.proofs.terminal.take_key.Goals as goal
 
 pub returns-then-counter-lt-MOST_ONES-clause-taken : goal.returns-then-counter-lt-MOST_ONES-clause-taken
@@ -36,20 +34,3 @@ returns-else-counter-lt-MOST_ONES-clause-future c initial usable has =
     (taken c.args.last p place.inside place.one place.below initial keys usable has)
     (λ k below few. absurd (omega (arith, few, c.if-counter-lt-MOST_ONES.false)))
     (λ k above. get_or-set_other keys p k _ [] (omega (arith, above)))
-
-pub returns-then-counter-lt-MOST_ONES-clause-key : goal.returns-then-counter-lt-MOST_ONES-clause-key
-returns-then-counter-lt-MOST_ONES-clause-key c = ap (block_at c.args.keys.now) c.lowest_one-place.ensures.place
-
-pub returns-else-counter-lt-MOST_ONES-clause-key : goal.returns-else-counter-lt-MOST_ONES-clause-key
-returns-else-counter-lt-MOST_ONES-clause-key c = ap (block_at c.args.keys.now) c.lowest_one-place.ensures.place
-
-pub returns-then-counter-lt-MOST_ONES-clause-registers : goal.returns-then-counter-lt-MOST_ONES-clause-registers
-returns-then-counter-lt-MOST_ONES-clause-registers c =
-    let place = c.lowest_one-place.ensures in
-    registers-made c.args.last c.lowest_one-place.result c.args.keys.now place.place (omega arith) c.write_below.new.keys
-    (omega arith) c.write_below.ensures.written c.write_below.ensures.kept
-
-pub returns-else-counter-lt-MOST_ONES-clause-registers : goal.returns-else-counter-lt-MOST_ONES-clause-registers
-returns-else-counter-lt-MOST_ONES-clause-registers c =
-    let place = c.lowest_one-place.ensures in
-    registers-left c.args.last c.lowest_one-place.result c.args.keys.now place.place (omega arith) (omega arith)

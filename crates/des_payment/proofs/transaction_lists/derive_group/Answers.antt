@@ -3,14 +3,8 @@ use Rattle.std.proofs.Common.{◌≡◌, ℕ, suc, ◌-◌, List, [], get_or, sy
 use Rattle.des_fast.proofs.ZippedParts.{zipped-at}
 use Rattle.des_payment.specs.Dukpt.{transaction_key, derived, ones_below, counter_of, last_bytes}
 use Rattle.des_payment.proofs.Derivations.{derived-end}
-use Rattle.des_payment.proofs.CounterPlaces.{cleared, cleared-register, derived-place}
+use Rattle.des_payment.proofs.CounterPlaces.{cleared, derived-place}
 use Rattle.des_payment.proofs.transaction_lists.derive_group.Goals as goal
-
-pub places-init : goal.places-init
-places-init g c k below =
-    let serial : List ℕ = get_or c.args.serials.now k [] in
-    ap (λ (register : ℕ). derived (ones_below 21 (counter_of serial)) register (get_or c.args.keys.now k []))
-    (cleared-register (last_bytes serial))
 
 pub places-preserved : goal.places-preserved
 places-preserved g c k below =

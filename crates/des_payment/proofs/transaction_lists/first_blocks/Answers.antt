@@ -13,6 +13,3 @@ lanes-preserved c =
       count = length-set c.lanes.first k _ ∙ c.lanes.invariant.count;
       written = written_below Holds c.lanes.first k c.first_bytes.result [] (omega arith) c.lanes.invariant.written here;
     }
-
-pub returns : goal.returns
-returns c k below = c.lanes.invariant.written k (omega arith)

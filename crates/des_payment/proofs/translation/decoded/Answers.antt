@@ -3,9 +3,6 @@ use Rattle.des.proofs.ByteArrays.{IsBlock-array}
 use Rattle.des_payment.proofs.Decoding.{decodes-format_0, decodes-format_1, decodes-format_2, decodes-format_3}
 use Rattle.des_payment.proofs.translation.decoded.Goals as goal
 
-pub returns-in-Format0-clause-right : goal.returns-in-Format0-clause-right
-returns-in-Format0-clause-right c = rw (c.in-Format0.is, ← c.unbound.ensures) c.read_or_zeros.ensures.right
-
 pub returns-in-Format0-clause-pin : goal.returns-in-Format0-clause-pin
 returns-in-Format0-clause-pin c = λ right.
     rw c.in-Format0.is (
@@ -14,17 +11,11 @@ returns-in-Format0-clause-pin c = λ right.
           c.unbound.ensures (Ok c.read_or_zeros.result.1) (sym (c.read_or_zeros.ensures.right.0 right), c.read_or_zeros.ensures.pin right) _).0 refl,
     )
 
-pub returns-in-Format1-clause-right : goal.returns-in-Format1-clause-right
-returns-in-Format1-clause-right c = rw (c.in-Format1.is, ← c.digits_of.ensures) c.read_or_zeros-in-Format1.ensures.right
-
 pub returns-in-Format1-clause-pin : goal.returns-in-Format1-clause-pin
 returns-in-Format1-clause-pin c = λ right.
     rw c.in-Format1.is
     ((decodes-format_1 c.args.block.now c.digits_of.result (IsBlock-array c.args.block.now c.told-block c.fits-block)
     c.digits_of.ensures (Ok c.read_or_zeros-in-Format1.result.1) (sym (c.read_or_zeros-in-Format1.ensures.right.0 right), c.read_or_zeros-in-Format1.ensures.pin right) _).0 refl)
-
-pub returns-in-Format2-clause-right : goal.returns-in-Format2-clause-right
-returns-in-Format2-clause-right c = rw (c.in-Format2.is, ← c.digits_of-in-Format2.ensures) c.read_or_zeros-in-Format2.ensures.right
 
 pub returns-in-Format2-clause-pin : goal.returns-in-Format2-clause-pin
 returns-in-Format2-clause-pin c = λ right.
@@ -33,9 +24,6 @@ returns-in-Format2-clause-pin c = λ right.
       (decodes-format_2 c.args.block.now c.digits_of-in-Format2.result (IsBlock-array c.args.block.now c.told-block c.fits-block)
           c.digits_of-in-Format2.ensures (Ok c.read_or_zeros-in-Format2.result.1) (sym (c.read_or_zeros-in-Format2.ensures.right.0 right), c.read_or_zeros-in-Format2.ensures.pin right) _).0 refl,
     )
-
-pub returns-in-Format3-clause-right : goal.returns-in-Format3-clause-right
-returns-in-Format3-clause-right c = rw (c.in-Format3.is, ← c.unbound-in-Format3.ensures) c.read_or_zeros-in-Format3.ensures.right
 
 pub returns-in-Format3-clause-pin : goal.returns-in-Format3-clause-pin
 returns-in-Format3-clause-pin c = λ right.
