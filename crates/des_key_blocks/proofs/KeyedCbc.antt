@@ -1,11 +1,9 @@
 -- What a key makes by CBC of a list of blocks that a cipher of it has encrypted, and a message of whole blocks.
-use Rattle.std.proofs.Common.{◌≡◌, ℕ, ◌-◌, ◌*◌, ◌%◌, ◌≤◌, List, ◌++◌, length, replicate, sym, ap, ◌∙◌, arith}
-use Rattle.std.proofs.lemmas.List.{append-nil}
+use Rattle.std.proofs.Common.{◌≡◌, ℕ, ◌-◌, List, sym, ◌∙◌}
 use Rattle.des.specs.Blocks.{IsBlock}
 use Rattle.des.specs.Cbc.{CbcUnder, Cbc}
 use Rattle.des.specs.Relations.{TakesBlock}
 use Rattle.des.proofs.ChainedBlocks.{CbcUnder-weaker}
-use Rattle.des_mac.specs.Padding.{block_count, zeros_after, padded}
 
 -- the cipher encrypts blocks as the key does
 pub Cbc-by_key : (encrypts by_key : List ℕ → List ℕ) (iv : List ℕ) (p q : List (List ℕ))
@@ -15,8 +13,3 @@ Cbc-by_key encrypts by_key iv p q alike chained =
     CbcUnder-weaker (TakesBlock encrypts) (λ block encrypted. encrypted ≡ by_key block) iv p q
     (λ x y taken. sym taken.1 ∙ alike x taken.0) chained
 
--- whole blocks are not padded by method 1
-pub padded-whole : (m : List ℕ) → length m % 8 ≡ 0 → 8 ≤ length m → padded zeros_after m ≡ m
-padded-whole m whole some =
-    let none : block_count (length m) * 8 - length m ≡ 0 = omega arith in
-    ap (λ n. m ++ replicate n 0) none ∙ append-nil m

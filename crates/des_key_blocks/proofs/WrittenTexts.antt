@@ -1,52 +1,29 @@
 -- The text of optional blocks as they are written: one block more, and the block that fills them.
-use Rattle.std.proofs.Common.{◌≡◌, ◌≢◌, ℕ, ◌+◌, ◌/◌, ◌%◌, ◌<◌, ◌≤◌, true, false, List, [], ◌∷◌, ◌++◌, length, take, get_or, codes, sym, ap, ap₂, ◌∙◌, arith}
+use Rattle.std.proofs.Common.{◌≡◌, ◌≢◌, ℕ, ◌+◌, ◌/◌, ◌%◌, ◌<◌, ◌≤◌, false, List, [], ◌∷◌, ◌++◌, length, take, get_or, codes, sym, ap, ap₂, ◌∙◌, arith}
 use Rattle.std.specs.Prelude.{nat_lt, if◌then◌else◌}
-use Rattle.std.proofs.lemmas.Bool.{lt-ltb}
 use Rattle.std.proofs.lemmas.Bool.Decides.{nat_tests}
 use Rattle.std.proofs.lemmas.Grind.{flat_map-append}
-use Rattle.std.proofs.lemmas.List.{append-nil, take_all}
+use Rattle.std.proofs.lemmas.List.{append-nil}
 use Rattle.std.proofs.lemmas.Slice.{take-put_mid}
 use borrow.Rule.Slice.PartMut.{put_mid}
 use Rattle.des_key_blocks.specs.Hex.{hex_number}
-use Rattle.des_key_blocks.specs.OptionalBlocks.{short_block, long_block, block_text, blocks_text, size_of, size_of_all, filling, filled}
+use Rattle.des_key_blocks.specs.OptionalBlocks.{short_block, long_block, block_text, blocks_text, size_of, size_of_all, filled}
 use Rattle.des_key_blocks.specs.declared.optional_blocks.OptionalBlock.{OptionalBlock}
-use Rattle.des_key_blocks.proofs.FilledBlocks.{filling-none}
-use Rattle.des_key_blocks.proofs.OptionalBlockSizes.{pair_of, pairs_of, more-pairs, zeros_for, filling-one, size_of-short, size_of-long}
+use Rattle.des_key_blocks.proofs.OptionalBlockSizes.{pair_of, pairs_of, more-pairs, zeros_for, filling-one, size_of-long}
 use Rattle.des_key_blocks.proofs.OptionalBlockTexts.{long-written}
 use Rattle.des_key_blocks.proofs.OptionalBlockWrites.{put-end}
 
 -- ---- one block
 
-short-size : (content : List ℕ) → size_of content < 256 → length content + 4 < 256
-short-size content short = grind (arith, nat_tests)
-
 long-size : (content : List ℕ) → 256 ≤ size_of content → 256 ≤ length content + 4
 long-size content long = grind (arith, nat_tests)
-
-is-short : (content : List ℕ) → length content + 4 < 256 → nat_lt (length content + 4) 256 ≡ true
-is-short content short = lt-ltb (length content + 4) 256 short
 
 is-long : (content : List ℕ) → 256 ≤ length content + 4 → nat_lt (length content + 4) 256 ≡ false
 is-long content long = grind (arith, nat_tests)
 
-text-short : (name content : List ℕ) → length content + 4 < 256 → block_text (name, content) ≡ short_block name content
-text-short name content short =
-    ap (λ b. if b then short_block name content else long_block 2 name content) (is-short content short)
-
 text-long : (name content : List ℕ) → 256 ≤ length content + 4 → block_text (name, content) ≡ long_block 2 name content
 text-long name content long =
     ap (λ b. if b then short_block name content else long_block 2 name content) (is-long content long)
-
--- its pieces
-pub short-pieces-text : (size : ℕ) (name content first number last : List ℕ) → size ≡ size_of content → size < 256
-    → first ≡ name → number ≡ hex_number 2 size → last ≡ content
-    → first ++ (number ++ last) ≡ block_text (name, content)
-short-pieces-text size name content first number last is_size short named is_number same =
-    let below : length content + 4 < 256 = short-size content (omega arith) in
-    let count : size ≡ length content + 4 = is_size ∙ size_of-short content below in
-    ap₂ (λ (front back : List ℕ). front ++ back) named
-    (ap₂ (λ (front back : List ℕ). front ++ back) (is_number ∙ ap (hex_number 2) count) same)
-    ∙ sym (text-short name content below)
 
 pub long-pieces-text : (size : ℕ) (name content first zeros unit high low last : List ℕ) → size ≡ size_of content
     → 256 ≤ size → first ≡ name → zeros ≡ codes "00" → unit ≡ codes "02"
@@ -93,13 +70,3 @@ text-filled blocks at n text content last is_at part all count zeros so_far is =
     ∙ sym (blocks_text-more blocks (codes "PB", zeros_for size))
     ∙ ap (λ (fill : List (List ℕ × List ℕ)). blocks_text (blocks ++ fill)) (sym needed)
 
--- and if none is
-pub text-whole : (blocks : List (List ℕ × List ℕ)) (at : ℕ) (text : List ℕ) → at ≡ size_of_all blocks → at % 8 ≡ 0
-    → length text ≡ size_of_all (filled blocks) → take at text ≡ blocks_text blocks
-    → text ≡ blocks_text (filled blocks)
-text-whole blocks at text is_at whole all so_far =
-    let none : filling (size_of_all blocks) ≡ [] = filling-none (size_of_all blocks) (ap (λ n. n % 8) (sym is_at) ∙ whole) in
-    let same : filled blocks ≡ blocks =
-    ap (λ (fill : List (List ℕ × List ℕ)). blocks ++ fill) none ∙ append-nil blocks in
-    let count : length text ≤ at = omega (arith, ap size_of_all same) in
-    sym (take_all at text count) ∙ so_far ∙ ap blocks_text (sym same)

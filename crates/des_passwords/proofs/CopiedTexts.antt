@@ -1,8 +1,7 @@
 -- Copies of a text, one after another.
-use Rattle.std.proofs.Common.{◌≡◌, refl, ap, sym, ◌∙◌, ℕ, zero, suc, ◌+◌, ◌-◌, ◌*◌, ◌/◌, ◌%◌, ◌<◌, List, [], ◌∷◌, ◌++◌, length, take, drop, slice_index_or, slice_set, append_assoc, arith}
-use Rattle.std.proofs.lemmas.List.{take_all, take_more_set}
+use Rattle.std.proofs.Common.{◌≡◌, refl, ap, sym, ◌∙◌, ℕ, zero, suc, ◌+◌, ◌-◌, ◌*◌, ◌/◌, ◌<◌, List, [], ◌∷◌, ◌++◌, length, take, drop, slice_index_or, arith}
+use Rattle.std.proofs.lemmas.List.{take_all}
 use Rattle.std.specs.List.{flat_map}
-use Rattle.hex.proofs.Pairs.{take-two_writes}
 use Rattle.des_passwords.specs.Pkcs12.{big_endian, copies, in_blocks}
 
 -- if nothing is left of a copy, the next begins
@@ -39,24 +38,6 @@ length-in_blocks (byte ∷ text) =
 
 -- ---- a block, byte by byte
 
-pub byte_more : (text start rest next block : List ℕ) (i n byte : ℕ) → i < length block
-    → copies text start (i + suc n) ≡ take i block ++ copies text rest (suc n)
-    → copies text rest (suc n) ≡ byte ∷ copies text next n
-    → copies text start (i + 1 + n) ≡ take (i + 1) (slice_set block i byte) ++ copies text next n
-byte_more text start rest next block i n byte within before step =
-    let place : i + 1 + n ≡ i + suc n = omega arith in
-    ap (copies text start) place ∙ before ∙ ap (λ (l : List ℕ). take i block ++ l) step
-    ∙ sym (ap (λ (l : List ℕ). l ++ copies text next n) (take_more_set block i byte within)
-    ∙ append_assoc (take i block) (byte ∷ []) (copies text next n))
-
-pub block_done : (text start rest block : List ℕ) (i : ℕ) → length block ≡ 64 → i ≡ 64
-    → ((n : ℕ) → copies text start (i + n) ≡ take i block ++ copies text rest n)
-    → (n : ℕ) → copies text start (64 * suc n) ≡ block ++ copies text rest (64 * n)
-block_done text start rest block i size done all n =
-    let count : 64 * suc n ≡ i + 64 * n = omega (arith, done) in
-    ap (copies text start) count ∙ all (64 * n)
-    ∙ ap (λ (l : List ℕ). l ++ copies text rest (64 * n)) (take_all i block (omega (arith, size, done)))
-
 -- ---- a block, unit by unit
 
 pub length-big_endian : (units : List ℕ) → length (flat_map big_endian units) ≡ 2 * length units
@@ -76,24 +57,6 @@ copies-big_endian (unit ∷ text) [] (suc n) some =
     let count : 2 * suc n ≡ suc (suc (2 * n)) = omega arith in
     ap (copies (flat_map big_endian (unit ∷ text)) []) count
     ∙ ap (λ (l : List ℕ). big_endian unit ++ l) (copies-big_endian (unit ∷ text) text n some)
-
-pub unit_more : (text start rest next block : List ℕ) (i n unit : ℕ) → length block ≡ 64 → i < 32
-    → flat_map big_endian (copies text start (i + suc n))
-    ≡ take (2 * i) block ++ flat_map big_endian (copies text rest (suc n))
-    → copies text rest (suc n) ≡ unit ∷ copies text next n
-    → flat_map big_endian (copies text start (i + 1 + n))
-    ≡ take (2 * (i + 1)) (slice_set (slice_set block (2 * i) (unit / 256)) (2 * i + 1) (unit % 256))
-    ++ flat_map big_endian (copies text next n)
-unit_more text start rest next block i n unit size within before step =
-    let place : i + 1 + n ≡ i + suc n = omega arith in
-    let end : 2 * (i + 1) ≡ 2 * i + 2 = omega arith in
-    let written = slice_set (slice_set block (2 * i) (unit / 256)) (2 * i + 1) (unit % 256) in
-    let others = flat_map big_endian (copies text next n) in
-    ap (λ m. flat_map big_endian (copies text start m)) place ∙ before
-    ∙ ap (λ (l : List ℕ). take (2 * i) block ++ flat_map big_endian l) step
-    ∙ sym (ap (λ m. take m written ++ others) end
-    ∙ ap (λ (l : List ℕ). l ++ others) (take-two_writes block (2 * i) (unit / 256) (unit % 256) (omega (arith, size, within)))
-    ∙ append_assoc (take (2 * i) block) (big_endian unit) others)
 
 pub units_done : (text start rest block : List ℕ) (i : ℕ) → 0 < length text → length block ≡ 64 → i ≡ 32
     → ((n : ℕ) → flat_map big_endian (copies text start (i + n))

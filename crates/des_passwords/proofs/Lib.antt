@@ -2,7 +2,6 @@ pub mod BlockKeys
 pub mod BlocksOfTexts
 pub mod CopiedTexts
 pub mod CountedDigests
-pub mod HeadersOfPem
 pub mod DerivedDigests
 pub mod DigitsOfText
 pub mod IteratedTags

@@ -1,20 +1,11 @@
 -- What one line more does to what lines have, and to the number of the line with a character; and what decoding gives.
-use Rattle.std.proofs.Common.{◌≡◌, ◌∙◌, ℕ, ◌+◌, ◌-◌, ◌<◌, ◌≤◌, List, ◌∷◌, ◌++◌, [], length, Result, Ok, Err, refl, sym, ap, append_assoc}
+use Rattle.std.proofs.Common.{◌≡◌, ◌∙◌, ℕ, ◌+◌, ◌-◌, ◌<◌, ◌≤◌, List, ◌∷◌, [], length, Result, Ok, Err, refl, sym, ap}
 use Rattle.std.proofs.lemmas.Bool.{lt-ltb, le-ltb}
 use Rattle.base64.specs.Engines.{standard}
 use Rattle.base64.specs.GeneralPurpose.{decode_of}
 use Rattle.base64.specs.declared.decode.DecodeError.{DecodeError}
 use Rattle.des_passwords.specs.Base64Lines.{bytes_in, characters_in, in_lines, line_at, place_of}
 use Rattle.des_passwords.specs.TextLines.{trimmed}
-
-pub one_line : (old more line all new : List ℕ) (lines rest : List (List ℕ)) → old ++ characters_in lines ≡ all
-    → lines ≡ line ∷ rest → more ≡ trimmed line → new ≡ old ++ more → new ++ characters_in rest ≡ all
-one_line old more line all new lines rest read is cut grown =
-    ap (λ (l : List ℕ). l ++ characters_in rest) grown
-    ∙ append_assoc old more (characters_in rest)
-    ∙ ap (λ (l : List ℕ). old ++ (l ++ characters_in rest)) cut
-    ∙ ap (λ (l : List (List ℕ)). old ++ characters_in l) (sym is)
-    ∙ read
 
 -- ---- the line with a character
 

@@ -1,30 +1,11 @@
--- Where a key in PEM begins, and the lines of its body.
-use Rattle.std.proofs.Common.{◌≡◌, ◌∙◌, ℕ, ◌+◌, ◌-◌, ◌<◌, true, false, List, [], ◌∷◌, ◌++◌, length, take, inl, inr, Option, Some, None, Result, Ok, Err, refl, sym, ap, subst, arith, append_assoc, length-append}
+-- The lines of the body of a key in PEM.
+use Rattle.std.proofs.Common.{◌≡◌, ◌∙◌, ℕ, ◌+◌, ◌-◌, ◌<◌, false, List, [], ◌∷◌, ◌++◌, length, take, inl, inr, Result, Ok, Err, refl, sym, ap, subst, arith, append_assoc, length-append}
 use Rattle.std.proofs.lemmas.Bool.{cases_lt}
 use Rattle.std.proofs.lemmas.List.{append-nil, nil_from_length, take_at}
-use Rattle.des_passwords.specs.Pem.{◌>>=◌, Start, body_of, is_boundary, label_of, start_of}
+use Rattle.des_passwords.specs.Pem.{◌>>=◌, body_of, is_boundary}
 use Rattle.des_passwords.specs.PemFaults.{Fault, End}
-use Rattle.des_passwords.specs.TextLines.{lines_of, is_line, IsLineBefore}
-use Rattle.des_passwords.specs.declared.pem.Label.{Label}
+use Rattle.des_passwords.specs.TextLines.{lines_of, IsLineBefore}
 use Rattle.des_passwords.proofs.LinesOfText.{lines_none}
-
--- ---- the first line of a key
-
-abbrev after_label : ℕ → List (List ℕ) → Option Label → Result Start Fault
-after_label n rest (Some label) = Ok (record { label = label; number = n + 1; rest = rest })
-after_label n rest None = start_of (n + 1) rest
-
-start_at : (n : ℕ) (line : List ℕ) (lines rest : List (List ℕ)) (found : Option Label) → lines ≡ line ∷ rest
-    → found ≡ label_of line → start_of n lines ≡ after_label n rest found
-unfolding start_of
-start_at n line lines rest found is told = ap (start_of n) is ∙ ap (after_label n rest) (sym told)
-
-pub next_start : (n : ℕ) (line : List ℕ) (lines rest : List (List ℕ)) (found : Option Label) → lines ≡ line ∷ rest
-    → found ≡ label_of line → found ≡ None → start_of n lines ≡ start_of (n + 1) rest
-next_start n line lines rest found is told none =
-    start_at n line lines rest found is told ∙ ap (after_label n rest) none
-
--- ---- the lines of the body
 
 abbrev ok : List (List ℕ) → Result (List (List ℕ)) Fault
 ok body = Ok body
@@ -69,16 +50,6 @@ pub within_body : (last line : List ℕ) (lines rest : List (List ℕ)) → line
     → body_of last lines ≡ behind (line ∷ []) (body_of last rest)
 unfolding body_of
 within_body last line lines rest is plain = ap (body_of last) is ∙ rw plain (told line (body_of last rest))
-
-pub body_ends : (last line : List ℕ) (lines rest : List (List ℕ)) → lines ≡ line ∷ rest → is_boundary line ≡ true
-    → is_line line last ≡ true → body_of last lines ≡ Ok []
-unfolding body_of
-body_ends last line lines rest is boundary same = ap (body_of last) is ∙ rw (boundary, same) refl
-
-pub body_differs : (last line : List ℕ) (lines rest : List (List ℕ)) → lines ≡ line ∷ rest → is_boundary line ≡ true
-    → is_line line last ≡ false → body_of last lines ≡ Err End
-unfolding body_of
-body_differs last line lines rest is boundary other = ap (body_of last) is ∙ rw (boundary, other) refl
 
 behind_both : (front more : List (List ℕ)) (r : Result (List (List ℕ)) Fault)
     → behind front (behind more r) ≡ behind (front ++ more) r
@@ -156,23 +127,3 @@ body_goes_on last text line rest next so_far shorter is plain before =
 
 -- ---- what is read at the last line
 
-pub body_read : (last text line rest next : List ℕ) → IsBodySoFar last text (front_of text rest) rest
-    → lines_of rest ≡ line ∷ lines_of next → is_boundary line ≡ true → is_line line last ≡ true
-    → body_of last (lines_of text) ≡ Ok (lines_of (front_of text rest))
-body_read last text line rest next so_far is boundary same =
-    so_far.read
-    ∙ ap (behind (lines_of (front_of text rest))) (body_ends last line (lines_of rest) (lines_of next) is boundary same)
-    ∙ ap ok (append-nil (lines_of (front_of text rest)))
-
-pub body_wrong : (last text line rest next : List ℕ) → IsBodySoFar last text (front_of text rest) rest
-    → lines_of rest ≡ line ∷ lines_of next → is_boundary line ≡ true → is_line line last ≡ false
-    → body_of last (lines_of text) ≡ Err End
-body_wrong last text line rest next so_far is boundary other =
-    so_far.read
-    ∙ ap (behind (lines_of (front_of text rest))) (body_differs last line (lines_of rest) (lines_of next) is boundary
-    other)
-
-pub body_cut : (last text rest : List ℕ) → IsBodySoFar last text (front_of text rest) rest → lines_of rest ≡ []
-    → body_of last (lines_of text) ≡ Err End
-body_cut last text rest so_far none =
-    so_far.read ∙ ap (behind (lines_of (front_of text rest))) (no_body last (lines_of rest) none)

@@ -22,7 +22,6 @@ pub mod PlaceNumbers
 pub mod FutureKeys
 pub mod FutureSteps
 pub mod FutureTaken
-pub mod RegistersAfter
 pub mod LowestOne
 pub mod NextTransaction
 pub mod RightmostDigits

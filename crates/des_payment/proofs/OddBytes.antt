@@ -1,5 +1,5 @@
 -- The byte with odd parity has the upper bits of a byte and an odd number of ones.
-use Rattle.std.proofs.Common.{◌≡◌, ℕ, ◌-◌, ◌/◌, ◌%◌, ◌==◌, refl, ap, ◌∙◌, bit_xor, count_ones, arith}
+use Rattle.std.proofs.Common.{◌≡◌, ℕ, ◌-◌, ◌/◌, ◌%◌, ◌==◌, refl, ◌∙◌, bit_xor, count_ones, arith}
 use Rattle.std.specs.Int.Bits.{xor_zero_r}
 use Rattle.std.proofs.lemmas.Bool.{cond_both, eqb-true, eqb-false}
 use Rattle.std.proofs.lemmas.Nat.{xor_shr}
@@ -17,12 +17,3 @@ odd-parts byte =
       count_ones-xor_one byte (omega (arith, eqb-false (count_ones byte % 2) 1 is_not)),
     ))
 
--- the lowest bit is turned if the number is even
-pub odd-by_xor : (byte : ℕ) → bit_xor byte (1 - count_ones byte % 2) ≡ odd byte
-odd-by_xor byte =
-    cond_both (count_ones byte % 2 == 1) byte (bit_xor byte 1)
-    (λ other. bit_xor byte (1 - count_ones byte % 2) ≡ other)
-    (λ is. ap (λ (ones : ℕ). bit_xor byte (1 - ones)) (eqb-true (count_ones byte % 2) 1 is) ∙ xor_zero_r byte)
-    (λ is_not.
-    let none : count_ones byte % 2 ≡ 0 = omega (arith, eqb-false (count_ones byte % 2) 1 is_not) in
-    ap (λ (ones : ℕ). bit_xor byte (1 - ones)) none)

@@ -66,12 +66,6 @@ small true field count k long is_count few digits =
     (picked-small field long (few refl) k (digits refl))
 small false field count k long is_count few digits = omega arith
 
--- they are those that are taken, all or none
-pub picked-few : (right : Bool) (field : List ℕ) (taken : ℕ) → taken ≡ (if right then slice_index field 1 else 0)
-    → (IsTrue right → slice_index field 1 ≤ 12) → taken ≤ 12
-picked-few true field taken is_taken few = omega (arith, is_taken, few refl)
-picked-few false field taken is_taken few = omega (arith, is_taken)
-
 digit-kept : (is : Bool) (digit : ℕ) → (if is then digit else 0) < 10
     → (if is then digit % 16 else 0) ≡ (if is then digit else 0)
 digit-kept true digit small = omega (arith, small)
