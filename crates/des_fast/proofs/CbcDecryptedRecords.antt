@@ -1,5 +1,5 @@
 -- Records out of their chains, block after block of the list.
-use Rattle.std.proofs.Common.{◌≡◌, ◌≢◌, ℕ, ◌+◌, ◌-◌, ◌<◌, ◌≤◌, List, [], length, min, sum, get_or, refl, ap, ap₂, sym, ◌∙◌, arith, inl, inr, subst}
+use Rattle.std.proofs.Common.{◌≡◌, ◌≢◌, ℕ, ◌+◌, ◌-◌, ◌<◌, ◌≤◌, List, [], length, min, sum, get_or, ap, ap₂, sym, ◌∙◌, arith, inl, inr, subst}
 use Rattle.std.proofs.Math.ListN.{set}
 use Rattle.std.proofs.lemmas.Bool.{cases_lt, cases_eq}
 use Rattle.std.proofs.lemmas.List.{get_or-set_same, get_or-set_other}
@@ -7,7 +7,7 @@ use Rattle.des.specs.Cbc.{xor_blocks}
 use Rattle.des_fast.specs.Records.{start, CbcDecryptsEach, GoOn}
 use Rattle.des_fast.specs.RecordStates.{HasBlock, cipher_before, IsCbcDecrypted, AreCbcDecryptedBelow}
 use Rattle.des_fast.proofs.RecordPlaces.{end-le, end-within, records-apart}
-use Rattle.des_fast.proofs.AnsweredRecords.{IsAnswered-none, IsAnswered-kept, IsAnswered-more, CbcDecrypts-from_answered, next_vector-cbc_decrypted}
+use Rattle.des_fast.proofs.AnsweredRecords.{IsAnswered-kept, IsAnswered-more, CbcDecrypts-from_answered, next_vector-cbc_decrypted}
 
 -- a block more of another record
 reached-other : (sizes : List ℕ) (k m place : ℕ) → k < length sizes → m < length sizes → k ≢ m
@@ -71,14 +71,6 @@ AreCbcDecryptedBelow-more f sizes first q vectors blocks m place answer has in_v
           (λ is. records-apart sizes k m j n inside there other low (omega arith) (omega arith)))
           (are k inside))
     ]
-
--- none
-pub AreCbcDecryptedBelow-none : (f : List ℕ → List ℕ) (sizes : List ℕ) (vectors blocks : List (List ℕ))
-    → AreCbcDecryptedBelow f sizes vectors blocks vectors blocks 0
-AreCbcDecryptedBelow-none f sizes vectors blocks k inside =
-    let none : 0 ≡ min (0 - start sizes k) (get_or sizes k 0) = omega arith in
-    subst (λ (n : ℕ). IsCbcDecrypted f sizes vectors blocks vectors blocks k n) none
-    (IsAnswered-none _ _ blocks (start sizes k) (get_or sizes k 0) (get_or vectors k []) refl)
 
 -- a record that is out of its chain
 record-all : (f : List ℕ → List ℕ) (sizes : List ℕ) (first q vectors blocks : List (List ℕ)) (place k : ℕ)

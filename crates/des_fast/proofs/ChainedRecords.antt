@@ -17,19 +17,6 @@ pub record AreInStep (f : List ℕ → List ℕ) (sizes : List ℕ) (first p vec
       → IsChained f sizes first p vectors blocks (from + k) (min i (get_or sizes (from + k) 0))
   pub rest : (k : ℕ) → from + n ≤ k → k < length sizes → IsChained f sizes first p vectors blocks k 0
 
--- before the first step
-pub AreInStep-none : (f : List ℕ → List ℕ) (sizes : List ℕ) (first p vectors blocks : List (List ℕ)) (from n : ℕ)
-    → from + n ≤ length sizes → AreChainedBelow f sizes first p vectors blocks from
-    → AreInStep f sizes first p vectors blocks from n 0
-AreInStep-none f sizes first p vectors blocks from n there are = record {
-  done = are.done;
-  within = λ k below.
-      let none : 0 ≡ min 0 (get_or sizes (from + k) 0) = omega arith in
-      subst (λ (m : ℕ). IsChained f sizes first p vectors blocks (from + k) m) none
-      (are.rest (from + k) (omega arith) (omega arith));
-  rest = λ k past inside. are.rest k (omega arith) inside;
-}
-
 -- after the last
 pub AreInStep-all : (f : List ℕ → List ℕ) (sizes : List ℕ) (first p vectors blocks : List (List ℕ)) (from n i : ℕ)
     → ((k : ℕ) → k < n → get_or sizes (from + k) 0 ≤ i) → AreInStep f sizes first p vectors blocks from n i

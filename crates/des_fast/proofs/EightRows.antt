@@ -70,24 +70,6 @@ ArePairwise-pairs batch bit step rows p q r s a0 a1 a2 a3 a4 a5 a6 a7 e0 e1 e2 e
       | suc (suc (suc (suc (suc (suc (suc (suc n))))))) ↦ λ under. absurd (omega arith)
     ] below
 
--- eight rows, each known by its bit
-pub bits-listed : {A : Type 0} (read : A → Bool) (value : ℕ → Bool) (r0 r1 r2 r3 r4 r5 r6 r7 : A)
-    → read r0 ≡ value 0 → read r1 ≡ value 1 → read r2 ≡ value 2 → read r3 ≡ value 3 → read r4 ≡ value 4
-    → read r5 ≡ value 5 → read r6 ≡ value 6 → read r7 ≡ value 7 → (j : ℕ) → j < 8
-    → get_or (map read (r0 ∷ r1 ∷ r2 ∷ r3 ∷ r4 ∷ r5 ∷ r6 ∷ r7 ∷ [])) j false ≡ value j
-bits-listed read value r0 r1 r2 r3 r4 r5 r6 r7 is0 is1 is2 is3 is4 is5 is6 is7 j below =
-    elim j as (λ k. k < 8 → get_or (map read (r0 ∷ r1 ∷ r2 ∷ r3 ∷ r4 ∷ r5 ∷ r6 ∷ r7 ∷ [])) k false ≡ value k) [
-      | zero ↦ λ under. is0
-      | suc zero ↦ λ under. is1
-      | suc (suc zero) ↦ λ under. is2
-      | suc (suc (suc zero)) ↦ λ under. is3
-      | suc (suc (suc (suc zero))) ↦ λ under. is4
-      | suc (suc (suc (suc (suc zero)))) ↦ λ under. is5
-      | suc (suc (suc (suc (suc (suc zero))))) ↦ λ under. is6
-      | suc (suc (suc (suc (suc (suc (suc zero)))))) ↦ λ under. is7
-      | suc (suc (suc (suc (suc (suc (suc (suc n))))))) ↦ λ under. absurd (omega arith)
-    ] below
-
 -- the places of eight rows: every eighth, from row i on, and those side by side, from row 8 * i on
 abbrev pub apart_place : ℕ → ℕ → ℕ
 apart_place i j = 8 * j + i

@@ -1,7 +1,6 @@
 -- The maps of words to words of groups and back select the bits that they should.
 use Rattle.std.proofs.Common.{◌≡◌, ℕ, ◌+◌, ◌^◌, ◌<◌, ◌≤◌, List, ◌++◌, Bool, length, take, drop, replicate, refl, ap, sym, ◌∙◌, arith, take_all, lit≤}
 use Rattle.std.specs.List.{range_with_len}
-use Rattle.std.proofs.lemmas.Nat.{and_le_r}
 use Rattle.std.proofs.lemmas.List.{length-drop, length-take-le}
 use Rattle.des.specs.Bits.{bits_of, bits_of_word, select}
 use Rattle.des.specs.Tables.{expansion}
@@ -69,10 +68,6 @@ IsExpansionOf-right_groups word below =
 -- the middle four bits of each group, in the last 32 bits of a word
 abbrev pub middle_bits : WordMap
 middle_bits = joined (right_under 29 0x00000000f0f0f0f0) (right_under 1 0x000000000f0f0f0f) refl
-
-pub middle_bits-lt : (groups : ℕ) → middle_bits.of groups < 2 ^ 32
-middle_bits-lt groups =
-    omega (arith, middle_bits.is.under groups, and_le_r (middle_bits.of groups) 0x00000000ffffffff)
 
 -- they are the half block
 pub bits_of-middle_bits : (groups : ℕ) → groups < 2 ^ 64 → bits_of 32 (middle_bits.of groups) ≡ half_of groups

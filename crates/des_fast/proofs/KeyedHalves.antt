@@ -7,14 +7,6 @@ use Rattle.std.proofs.lemmas.Nat.{xor_comm}
 pub xor-out : (half key : ℕ) → bit_xor (bit_xor half key) key ≡ half
 xor-out half key = xor_assoc half key key ∙ ap (bit_xor half) (xor_self key) ∙ xor_zero_r half
 
--- one key exchanged for another
-pub xor-exchanged : (half key next change made : ℕ) → made ≡ bit_xor half change → change ≡ bit_xor key next
-    → bit_xor made next ≡ bit_xor half key
-xor-exchanged half key next change made is_made is_change =
-    ap (λ word. bit_xor word next) (is_made ∙ ap (bit_xor half) is_change)
-    ∙ xor_assoc half (bit_xor key next) next
-    ∙ ap (bit_xor half) (xor-out key next)
-
 -- a word joined to one with a key
 pub xor-beside_key : (half word key : ℕ) → bit_xor (bit_xor half word) key ≡ bit_xor (bit_xor half key) word
 xor-beside_key half word key =

@@ -1,10 +1,8 @@
 -- What a lane answers whose passes are those of parts of its key.
-use Rattle.std.proofs.Common.{◌≡◌, ℕ, ◌+◌, ◌*◌, Bool, true, false, IsTrue, ◌&&◌, nat_lt, List, [], ◌∷◌, length, map, get_or, refl, ap, sym, ◌∙◌, arith}
-use Rattle.std.specs.List.{list_all}
+use Rattle.std.proofs.Common.{◌≡◌, ℕ, Bool, true, false, List, [], ◌∷◌, length, map, get_or, ap, sym, ◌∙◌, arith}
 use Rattle.std.proofs.lemmas.List.{map-id, take_all}
 use Rattle.des.specs.Blocks.{part}
 use Rattle.des.specs.Des.{encryption, decryption}
-use Rattle.des.specs.Triple.{triple_key_size}
 use Rattle.des.specs.TripleCiphers.{triple_encryption, triple_decryption}
 use Rattle.des_fast.specs.declared.slices.keys.PassSlices.{PassSlices}
 use Rattle.des_fast.specs.declared.many.lanes.PassPart.{PassPart}
@@ -49,11 +47,3 @@ three_parts false true false key = block_through_passes-three _ _ _
 three_parts false false true key = block_through_passes-three _ _ _
 three_parts false false false key = block_through_passes-three _ _ _
 
--- which a key has
-pub parts-there : (has_three second deciphers : Bool)
-    → IsTrue (list_all (λ p. nat_lt 0 p.number && nat_lt (8 * p.number) (triple_key_size has_three + 1))
-    (triple_parts has_three second deciphers))
-parts-there true second true = refl
-parts-there true second false = refl
-parts-there false second true = refl
-parts-there false second false = refl

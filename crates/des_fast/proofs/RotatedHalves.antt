@@ -55,19 +55,6 @@ pub length-rotations : (deciphers : Bool) → length (rotations deciphers) ≡ 1
 length-rotations false = refl
 length-rotations true = refl
 
--- none goes more than once around
-rotations-le : (deciphers : Bool) (i : ℕ) → i < 16 → get_or (rotations deciphers) i 0 < 29
-rotations-le false i below =
-    ltb-true _ _ (agree_below_at (λ k. nat_lt (get_or (rotations false) k 0) 29) (λ k. true) 16 i refl below)
-rotations-le true i below =
-    ltb-true _ _ (agree_below_at (λ k. nat_lt (get_or (rotations true) k 0) 29) (λ k. true) 16 i refl below)
-
-pub rotation-le : (deciphers : Bool) (places : List ℕ) (i : ℕ) → places ≡ rotations deciphers → i < 16
-    → get_or places i 0 ≤ 28
-rotation-le deciphers places i are below =
-    let each : get_or (rotations deciphers) i 0 < 29 = rotations-le deciphers i below in
-    omega (arith, ap (λ (list : List ℕ). get_or list i 0) are)
-
 -- so there are sixteen round keys
 pub length-round_keys_by : (halves : List Bool) (deciphers : Bool) → length (round_keys_by halves deciphers) ≡ 16
 length-round_keys_by halves deciphers =

@@ -1,5 +1,5 @@
 -- Passes under parts of keys, written one by one.
-use Rattle.std.proofs.Common.{◌≡◌, ℕ, ◌+◌, ◌<◌, ◌≤◌, Bool, true, false, List, [], ◌∷◌, length, map, get_or, refl, ap₂, sym, subst, ◌∙◌, arith, take}
+use Rattle.std.proofs.Common.{◌≡◌, ℕ, ◌+◌, ◌<◌, ◌≤◌, Bool, true, false, List, [], length, map, get_or, refl, ap₂, sym, subst, ◌∙◌, arith, take}
 use Rattle.std.proofs.Math.ListN.{set}
 use Rattle.std.proofs.Math.Bool.{beq}
 use Rattle.std.proofs.lemmas.List.{length-map, map-set, ext_get_or, take_all}
@@ -43,11 +43,6 @@ pub round_keys_under-same : (p q : PassPart) (key : List ℕ) → p.number ≡ q
 round_keys_under-same p q key number direction =
     ap₂ (λ (deciphers : Bool) (n : ℕ). round_keys_under deciphers (part n key))
     (sym (beq-true p.deciphers q.deciphers direction)) (sym number)
-
--- a first pass written is the pass of a single cipher
-pub take_one-set : {X : Type 0} (xs : List X) (x : X) → 0 < length xs → take 1 (set xs 0 x) ≡ x ∷ []
-take_one-set [] x some = absurd (omega arith)
-take_one-set (y ∷ xs) x some = refl
 
 -- so are the slices of a single cipher, if there are no others
 pub AreSlicesFor-one : {A : Type 0} (batch : ℕ) (bit : ℕ → A → Bool) (slices : List (PassSlices A))

@@ -30,12 +30,6 @@ block_through_passes-three first second third =
     bits_of_bytes-block_by_keys second (block_by_keys first block) ∙ ap (through_rounds second) one in
     ap (λ (bits : List Bool). block_of_bits (through_rounds third bits)) (sym two))
 
--- and one pass is one
-pub block_through_passes-one : (keys : List (List Bool))
-    → block_through_passes (keys ∷ []) ≡ (λ block. block_by_keys keys block)
-unfolding through_rounds
-block_through_passes-one keys = refl
-
 -- a list of three, of which each is written
 pub three-written : {X : Type 0} (xs : List X) (x y z : X) → length xs ≡ 3
     → set (set (set xs 0 x) 1 y) 2 z ≡ x ∷ y ∷ z ∷ []

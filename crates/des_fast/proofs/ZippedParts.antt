@@ -2,7 +2,7 @@
 use Rattle.std.proofs.Common.{◌≡◌, ℕ, ◌+◌, ◌<◌, ◌≤◌, List, [], ◌++◌, length, take, drop, get_or, refl, ap, ap₂, sym, ◌∙◌, arith, length-take-le, take-add}
 use Rattle.std.specs.Simd.Lanes.{zip2}
 use Rattle.std.proofs.lemmas.Simd.{length-zip2, get_or-zip2}
-use Rattle.std.proofs.lemmas.List.{take_all, drop_all, append-nil, ext_get_or}
+use Rattle.std.proofs.lemmas.List.{ext_get_or}
 use Rattle.des.specs.Blocks.{part}
 use Rattle.des_fast.proofs.SliceBits.{zip2-append}
 use Rattle.des_fast.proofs.WrittenParts.{behind, written-more}
@@ -33,15 +33,6 @@ pub zipped-more : (f : List ℕ → List ℕ → List ℕ) (m n : ℕ) (keys old
 zipped-more f m n keys old now part same within so_far made =
     answers-more f m n keys old old now part same refl within so_far
     (λ rest. made ∙ ap (λ (xs : List (List ℕ)). zip2 f (take n (drop m keys)) (take n xs)) rest)
-
--- a list of which all are answered under keys
-pub zipped-all : (f : List ℕ → List ℕ → List ℕ) (m : ℕ) (keys old : List (List ℕ)) → length keys ≡ length old
-    → length old ≤ m
-    → zip2 f (take m keys) (take m old) ++ drop m old ≡ zip2 f keys old
-zipped-all f m keys old same all =
-    ap₂ (λ (front back : List (List ℕ)). zip2 f (take m keys) front ++ back) (take_all m old all) (drop_all m old all)
-    ∙ append-nil (zip2 f (take m keys) old)
-    ∙ ap (λ (ks : List (List ℕ)). zip2 f ks old) (take_all m keys (omega arith))
 
 -- answers under keys, one by one
 pub zipped-at : (f : List ℕ → List ℕ → List ℕ) (keys old new : List (List ℕ)) → length keys ≡ length old

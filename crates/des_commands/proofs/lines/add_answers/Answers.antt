@@ -5,9 +5,8 @@ use Rattle.des_commands.specs.declared.lines.Tally.{Tally}
 use Rattle.des_commands.specs.declared.lines.columns.LineColumn.{LineColumn}
 use Rattle.des_commands.specs.LineAnswers.{Outcome}
 use Rattle.des_commands.specs.LineColumns.{AreOutcomes, IsOutcomeAt}
-use Rattle.des_commands.specs.LineRuns.{AddsAnswers, GoesOn, Tells}
+use Rattle.des_commands.specs.LineRuns.{AddsAnswers}
 use Rattle.des_commands.proofs.LineRuns.{AddsAnswers-append, AreOutcomes-more}
-use Rattle.des_commands.proofs.LineEnds.{on_err}
 use Rattle.des_commands.proofs.lines.add_answers.Goals as goal
 
 -- a line more
@@ -59,13 +58,3 @@ returns-then-not-branch-clause-answered g c =
     let after = more _ c.args.column.now false at before.0 here.0 _ _ _ _ _ _ _ _ _ below before.1 before.2 here.1
     (rw c.if-not-branch.true at here.2) in
     (before.0 ++ here.0 ∷ [], after.0, ended _ (at + 1) _ _ _ _ _ _ _ _ (omega (arith, below)) after.1)
-
-pub returns-in_err-answer_at-clause-told : goal.returns-in_err-answer_at-clause-told
-returns-in_err-answer_at-clause-told g c =
-    let before = c.lines.invariant.answered in
-    let told : (outcomes : List Outcome) × AreOutcomes c.args.job.now.writes_digits c.args.column.now outcomes
-    × GoesOn c.args.job.now.keeps_going true (length outcomes) outcomes
-    × Tells c.args.job.now.name.now c.args.tally.now.line outcomes (g.E.Write.contents c.args.err.now)
-    (g.E.Write.contents c.answer_at.new.err) =
-    (before.0, before.1, (refl, before.2.counted.1), rw c.in_err-answer_at.ensures.untold before.2.answers.told) in
-    on_err _ told

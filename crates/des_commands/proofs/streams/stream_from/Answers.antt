@@ -2,6 +2,3 @@ use Rattle.des_commands.proofs.streams.stream_from.Goals as goal
 
 pub returns-in-Ofb-clause-begun : goal.returns-in-Ofb-clause-begun
 returns-in-Ofb-clause-begun c = ((rw c.unwrap.ensures at c.new.ensures.some).1 (λ block. block)).begun
-
-pub returns-in-Ofb-clause-begins : goal.returns-in-Ofb-clause-begins
-returns-in-Ofb-clause-begins c = rw c.in-Ofb.is (rw c.unwrap.ensures at c.new.ensures.some).1

@@ -33,18 +33,3 @@ CbcDecrypts-xored f iv old answers vectors new made count xored before =
           (ap (λ (blocks : List (List ℕ)). get_or blocks (n - 1) []) made ∙ get_or-map f old (n - 1) [] [] (omega arith))
           (before (n - 1) (omega arith));
     }
-
-pub returns : goal.returns
-returns g c =
-    let iv : List ℕ = c.args.iv.now in
-    let old : List (List ℕ) = c.args.blocks.now in
-    let at = λ (n : ℕ). get_or old n [] in
-    let vectors : List (List ℕ) =
-    iv ∷ at 0 ∷ at c.min.result ∷ at c.min-2.result ∷ at c.min-3.result ∷ at c.min-4.result ∷ [] in
-    CbcDecrypts-xored (g.A.BlockTransform.output c.args.passes.now) iv old c.process_some.new.blocks vectors _
-    c.process_some.ensures c.xored.invariant.count
-    (λ m below. c.xored.invariant.done m (omega (arith, c.xored.invariant.count)))
-    (λ m below. vector-at iv old c.min.result c.min-2.result c.min-3.result c.min-4.result m below
-    (omega (arith, c.requires.few, g.met.W.BoxLookup.at_most)) (λ more. omega (arith, c.min.ensures))
-    (λ more. omega (arith, c.min-2.ensures)) (λ more. omega (arith, c.min-3.ensures))
-    (λ more. omega (arith, c.min-4.ensures)))

@@ -1,6 +1,6 @@
 -- A part more.
 use Rattle.std.proofs.Common.{◌≡◌, ℕ, ◌+◌, ◌-◌, ◌++◌, List, map, take, drop, ap, ◌∙◌, arith}
-use Rattle.des_fast.proofs.AnsweredBatches.{answered-more, answered-all}
+use Rattle.des_fast.proofs.AnsweredBatches.{answered-more}
 use Rattle.des_fast.proofs.lists.process.Goals as goal
 
 pub parts-preserved : goal.parts-preserved
@@ -16,8 +16,3 @@ parts-preserved g c =
           c.process_some.ensures
           ∙ ap (λ (k : ℕ). map f (take k old) ++ drop k old) next,
     )
-
-pub returns-clause-output : goal.returns-clause-output
-returns-clause-output g c =
-    c.parts.invariant.1
-    ∙ answered-all (g.A.BlockTransform.output c.args.passes.now) c.parts.from c.args.blocks.now (omega arith)

@@ -1,9 +1,8 @@
-use Rattle.std.proofs.Common.{◌≡◌, ℕ, ◌-◌, ◌≤◌, List, ◌++◌, length, length-set, take, drop, Ok, refl, ap, ◌∙◌, subst, arith, rules}
+use Rattle.std.proofs.Common.{◌≡◌, ℕ, ◌-◌, List, ◌++◌, length, length-set, take, drop, Ok, refl, ap, ◌∙◌, subst, arith, rules}
 use Rattle.std.proofs.lemmas.List.{length-take, length-drop, take_rest}
 use Rattle.des_key_blocks.specs.OptionalBlocks.{IsOptionalBlock, AreOptionalBlocks}
 use Rattle.des_key_blocks.proofs.OptionalBlockLists.{first-of}
 use Rattle.des_key_blocks.proofs.OptionalBlockReads.{read-step, rest-step, left-some, left-none, left-after}
-use Rattle.des_key_blocks.proofs.OptionalBlockTexts.{block-least}
 use Rattle.des_key_blocks.proofs.optional_blocks.read_blocks.Goals as goal
 
 pub loop-at-init : goal.loop-at-init
@@ -37,11 +36,6 @@ returns-in_default-clause-only c = λ read few are.
     let some = left-some read c.loop-at.count at text c.loop-at-test.true left in
     let f = first-of left.others (drop at text) some left.are in
     absurd (c.in_default.ensures.only f.name f.content f.first f.back f.block (begun at text f.first f.back f.is))
-
--- a block that begins a text has characters
-some-size : (name content text : List ℕ) (size : ℕ) → IsOptionalBlock name content (take size text) → 4 ≤ size
-some-size name content text size is =
-    omega (arith, block-least name content (take size text) is, length-take size text)
 
 pub loop-at-preserved : goal.loop-at-preserved
 loop-at-preserved c =

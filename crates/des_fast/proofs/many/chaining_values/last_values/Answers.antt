@@ -2,20 +2,7 @@
 use Rattle.std.proofs.Common.{◌≡◌, ℕ, ◌+◌, ◌-◌, ◌≤◌, List, length, drop, sym, ◌∙◌, arith, length-take-le}
 use Rattle.std.proofs.lemmas.List.{length-drop}
 use Rattle.des_fast.proofs.LastChainingValues.{AreChainingValues-group, get_or-put_past}
-use Rattle.des_fast.proofs.SliceSizes.{pass_slices-le, lane_keys-le}
 use Rattle.des_fast.proofs.many.chaining_values.last_values.Goals as goal
-
-pub encryption-passes-requires : goal.encryption-passes-requires
-encryption-passes-requires g c = (
-  omega (arith, lane_keys-le _ _ g.met.K.Slices.Slice.small_gaps g.met.K.Slices.Slice.few_bytes),
-  (
-    omega (arith, pass_slices-le _ _ g.met.K.Slices.Slice.small_gaps g.met.K.Slices.Slice.few_bytes),
-    (
-      omega (arith, c.min-count.ensures, c.BATCH.ensures),
-      (length c.args.chains.now, c.requires.keys, omega (arith, c.min-count.ensures)),
-    ),
-  ),
-)
 
 pub groups-preserved : goal.groups-preserved
 groups-preserved g c =

@@ -3,7 +3,7 @@ use Rattle.std.proofs.Common.{◌≡◌, ℕ, ◌+◌, ◌-◌, ◌++◌, List, 
 use Rattle.std.proofs.lemmas.List.{length-map, take-map, drop-map}
 use Rattle.std.specs.Simd.Lanes.{zip2}
 use Rattle.des_fast.specs.LaneKeys.{block_in}
-use Rattle.des_fast.proofs.ZippedParts.{zipped-more, zipped-all}
+use Rattle.des_fast.proofs.ZippedParts.{zipped-more}
 use Rattle.des_fast.proofs.many.each_key.process_each.Goals as goal
 
 pub parts-preserved : goal.parts-preserved
@@ -28,10 +28,3 @@ parts-preserved g c =
           (c.process_part.ensures ∙ ap (λ (ks : List (List ℕ)). zip2 f ks (take n (drop m now))) part_of_keys)
           ∙ ap (λ (k : ℕ). zip2 f (take k keys) (take k old) ++ drop k old) next;
     }
-
-pub returns : goal.returns
-returns g c =
-    let bytes = g.C.Key.KeyBytes.bytes_of in
-    c.parts.invariant.answered
-    ∙ zipped-all (block_in c.args.deciphers g.C.KeyedCipher.encryption g.C.KeyedCipher.decryption) c.parts.from
-    (map bytes c.args.keys.now) c.args.blocks.now (length-map c.args.keys.now bytes ∙ c.requires) (omega arith)

@@ -1,14 +1,8 @@
-use Rattle.std.proofs.Common.{[], get_or, map, ◌∙◌, arith}
+use Rattle.std.proofs.Common.{[], get_or, map, arith}
 use Rattle.std.proofs.lemmas.List.{length-map}
 use Rattle.des_fast.specs.RoundKeySlices.{round_keys_in}
 use Rattle.des_fast.proofs.SpreadParts.{all_spread}
 use Rattle.des_fast.proofs.many.lanes.spread_parts.Goals as goal
-
-pub passes-preserved : goal.passes-preserved
-passes-preserved g c = record {
-  count = c.spread_pass.ensures.count ∙ c.passes.invariant.count;
-  spread = c.spread_pass.ensures.spread;
-}
 
 pub returns : goal.returns
 returns g c k below =

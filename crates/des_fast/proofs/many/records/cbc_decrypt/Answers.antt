@@ -1,18 +1,7 @@
 -- A part more.
-use Rattle.std.proofs.Common.{refl, ◌∙◌, arith}
-use Rattle.des_fast.proofs.CbcDecryptedRecords.{AreCbcDecryptedBelow-none, CbcDecryptsEach-all, GoOn-cbc_decrypted}
+use Rattle.std.proofs.Common.{◌∙◌, arith}
+use Rattle.des_fast.proofs.CbcDecryptedRecords.{CbcDecryptsEach-all, GoOn-cbc_decrypted}
 use Rattle.des_fast.proofs.many.records.cbc_decrypt.Goals as goal
-
-pub parts-init : goal.parts-init
-parts-init g c = record {
-  within = omega arith;
-  starts = refl;
-  before = omega arith;
-  in_vectors = refl;
-  in_blocks = refl;
-  cbc_decrypted = λ decryption are.
-      AreCbcDecryptedBelow-none decryption c.args.sizes.now c.args.vectors.now c.args.blocks.now;
-}
 
 pub parts-preserved : goal.parts-preserved
 parts-preserved g c = record {

@@ -1,16 +1,7 @@
 -- A step more.
-use Rattle.std.proofs.Common.{ℕ, List, [], get_or, refl, ap, ◌∙◌, arith}
-use Rattle.des_fast.proofs.ChainedRecords.{AreInStep-none, AreInStep-more, AreInStep-all}
+use Rattle.std.proofs.Common.{ℕ, List, [], get_or, ap, ◌∙◌, arith}
+use Rattle.des_fast.proofs.ChainedRecords.{AreInStep-more, AreInStep-all}
 use Rattle.des_fast.proofs.many.records.cbc_encrypt_group.Goals as goal
-
-pub steps-init : goal.steps-init
-steps-init g c = record {
-  in_vectors = refl;
-  in_blocks = refl;
-  chained = λ encryption first p by are.
-      AreInStep-none encryption c.args.sizes.now first p c.args.vectors.now c.args.blocks.now
-      c.args.group.from c.args.group.count c.requires.within are;
-}
 
 pub steps-preserved : goal.steps-preserved
 steps-preserved g c = record {

@@ -34,9 +34,6 @@ bounds-key-rotation g c =
     place_within c.args.rotation (6 * c.args.number + c.loop-i.i) 112 c.requires.around
     (omega (arith, c.requires.numbered)) refl
 
-pub loop-i-init : goal.loop-i-init
-loop-i-init g c = (refl, λ k below b within. absurd (omega arith))
-
 pub loop-i-preserved : goal.loop-i-preserved
 loop-i-preserved g c = (
   length-set c.loop-i.group c.loop-i.i c.xor.result ∙ c.loop-i.invariant.0,

@@ -1,8 +1,8 @@
-use Rattle.std.proofs.Common.{◌≡◌, ℕ, ◌*◌, ◌<◌, ◌≤◌, IsTrue, true, false, List, Bool, [], ◌∷◌, map, get_or, slice_set, take, add-one, length, nat_lt, refl, sym, ap, ap₂, ◌∙◌, arith}
+use Rattle.std.proofs.Common.{◌≡◌, ℕ, ◌*◌, ◌<◌, ◌≤◌, IsTrue, true, false, List, Bool, [], ◌∷◌, map, get_or, slice_set, take, add-one, length, nat_lt, sym, ap, ap₂, ◌∙◌, arith}
 use Rattle.std.specs.List.{list_all}
 use Rattle.std.proofs.lemmas.Bool.{ltb-true}
 use Rattle.std.proofs.lemmas.Nat.{mul-le}
-use Rattle.std.proofs.lemmas.List.{length-map, length-set, map-set, get_or-map, take_all}
+use Rattle.std.proofs.lemmas.List.{length-map, length-set, map-set, get_or-map}
 use Rattle.std.proofs.lemmas.List.Elements.{All-get_or}
 use Rattle.std.proofs.lemmas.List.Sums.{AllPass-from_list_all}
 use Rattle.des.specs.Bits.{xor}
@@ -20,9 +20,6 @@ index_below indexes i inside each =
 -- and its slice is not far from the first
 offset-le : (index size : ℕ) → index < 32 → size ≤ 32 → index * size ≤ 32 * 32
 offset-le index size below few = mul-le index size 32 32 (omega arith) few
-
-pub loop-i-init : goal.loop-i-init
-loop-i-init g c = (c.told-half, λ b within. refl)
 
 pub loop-i-preserved : goal.loop-i-preserved
 loop-i-preserved g c = (
@@ -46,35 +43,3 @@ loop-i-preserved g c = (
       ∙ sym (xor_at-more (map read c.args.half.now) c.args.indexes changes i (omega arith) inside)
       ∙ ap (λ (k : ℕ). xor_at (map read c.args.half.now) (take k c.args.indexes) (take k changes)) (sym (add-one i)),
 )
-
-pub offset_bounds-half-indexes : goal.offset_bounds-half-indexes
-offset_bounds-half-indexes g c =
-    let below = index_below c.args.indexes c.loop-i.i (omega arith) c.requires in
-    record { fits = omega (arith, offset-le _ _ below g.met.S.Slice.few_bytes) }
-
-pub listed : goal.listed
-listed g c = omega (arith, index_below c.args.indexes c.loop-i.i (omega arith) c.requires, c.loop-i.invariant.0)
-
-pub bounds-half-indexes : goal.bounds-half-indexes
-bounds-half-indexes g c = index_below c.args.indexes c.loop-i.i (omega arith) c.requires
-
-pub offset_bounds-half-indexes-in-loop-i : goal.offset_bounds-half-indexes-in-loop-i
-offset_bounds-half-indexes-in-loop-i g c =
-    let below = index_below c.args.indexes c.loop-i.i (omega arith) c.requires in
-    record { fits = omega (arith, offset-le _ _ below g.met.S.Slice.few_bytes) }
-
-pub listed-in-loop-i-2 : goal.listed-in-loop-i-2
-listed-in-loop-i-2 g c =
-    omega (arith, index_below c.args.indexes c.loop-i.i (omega arith) c.requires, c.loop-i.invariant.0)
-
-pub bounds-half-indexes-in-loop-i : goal.bounds-half-indexes-in-loop-i
-bounds-half-indexes-in-loop-i g c = index_below c.args.indexes c.loop-i.i (omega arith) c.requires
-
-pub returns : goal.returns
-returns g c b within =
-    let read = g.S.Slice.bit b in
-    let changes : List Bool = map read c.args.changes in
-    c.loop-i.invariant.1 b within
-    ∙ ap₂ (λ (is : List ℕ) (cs : List Bool). xor_at (map read c.args.half.now) is cs)
-    (take_all c.loop-i.i c.args.indexes (omega arith))
-    (take_all c.loop-i.i changes (omega (arith, length-map c.args.changes read)))

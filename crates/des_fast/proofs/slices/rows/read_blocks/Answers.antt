@@ -6,9 +6,6 @@ use Rattle.des_fast.proofs.BlockRows.{IsPlaced-block}
 use Rattle.des_fast.proofs.TransposedRows.{bits_halfway-read, bits_halfway-kept, bits_of_halves-halfway}
 use Rattle.des_fast.proofs.slices.rows.read_blocks.Goals as goal
 
-pub bytes-init : goal.bytes-init
-bytes-init g c k within none = absurd (omega arith)
-
 pub bytes-preserved : goal.bytes-preserved
 bytes-preserved g c k within below =
     let batch : ℕ = g.S.Slice.BATCH in

@@ -7,9 +7,6 @@ use Rattle.des_fast.proofs.BlockRows.{IsPlaced-block}
 use Rattle.des_fast.proofs.TransposedRows.{bits_halfway-written, bits_halfway-halves}
 use Rattle.des_fast.proofs.slices.rows.write_blocks.Goals as goal
 
-pub bytes-init : goal.bytes-init
-bytes-init g c = (c.requires, λ k within none. absurd (omega arith))
-
 pub bytes-preserved : goal.bytes-preserved
 bytes-preserved g c = (
   c.write_rows.ensures.count ∙ c.bytes.invariant.0,

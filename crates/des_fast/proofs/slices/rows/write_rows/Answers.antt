@@ -1,13 +1,10 @@
 -- Row by row.
-use Rattle.std.proofs.Common.{ℕ, ◌/◌, ◌%◌, ap, refl, sym, ◌∙◌, arith, inl, inr}
+use Rattle.std.proofs.Common.{ℕ, ◌/◌, ◌%◌, ap, sym, ◌∙◌, arith, inl, inr}
 use Rattle.std.proofs.lemmas.Bool.{cases_eq}
 use Rattle.des.specs.Blocks.{block_of_bits}
 use Rattle.des_fast.specs.Transposition.{bits_of_row}
 use Rattle.des_fast.proofs.BlockRows.{bits_of_lane-row, IsPlaced-block}
 use Rattle.des_fast.proofs.slices.rows.write_rows.Goals as goal
-
-pub loop-j-init : goal.loop-j-init
-loop-j-init g c = (c.requires.batch, (λ k within of none. absurd (omega arith), λ k other. refl))
 
 pub loop-j-preserved : goal.loop-j-preserved
 loop-j-preserved g c =

@@ -1,11 +1,8 @@
 -- Byte by byte.
-use Rattle.std.proofs.Common.{refl, arith}
+use Rattle.std.proofs.Common.{arith}
 use Rattle.des_fast.specs.Transposition.{bits_of_halves}
 use Rattle.des_fast.proofs.TransposedRows.{AreTransposedBelow-more}
 use Rattle.des_fast.proofs.slices.transposition.transpose_bits.Goals as goal
-
-pub bits-init : goal.bits-init
-bits-init g c m below b within = (λ none. absurd (omega arith), λ all. refl)
 
 pub bits-preserved : goal.bits-preserved
 bits-preserved g c =
@@ -16,6 +13,3 @@ bits-preserved g c =
     c.eight_rows.result c.exchange_bits-eight.result c.bits.i (omega (arith, g.met.S.Slice.whole_words)) (omega arith)
     c.eight_rows.ensures c.exchange_bits-eight.ensures c.write_eight.ensures.written c.write_eight.ensures.kept
     c.bits.invariant
-
-pub returns : goal.returns
-returns g c m below b within = (c.bits.invariant m below b within).0 (omega arith)

@@ -1,14 +1,11 @@
 -- Row by row.
-use Rattle.std.proofs.Common.{ℕ, ◌++◌, List, Bool, false, map, refl, sym, arith}
+use Rattle.std.proofs.Common.{ℕ, ◌++◌, List, Bool, false, map, sym, arith}
 use Rattle.std.proofs.lemmas.List.{get_or-map}
 use Rattle.des.specs.Tables.{final_permutation}
 use Rattle.des.specs.Laws.Selections.{length-select}
 use Rattle.des_fast.specs.Transposition.{bits_of_halves}
 use Rattle.des_fast.proofs.EightRows.{AreWrittenAt-more, apart_place}
 use Rattle.des_fast.proofs.slices.transposition.write_every_eighth.Goals as goal
-
-pub loop-j-init : goal.loop-j-init
-loop-j-init g c b within = (λ j below. absurd (omega arith), λ m elsewhere. refl)
 
 pub loop-j-preserved : goal.loop-j-preserved
 loop-j-preserved g c b within =

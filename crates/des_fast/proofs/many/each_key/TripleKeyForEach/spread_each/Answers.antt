@@ -1,21 +1,10 @@
-use Rattle.std.proofs.Common.{List, ℕ, [], map, get_or, ap, sym, ◌∙◌, arith}
+use Rattle.std.proofs.Common.{List, ℕ, [], map, get_or, ap, ◌∙◌, arith}
 use Rattle.std.proofs.lemmas.List.{length-map}
 use Rattle.des_fast.specs.declared.many.lanes.PassPart.{PassPart}
 use Rattle.des_fast.specs.EachKey.{round_keys_of_parts}
 use Rattle.des_fast.specs.Passes.{block_through_passes}
-use Rattle.des_fast.proofs.SliceSizes.{lane_keys-le}
-use Rattle.des_fast.proofs.PassesByKeys.{three_parts, parts-there}
+use Rattle.des_fast.proofs.PassesByKeys.{three_parts}
 use Rattle.des_fast.proofs.many.each_key.TripleKeyForEach.spread_each.Goals as goal
-
-pub spread_three-requires : goal.spread_three-requires
-spread_three-requires g c = (
-  omega (arith, lane_keys-le _ _ g.met.S.Slice.small_gaps g.met.S.Slice.few_bytes),
-  (
-    c.requires,
-    rw (c.parts_of.ensures, sym g.met.P.Parts.key_size_is_len ∙ g.met.P.Parts.key_size_is_of_parts)
-        (parts-there g.P.Parts.has_three g.F.Form.DECIPHERS_SECOND c.args.deciphers),
-  ),
-)
 
 pub returns : goal.returns
 returns g c k below =

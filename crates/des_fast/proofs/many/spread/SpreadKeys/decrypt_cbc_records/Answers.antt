@@ -1,10 +1,6 @@
-use Rattle.std.proofs.Common.{sym, subst, arith}
+use Rattle.std.proofs.Common.{sym, subst}
 use Rattle.des_fast.specs.SpreadKeys.{AreSlicesFor}
-use Rattle.des_fast.proofs.SliceSizes.{lane_keys-le}
 use Rattle.des_fast.proofs.many.spread.SpreadKeys.decrypt_cbc_records.Goals as goal
-
-pub passes-requires : goal.passes-requires
-passes-requires g c = omega (arith, lane_keys-le _ _ g.met.S.Slice.small_gaps g.met.S.Slice.few_bytes)
 
 pub returns-clause-cbc_decrypted : goal.returns-clause-cbc_decrypted
 returns-clause-cbc_decrypted g c encrypted decrypted are =

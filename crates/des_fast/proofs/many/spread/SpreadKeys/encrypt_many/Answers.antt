@@ -1,13 +1,6 @@
-use Rattle.std.proofs.Common.{sym, subst, arith}
+use Rattle.std.proofs.Common.{sym, subst}
 use Rattle.des_fast.specs.SpreadKeys.{AreSlicesFor}
-use Rattle.des_fast.proofs.SliceSizes.{lane_keys-le, pass_slices-le}
 use Rattle.des_fast.proofs.many.spread.SpreadKeys.encrypt_many.Goals as goal
-
-pub passes-requires : goal.passes-requires
-passes-requires g c = omega (arith, lane_keys-le _ _ g.met.S.Slice.small_gaps g.met.S.Slice.few_bytes)
-
-pub process-requires : goal.process-requires
-process-requires g c = omega (arith, pass_slices-le _ _ g.met.S.Slice.small_gaps g.met.S.Slice.few_bytes)
 
 pub returns-clause-encrypted : goal.returns-clause-encrypted
 returns-clause-encrypted g c encrypted decrypted are =
