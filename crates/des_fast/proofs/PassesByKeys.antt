@@ -46,4 +46,3 @@ three_parts false true true key = block_through_passes-three _ _ _
 three_parts false true false key = block_through_passes-three _ _ _
 three_parts false false true key = block_through_passes-three _ _ _
 three_parts false false false key = block_through_passes-three _ _ _
-

@@ -12,4 +12,3 @@ pub Cbc-by_key : (encrypts by_key : List ℕ → List ℕ) (iv : List ℕ) (p q 
 Cbc-by_key encrypts by_key iv p q alike chained =
     CbcUnder-weaker (TakesBlock encrypts) (λ block encrypted. encrypted ≡ by_key block) iv p q
     (λ x y taken. sym taken.1 ∙ alike x taken.0) chained
-

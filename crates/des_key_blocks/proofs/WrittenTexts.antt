@@ -69,4 +69,3 @@ text-filled blocks at n text content last is_at part all count zeros so_far is =
     (is ∙ ap (λ (c : List ℕ). block_text (codes "PB", c)) same)
     ∙ sym (blocks_text-more blocks (codes "PB", zeros_for size))
     ∙ ap (λ (fill : List (List ℕ × List ℕ)). blocks_text (blocks ++ fill)) (sym needed)
-

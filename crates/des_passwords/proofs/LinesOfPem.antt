@@ -126,4 +126,3 @@ body_goes_on last text line rest next so_far shorter is plain before =
     more.parts) more
 
 -- ---- what is read at the last line
-

@@ -16,4 +16,3 @@ odd-parts byte =
       xor_shr byte 1 1 ∙ xor_zero_r (byte / 2),
       count_ones-xor_one byte (omega (arith, eqb-false (count_ones byte % 2) 1 is_not)),
     ))
-
