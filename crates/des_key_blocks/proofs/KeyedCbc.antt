@@ -1,4 +1,4 @@
--- What a key makes by CBC of a list of blocks that a cipher of it has encrypted, and a message of whole blocks.
+-- What a key makes by CBC of a list of blocks that a cipher of it has encrypted.
 use Rattle.std.proofs.Common.{◌≡◌, ℕ, ◌-◌, List, sym, ◌∙◌}
 use Rattle.des.specs.Blocks.{IsBlock}
 use Rattle.des.specs.Cbc.{CbcUnder, Cbc}

@@ -36,8 +36,6 @@ length-in_blocks [] = refl
 length-in_blocks (byte ∷ text) =
     length-copies (byte ∷ text) (byte ∷ text) (64 * ((length (byte ∷ text) + 63) / 64)) (omega arith)
 
--- ---- a block, byte by byte
-
 -- ---- a block, unit by unit
 
 pub length-big_endian : (units : List ℕ) → length (flat_map big_endian units) ≡ 2 * length units

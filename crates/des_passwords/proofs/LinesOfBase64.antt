@@ -1,4 +1,4 @@
--- What one line more does to what lines have, and to the number of the line with a character; and what decoding gives.
+-- The number of the line with a character, line after line; and what decoding gives.
 use Rattle.std.proofs.Common.{◌≡◌, ◌∙◌, ℕ, ◌+◌, ◌-◌, ◌<◌, ◌≤◌, List, ◌∷◌, [], length, Result, Ok, Err, refl, sym, ap}
 use Rattle.std.proofs.lemmas.Bool.{lt-ltb, le-ltb}
 use Rattle.base64.specs.Engines.{standard}

@@ -124,5 +124,3 @@ body_goes_on last text line rest next so_far shorter is plain before =
     plain before.2 in
     subst (λ (front : List ℕ). IsBodySoFar last text front next) (front_is text (front_of text rest ++ before.0) next
     more.parts) more
-
--- ---- what is read at the last line

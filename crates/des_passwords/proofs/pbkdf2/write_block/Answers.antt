@@ -47,5 +47,3 @@ steps-preserved g c =
           ∙ ap (zip2 bit_xor (xor_of (hmac digest key) first (c.steps.counter - 1))) (tag key is)
           ∙ sym (xor_of-next (hmac digest key) first c.steps.counter c.steps.invariant.begun);
     }
-
--- as many as there are iterations

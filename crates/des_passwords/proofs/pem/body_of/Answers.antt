@@ -22,7 +22,3 @@ lines-preserved c = record {
       c.in-Some.ensures.shorter c.in-Some.ensures.lines (sym c.starts_with.ensures.value ∙ c.if-starts_with.false)
       c.in-Some.ensures.parts;
 }
-
--- the last line
--- another line with hyphens
--- no line is left

@@ -1,4 +1,4 @@
--- The key is that of the register; the registers of the places below are written from it, those above stay.
+-- The key is that of the transaction, and the registers have the keys of those to come.
 use Rattle.std.proofs.Common.{ℕ, List, [], ◌∙◌, arith}
 use Rattle.std.proofs.lemmas.List.{get_or-set_other}
 use Rattle.des_payment.proofs.FutureTaken.{taken, kept}

@@ -1,4 +1,4 @@
--- A value that is too long for the buffer, or one that waits there.
+-- A value that waits in the buffer.
 use Rattle.std.proofs.Common.{◌≡◌, ℕ, ◌+◌, ◌-◌, ◌/◌, ◌≤◌, List, length, take, drop, ap, ap₂, ◌∙◌, arith}
 use Rattle.std.specs.Simd.{first_chunks}
 use Rattle.std.proofs.lemmas.List.{length-drop, length-take-le}
