@@ -8,7 +8,7 @@
 use crate::rows::{write_cipher, write_few, write_macs, write_spreading, write_weak_key_test};
 use crate::runs::{KEYS, Keys};
 use crate::text::write_head;
-use des::cipher::{AlgorithmName, BlockCipherEncrypt, KeyInit};
+use des::cipher::{AlgorithmName, BlockCipherEncrypt, KeyInit, KeyedCipher};
 use des::tdes::{Ede3, SingleDes};
 use des::{Des, cbc};
 use des_fast::many::ManyBlocks;
@@ -45,7 +45,7 @@ fn mixed_keys() -> Keys {
 }
 
 // Writes the rows of the ciphers of a library, which has this body of single DES.
-fn write_ciphers<D: SingleDes + AlgorithmName>(
+fn write_ciphers<D: SingleDes + KeyedCipher + AlgorithmName>(
     rt: &(impl AllocGlobal + Clock + CpuClock),
     library: &str,
     keys: &Keys,

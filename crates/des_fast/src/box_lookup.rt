@@ -1,37 +1,26 @@
 //! How S-boxes are looked up: by tables, or without.
 
-ghost use Rattle.std.specs.Prelude.{◌≡◌, ◌≤◌, ℕ, length, map};
+ghost use Rattle.std.specs.Prelude.{◌≡◌, map};
+ghost use Rattle.std.specs.List.{All};
+ghost use Rattle.des.specs.Blocks.{IsBlock};
 
 use crate::beside::Beside;
+use crate::lists;
 use crate::one_block::OneBlock;
-use crate::rounds::OneWord;
-use crate::side_by_side::{BlockTransform, process_padded, process_side_by_side};
+use crate::side_by_side::{self, BlockTransform, SideBySide, process_padded, process_side_by_side};
 use crate::table_blocks::{ThreeBlocks, TwoBlocks};
 
-/// How S-boxes are looked up.
-pub trait BoxLookup: Copy {
-    /// The word of groups of one block.
-    type One: OneWord;
+/// How S-boxes are looked up. The trait says no more than a cipher asks for, since a proof about a
+/// cipher spells out its lookup at each use.
+pub trait BoxLookup {
+    /// Takes one block through passes.
+    fn process_one<A: BlockTransform>(block: &mut [u8; 8], passes: &A)
+        ensures { block.new ≡ A.output passes.now block.old };
 
-    // The most blocks that go side by side in a list.
-    ghost MOST: { ℕ };
-
-    /// How many of the blocks left in a list go next. No clause says how many are quickest: the result
-    /// is the same.
-    fn next_count(left: usize) -> usize
-        requires { 1 ≤ left }
-        ensures some { 1 ≤ result }
-        ensures few { result ≤ MOST }
-        ensures within { result ≤ left };
-
-    /// Takes some blocks through passes side by side.
-    fn process_some<A: BlockTransform>(blocks: &mut [[u8; 8]], passes: &A)
-        requires some { 1 ≤ length blocks.old }
-        requires few { length blocks.old ≤ MOST }
-        ensures { blocks.new ≡ map (A.output passes.now) blocks.old };
-
-    // CBC decryption keeps the ciphertext block before each block of a part, and has room for six.
-    ghost at_most: { MOST ≤ 6 };
+    /// Takes each block of a list through passes, in order, some of them side by side.
+    fn process_list<A: BlockTransform>(blocks: &mut [[u8; 8]], passes: &A)
+        ensures blocks { All IsBlock blocks.old }
+        ensures processed { blocks.new ≡ map (A.output passes.now) blocks.old };
 }
 
 // Four, five and six blocks, of one and two.
@@ -48,6 +37,18 @@ type Six = Beside<Four, TwoBlocks>;
 pub struct Tables;
 
 impl BoxLookup for Tables {
+    #[inline(always)]
+    fn process_one<A: BlockTransform>(block: &mut [u8; 8], passes: &A) {
+        side_by_side::process_one::<OneBlock, A>(block, passes);
+    }
+
+    #[inline(always)]
+    fn process_list<A: BlockTransform>(blocks: &mut [[u8; 8]], passes: &A) {
+        lists::process::<Tables, A>(blocks, passes);
+    }
+}
+
+impl SideBySide for Tables {
     ghost use Rattle.std.proofs.Common.{lit≤};
 
     type One = OneBlock;
@@ -88,6 +89,18 @@ pub struct NoTables;
 
 // No clause says that no table is read: tests do.
 impl BoxLookup for NoTables {
+    #[inline(always)]
+    fn process_one<A: BlockTransform>(block: &mut [u8; 8], passes: &A) {
+        side_by_side::process_one::<u64, A>(block, passes);
+    }
+
+    #[inline(always)]
+    fn process_list<A: BlockTransform>(blocks: &mut [[u8; 8]], passes: &A) {
+        lists::process::<NoTables, A>(blocks, passes);
+    }
+}
+
+impl SideBySide for NoTables {
     ghost use Rattle.std.proofs.Common.{lit≤};
 
     type One = u64;

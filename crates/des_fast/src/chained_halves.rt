@@ -15,9 +15,8 @@ ghost use Rattle.des_fast.specs.HalfBlocks.{last_block};
 ghost use Rattle.des_fast.specs.ChainingValues.{AreOutputs};
 ghost use Rattle.des_fast.specs.SideBySide.{AreExpansions, AreHalvesOf};
 
-use crate::box_lookup::BoxLookup;
 use crate::rounds::{Groups, OneWord};
-use crate::side_by_side::BlockTransform;
+use crate::side_by_side::{BlockTransform, SideBySide};
 use des::cipher::are_blocks;
 
 // The block of the halves after its rounds, which exchanged are its own.
@@ -36,7 +35,7 @@ fn block_after<G: OneWord>(left: G, right: G) -> [u8; 8]
 /// Encrypts blocks by CBC from `iv`, each through passes. Not inlined: with both lookups in one
 /// function each of them is slower.
 #[inline(never)]
-pub(crate) fn cbc_encrypt<W: BoxLookup, A: BlockTransform>(
+pub(crate) fn cbc_encrypt<W: SideBySide, A: BlockTransform>(
     blocks: &mut [[u8; 8]],
     iv: &[u8; 8],
     passes: &A,
@@ -60,7 +59,7 @@ pub(crate) fn cbc_encrypt<W: BoxLookup, A: BlockTransform>(
 /// Writes the output blocks of a feedback from `iv` along a plaintext, each through passes. Not
 /// inlined, as `cbc_encrypt`.
 #[inline(never)]
-pub(crate) fn write_outputs<W: BoxLookup, A: BlockTransform>(
+pub(crate) fn write_outputs<W: SideBySide, A: BlockTransform>(
     outputs: &mut [[u8; 8]],
     iv: &[u8; 8],
     plaintext: &[[u8; 8]],

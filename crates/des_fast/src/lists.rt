@@ -6,14 +6,13 @@ ghost use Rattle.std.specs.List.{All};
 ghost use Rattle.des.specs.Blocks.{IsBlock};
 ghost use Rattle.des.specs.Cbc.{CbcDecrypts};
 
-use crate::box_lookup::BoxLookup;
-use crate::side_by_side::BlockTransform;
+use crate::side_by_side::{BlockTransform, SideBySide};
 use des::cbc::{self, next_vector};
 use des::cipher::are_blocks;
 
 // Takes some blocks that CBC chained from `iv` through passes, and out of the chain: each is xored
 // with the block that was before it.
-fn decrypt_cbc_part<W: BoxLookup, A: BlockTransform>(
+fn decrypt_cbc_part<W: SideBySide, A: BlockTransform>(
     blocks: &mut [[u8; 8]],
     iv: &[u8; 8],
     passes: &A,
@@ -38,7 +37,7 @@ fn decrypt_cbc_part<W: BoxLookup, A: BlockTransform>(
 }
 
 /// Takes each block of a list through passes, as many side by side as the lookup says.
-pub(crate) fn process<W: BoxLookup, A: BlockTransform>(blocks: &mut [[u8; 8]], passes: &A)
+pub(crate) fn process<W: SideBySide, A: BlockTransform>(blocks: &mut [[u8; 8]], passes: &A)
     ensures blocks { All IsBlock blocks.old }
     ensures output { blocks.new ≡ map (A.output passes.now) blocks.old }
 {
@@ -53,7 +52,7 @@ pub(crate) fn process<W: BoxLookup, A: BlockTransform>(blocks: &mut [[u8; 8]], p
 
 /// Takes each block of a list that CBC chained from `iv` through passes, and out of the chain, as
 /// many side by side as `process` does.
-pub(crate) fn decrypt_cbc<W: BoxLookup, A: BlockTransform>(
+pub(crate) fn decrypt_cbc<W: SideBySide, A: BlockTransform>(
     blocks: &mut [[u8; 8]],
     iv: &[u8; 8],
     passes: &A,

@@ -26,6 +26,32 @@ pub trait BlockTransform {
             ≡ output self.now block) };
 }
 
+/// How many blocks of a list go side by side by a lookup, and what one takes.
+pub trait SideBySide {
+    /// The word of groups of one block.
+    type One: OneWord;
+
+    // The most blocks that go side by side in a list.
+    ghost MOST: { ℕ };
+
+    /// How many of the blocks left in a list go next. No clause says how many are quickest: the result
+    /// is the same.
+    fn next_count(left: usize) -> usize
+        requires { 1 ≤ left }
+        ensures some { 1 ≤ result }
+        ensures few { result ≤ MOST }
+        ensures within { result ≤ left };
+
+    /// Takes some blocks through passes side by side.
+    fn process_some<A: BlockTransform>(blocks: &mut [[u8; 8]], passes: &A)
+        requires some { 1 ≤ length blocks.old }
+        requires few { length blocks.old ≤ MOST }
+        ensures { blocks.new ≡ map (A.output passes.now) blocks.old };
+
+    // CBC decryption keeps the ciphertext block before each block of a part, and has room for six.
+    ghost at_most: { MOST ≤ 6 };
+}
+
 // Takes blocks through passes, side by side.
 #[inline(always)]
 fn process_groups<G: SixteenRounds, A: BlockTransform>(blocks: &mut [[u8; 8]], passes: &A)

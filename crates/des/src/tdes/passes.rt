@@ -5,7 +5,7 @@ ghost use Rattle.std.specs.List.{All};
 ghost use Rattle.des.specs.Blocks.{IsBlock};
 ghost use Rattle.des.specs.TripleCiphers.{passed_by, thrice_passed};
 
-use crate::cipher::{BlockCipher, are_blocks};
+use crate::cipher::{BlockCipherDecrypt, BlockCipherEncrypt, are_blocks};
 
 /// A pass: the cipher deciphers a block, or enciphers it.
 #[derive(Clone, Copy)]
@@ -14,7 +14,7 @@ pub struct Pass<'a, D> {
     pub deciphers: bool,
 }
 
-impl<'a, D: BlockCipher> Pass<'a, D> {
+impl<'a, D: BlockCipherEncrypt + BlockCipherDecrypt> Pass<'a, D> {
     /// Takes a block of 8 bytes through the pass.
     pub fn apply(&self, block: &mut [u8; 8])
         ensures { block.new ≡ passed_by D.encrypted D.decrypted self.now block.old }
@@ -35,7 +35,7 @@ pub struct ThreePasses<'a, D> {
     pub third: Pass<'a, D>,
 }
 
-impl<'a, D: BlockCipher> ThreePasses<'a, D> {
+impl<'a, D: BlockCipherEncrypt + BlockCipherDecrypt> ThreePasses<'a, D> {
     /// Takes a block of 8 bytes through the passes.
     pub fn apply(&self, block: &mut [u8; 8])
         ensures { block.new ≡ thrice_passed D.encrypted D.decrypted self.now block.old }
