@@ -21,7 +21,7 @@ export const BLOCK_SIZE = 8;
 export const TAG_SIZE = 8;
 
 // The SHA-256 of the modules that this file was built with: the one of a 64-bit memory, and the same of a 32-bit memory.
-const MODULE_SUM = "a73a1c9e7964ce5e9c075ecd443a537f9e009a40a2ffda240929a2e976d53c3b";
+const MODULE_SUM = "2ef970d85bc0a5426674089f5f25b337494232caf891a8cc7d7cf40caaf16f01";
 const NARROW_SUM = "60af052975eed6af8afaee768f82483d830b47a3a4ad22e360a8eb79b81fe835";
 
 // The bytes of the module's stack, which lies at its address 0. `build` links it so.
