@@ -81,7 +81,7 @@ tree-row x = same_from_bits _ _ (λ i. simp bit_at_xor (omega arith))
 -- eight words in a row that begins with another, in the order of the code
 abbrev row_from : ℕ → (ℕ → ℕ) → ℕ
 row_from left x =
-    bit_xor (bit_xor (bit_xor (bit_xor (bit_xor (bit_xor (bit_xor (bit_xor left (x 7)) (x 6)) (x 3)) (x 1)) (x 2)) (x 0)) (x 5)) (x 4)
+    bit_xor (bit_xor (bit_xor (bit_xor (bit_xor (bit_xor (bit_xor (bit_xor left (x 7)) (x 0)) (x 3)) (x 1)) (x 5)) (x 4)) (x 2)) (x 6)
 
 row_from-row : (left : ℕ) (x : ℕ → ℕ) → row_from left x ≡ bit_xor left (row bit_xor x)
 row_from-row left x = same_from_bits _ _ (λ i. simp bit_at_xor (omega arith))

@@ -1,6 +1,6 @@
 -- The bytes of a word of groups: each is the number that its group writes.
 use Rattle.std.proofs.Common.{◌≡◌, ℕ, suc, ◌+◌, ◌-◌, ◌*◌, ◌/◌, ◌%◌, ◌^◌, ◌<◌, ◌≤◌, List, [], ◌∷◌, ◌++◌, length, lit≤, take, drop, slice_index, slice_index_or, bit_and, bit_or, refl, ap, ◌∙◌, arith}
-use Rattle.std.specs.Int.{w32, w64, to_be_bytes, rotate_right}
+use Rattle.std.specs.Int.{w64, to_be_bytes, rotate_right}
 use Rattle.std.specs.Simd.Lanes.{digits_l, number_l}
 use Rattle.std.proofs.lemmas.List.{get_or_append_left}
 use Rattle.std.proofs.lemmas.Nat.{and_le_r, and_mask, and_shr, and_mod, or_comm, or_shifted}
@@ -41,66 +41,34 @@ bits_of-in_order word i below =
     bits_of-byte word i below
     ∙ ap (λ bits. take 6 (drop (6 * i) (select group_positions bits))) (bits_of_bytes-to_be word)
 
--- the bytes by shifts and masks
-abbrev pub masked_bytes : ℕ → List ℕ
-masked_bytes word =
-    let byte : ℕ → ℕ = λ k. bit_and (word / 2 ^ k) 0x00000000000000ff in
-    byte 56 ∷ byte 24 ∷ byte 48 ∷ byte 16 ∷ byte 40 ∷ byte 8 ∷ byte 32 ∷ bit_and word 0x00000000000000ff ∷ []
+-- the bytes by shifts and masks of a word and of its rotations by two bytes and by five
+abbrev pub rotated_bytes : ℕ → ℕ → ℕ → List ℕ
+rotated_bytes word by_two by_five =
+    let last : ℕ → ℕ = λ part. bit_and part 0x00000000000000ff in
+    word / 2 ^ 56 ∷ last (by_two / 2 ^ 8) ∷ last (by_five / 2 ^ 8) ∷ last by_two ∷ last by_five ∷ by_two / 2 ^ 56
+    ∷ by_five / 2 ^ 56 ∷ last word ∷ []
 
-pub masked_bytes-in_order : (word : ℕ) → masked_bytes word ≡ in_order (to_be_bytes w64 word)
-masked_bytes-in_order word =
+pub rotated_bytes-in_order : (word by_two by_five : ℕ) → word < 2 ^ 64 → by_two ≡ rotate_right w64 word 16
+    → by_five ≡ rotate_right w64 word 40 → rotated_bytes word by_two by_five ≡ in_order (to_be_bytes w64 word)
+rotated_bytes-in_order word by_two by_five below is_by_two is_by_five =
     let masked : (byte : ℕ) → bit_and byte 0x00000000000000ff ≡ byte % 2 ^ 8 = λ byte. and_mask byte 8 in
-    simp masked
-
--- the bytes of half a word by shifts and masks of it and of its rotation
-abbrev pub rotated_bytes : ℕ → ℕ → List ℕ
-rotated_bytes half rotated =
-    let byte : ℕ → ℕ = λ k. bit_and (rotated / 2 ^ k) 0x000000ff in
-    byte 8 ∷ bit_and rotated 0x000000ff ∷ byte 24 ∷ bit_and half 0x000000ff ∷ []
-
-pub rotated_bytes-to_be : (half rotated : ℕ) → half < 2 ^ 32 → rotated ≡ rotate_right w32 half 16
-    → rotated_bytes half rotated ≡ to_be_bytes w32 half
-rotated_bytes-to_be half rotated below is =
-    let masked : (byte : ℕ) → bit_and byte 0x000000ff ≡ byte % 2 ^ 8 = λ byte. and_mask byte 8 in
-    let high : half / 2 ^ 16 < 2 ^ 16 = omega arith in
-    let moved : half * 2 ^ 16 % 2 ^ 32 ≡ half % 2 ^ 16 * 2 ^ 16 = omega arith in
-    let joined : rotated ≡ half % 2 ^ 16 * 2 ^ 16 + half / 2 ^ 16 =
-    is ∙ ap (bit_or (half / 2 ^ 16)) moved ∙ or_comm (half / 2 ^ 16) (half % 2 ^ 16 * 2 ^ 16)
-    ∙ or_shifted (half % 2 ^ 16) 16 (half / 2 ^ 16) high in
-    let first : rotated / 2 ^ 8 % 2 ^ 8 ≡ half / 2 ^ 24 % 2 ^ 8 = omega (arith, joined) in
-    let second : rotated % 2 ^ 8 ≡ half / 2 ^ 16 % 2 ^ 8 = omega (arith, joined) in
-    let third : rotated / 2 ^ 24 % 2 ^ 8 ≡ half / 2 ^ 8 % 2 ^ 8 = omega (arith, joined) in
-    simp masked (rw (first, second, third) refl)
-
--- the bytes of the first half of a word
-bytes-high : (word i : ℕ) → i < 4
-    → slice_index_or (to_be_bytes w32 (word / 2 ^ 32)) i 0 ≡ slice_index_or (to_be_bytes w64 word) i 0
-bytes-high word (suc (suc (suc (suc i)))) below = absurd (omega arith)
-bytes-high word i below = omega arith
-
--- and of the last
-bytes-low : (word i : ℕ) → i < 4
-    → slice_index_or (to_be_bytes w32 (bit_and word 0x00000000ffffffff)) i 0
-    ≡ slice_index_or (to_be_bytes w64 word) (4 + i) 0
-bytes-low word (suc (suc (suc (suc i)))) below = absurd (omega arith)
-bytes-low word i below = omega (arith, and_mask word 32)
-
--- the bytes of both by turns
-abbrev pub by_turns : List ℕ → List ℕ → List ℕ
-by_turns high low =
-    let byte = λ (bytes : List ℕ) (i : ℕ). slice_index_or bytes i 0 in
-    byte high 0 ∷ byte low 0 ∷ byte high 1 ∷ byte low 1 ∷ byte high 2 ∷ byte low 2 ∷ byte high 3 ∷ byte low 3 ∷ []
-
--- are those of the word in the order of the boxes
-pub by_turns-in_order : (word : ℕ) (high low : List ℕ) → high ≡ to_be_bytes w32 (word / 2 ^ 32)
-    → low ≡ to_be_bytes w32 (bit_and word 0x00000000ffffffff) → by_turns high low ≡ in_order (to_be_bytes w64 word)
-by_turns-in_order word high low is_high is_low =
-    let at_high : (i : ℕ) → i < 4 → slice_index_or high i 0 ≡ slice_index_or (to_be_bytes w64 word) i 0 =
-    λ i below. ap (λ bytes. slice_index_or bytes i 0) is_high ∙ bytes-high word i below in
-    let at_low : (i : ℕ) → i < 4 → slice_index_or low i 0 ≡ slice_index_or (to_be_bytes w64 word) (4 + i) 0 =
-    λ i below. ap (λ bytes. slice_index_or bytes i 0) is_low ∙ bytes-low word i below in
-    rw (at_high 0 (lit≤ tt), at_high 1 (lit≤ tt), at_high 2 (lit≤ tt), at_high 3 (lit≤ tt)) (
-    rw (at_low 0 (lit≤ tt), at_low 1 (lit≤ tt), at_low 2 (lit≤ tt), at_low 3 (lit≤ tt)) refl)
+    let moved_two : word * 2 ^ 48 % 2 ^ 64 ≡ word % 2 ^ 16 * 2 ^ 48 = omega arith in
+    let two : by_two ≡ word % 2 ^ 16 * 2 ^ 48 + word / 2 ^ 16 =
+    is_by_two ∙ ap (bit_or (word / 2 ^ 16)) moved_two ∙ or_comm (word / 2 ^ 16) (word % 2 ^ 16 * 2 ^ 48)
+    ∙ or_shifted (word % 2 ^ 16) 48 (word / 2 ^ 16) (omega arith) in
+    let moved_five : word * 2 ^ 24 % 2 ^ 64 ≡ word % 2 ^ 40 * 2 ^ 24 = omega arith in
+    let five : by_five ≡ word % 2 ^ 40 * 2 ^ 24 + word / 2 ^ 40 =
+    is_by_five ∙ ap (bit_or (word / 2 ^ 40)) moved_five ∙ or_comm (word / 2 ^ 40) (word % 2 ^ 40 * 2 ^ 24)
+    ∙ or_shifted (word % 2 ^ 40) 24 (word / 2 ^ 40) (omega arith) in
+    let first : word / 2 ^ 56 ≡ word / 2 ^ 56 % 2 ^ 8 = omega (arith, below) in
+    let second : by_two / 2 ^ 8 % 2 ^ 8 ≡ word / 2 ^ 24 % 2 ^ 8 = omega (arith, two) in
+    let third : by_five / 2 ^ 8 % 2 ^ 8 ≡ word / 2 ^ 48 % 2 ^ 8 = omega (arith, five) in
+    let fourth : by_two % 2 ^ 8 ≡ word / 2 ^ 16 % 2 ^ 8 = omega (arith, two) in
+    let fifth : by_five % 2 ^ 8 ≡ word / 2 ^ 40 % 2 ^ 8 = omega (arith, five) in
+    let sixth : by_two / 2 ^ 56 ≡ word / 2 ^ 8 % 2 ^ 8 = omega (arith, two) in
+    let seventh : by_five / 2 ^ 56 ≡ word / 2 ^ 32 % 2 ^ 8 = omega (arith, five) in
+    simp masked (rw (second, third, fourth, fifth, sixth, seventh) (
+    ap (λ (byte : ℕ). byte ∷ drop 1 (in_order (to_be_bytes w64 word))) first))
 
 -- more after the bytes changes none of them
 pub in_order-append : (bytes more : List ℕ) → 8 ≤ length bytes → in_order (bytes ++ more) ≡ in_order bytes

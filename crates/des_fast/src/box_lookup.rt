@@ -23,15 +23,10 @@ pub trait BoxLookup {
         ensures processed { blocks.new ≡ map (A.output passes.now) blocks.old };
 }
 
-// Four, five and six blocks, of one and two.
-type Four = Beside<TwoBlocks, TwoBlocks>;
+type FourBlocks = Beside<TwoBlocks, TwoBlocks>;
 
-type Five = Beside<Four, OneBlock>;
-
-type Six = Beside<Four, TwoBlocks>;
-
-/// By tables. The rounds of a block wait for its lookups, and those of others go on meanwhile: six
-/// blocks take two to three times as long as one. More than six would not have their words in
+/// By tables. The rounds of a block wait for its lookups, and those of others go on meanwhile: three
+/// blocks take one and a half times as long as one. More than four would not have their words in
 /// registers.
 #[derive(Clone, Copy)]
 pub struct Tables;
@@ -49,21 +44,19 @@ impl BoxLookup for Tables {
 }
 
 impl SideBySide for Tables {
-    ghost use Rattle.std.proofs.Common.{lit≤};
-
     type One = OneBlock;
 
-    ghost MOST = { 6 };
+    ghost MOST = { 4 };
 
-    // Seven to eleven go in two halves: the fewer go together, the slower each.
+    // Threes, and fours so that neither one nor two are left.
     #[inline(always)]
     fn next_count(left: usize) -> usize {
-        if left <= 6 {
+        if left <= 4 {
             left
-        } else if left < 12 {
-            left.div_ceil(2)
+        } else if left == 5 || left % 3 == 0 {
+            3
         } else {
-            6
+            4
         }
     }
 
@@ -73,13 +66,9 @@ impl SideBySide for Tables {
             1 => process_side_by_side::<OneBlock, A>(blocks, passes),
             2 => process_side_by_side::<TwoBlocks, A>(blocks, passes),
             3 => process_side_by_side::<ThreeBlocks, A>(blocks, passes),
-            4 => process_side_by_side::<Four, A>(blocks, passes),
-            5 => process_side_by_side::<Five, A>(blocks, passes),
-            _ => process_side_by_side::<Six, A>(blocks, passes),
+            _ => process_side_by_side::<FourBlocks, A>(blocks, passes),
         }
     }
-
-    ghost at_most = { lit≤ tt };
 }
 
 /// By selections between vectors: no table is read at an index that depends on the key or a block.
@@ -101,8 +90,6 @@ impl BoxLookup for NoTables {
 }
 
 impl SideBySide for NoTables {
-    ghost use Rattle.std.proofs.Common.{lit≤};
-
     type One = u64;
 
     ghost MOST = { 4 };
@@ -121,6 +108,4 @@ impl SideBySide for NoTables {
             process_padded(blocks, passes);
         }
     }
-
-    ghost at_most = { lit≤ tt };
 }

@@ -47,9 +47,6 @@ pub trait SideBySide {
         requires some { 1 ≤ length blocks.old }
         requires few { length blocks.old ≤ MOST }
         ensures { blocks.new ≡ map (A.output passes.now) blocks.old };
-
-    // CBC decryption keeps the ciphertext block before each block of a part, and has room for six.
-    ghost at_most: { MOST ≤ 6 };
 }
 
 // Takes blocks through passes, side by side.

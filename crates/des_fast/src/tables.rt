@@ -4,7 +4,6 @@
 //! groups 1, 3, 5 and 7, then 2, 4, 6 and 8.
 
 ghost use Rattle.std.specs.Prelude.{◌≡◌, ◌*◌, ◌<◌, ℕ, take, drop, slice_index};
-ghost use Rattle.std.specs.Int.{w32, to_be_bytes};
 ghost use Rattle.std.specs.List.{All};
 ghost use Rattle.des.specs.Bits.{bits_of, select};
 ghost use Rattle.des.specs.Tables.{permutation};
@@ -193,25 +192,28 @@ pub(crate) fn substitute(word: u64) -> u64
 }
 
 /// A word, with what `substitute` makes of another xored in: quicker for blocks side by side, since it
-/// has fewer instructions, and slower for one, since these wait for one another. The entries are
-/// joined in a row.
+/// keeps fewer words, and slower for one, since the entries are joined in a row, in which each waits for
+/// the one before it.
 #[inline]
 pub(crate) fn xor_substituted(left: u64, right: u64) -> u64
     requires { IsOfGroups right }
     ensures { IsSubstitutedInto left right result }
 {
-    let group = groups_of_halves(right);
+    let group = groups_of(right);
     left ^ TABLES[7][group[7]]
-        ^ TABLES[6][group[6]]
+        ^ TABLES[0][group[0]]
         ^ TABLES[3][group[3]]
         ^ TABLES[1][group[1]]
-        ^ TABLES[2][group[2]]
-        ^ TABLES[0][group[0]]
         ^ TABLES[5][group[5]]
         ^ TABLES[4][group[4]]
+        ^ TABLES[2][group[2]]
+        ^ TABLES[6][group[6]]
 }
 
-// The groups of a word of groups, in their order: for one block.
+// The groups of a word of groups, in their order. x86-64 takes either of the last two bytes of a
+// register in one instruction, and the first byte by one shift: so the word and two rotations of it
+// give all eight. The first byte of a rotation is taken too since otherwise the compiler would turn the
+// rotation into shifts and masks.
 #[inline]
 fn groups_of(word: u64) -> [usize; 8]
     requires { IsOfGroups word }
@@ -219,44 +221,16 @@ fn groups_of(word: u64) -> [usize; 8]
     ensures groups { (i : ℕ) → i < 8
         → bits_of 6 (slice_index result i) ≡ take 6 (drop (6 * i) (bits_of_groups word)) }
 {
+    let by_two = word.rotate_right(16);
+    let by_five = word.rotate_right(40);
     [
-        ((word >> 56) & 0x00000000000000ff) as usize,
-        ((word >> 24) & 0x00000000000000ff) as usize,
-        ((word >> 48) & 0x00000000000000ff) as usize,
-        ((word >> 16) & 0x00000000000000ff) as usize,
-        ((word >> 40) & 0x00000000000000ff) as usize,
-        ((word >> 8) & 0x00000000000000ff) as usize,
-        ((word >> 32) & 0x00000000000000ff) as usize,
+        (word >> 56) as usize,
+        ((by_two >> 8) & 0x00000000000000ff) as usize,
+        ((by_five >> 8) & 0x00000000000000ff) as usize,
+        (by_two & 0x00000000000000ff) as usize,
+        (by_five & 0x00000000000000ff) as usize,
+        (by_two >> 56) as usize,
+        (by_five >> 56) as usize,
         (word & 0x00000000000000ff) as usize,
-    ]
-}
-
-// The same by the halves of the word, in fewer instructions: for blocks side by side.
-#[inline]
-fn groups_of_halves(word: u64) -> [usize; 8]
-    requires { IsOfGroups word }
-    ensures within { All (λ group. group < 64) result }
-    ensures groups { (i : ℕ) → i < 8
-        → bits_of 6 (slice_index result i) ≡ take 6 (drop (6 * i) (bits_of_groups word)) }
-{
-    let [first, third, fifth, seventh] = bytes_of((word >> 32) as u32);
-    let [second, fourth, sixth, eighth] = bytes_of((word & 0x00000000ffffffff) as u32);
-    [first, second, third, fourth, fifth, sixth, seventh, eighth]
-}
-
-// The bytes of half a word, the most significant first. x86-64 takes either of the last two bytes of a
-// register in one instruction, and the rotation brings the first two there. The third is taken from
-// the rotated word as well: if only its last two bytes were used, the compiler would turn the rotation
-// into shifts and masks.
-#[inline(always)]
-fn bytes_of(half: u32) -> [usize; 4]
-    ensures { result ≡ to_be_bytes w32 half }
-{
-    let rotated = half.rotate_right(16);
-    [
-        ((rotated >> 8) & 0x000000ff) as usize,
-        (rotated & 0x000000ff) as usize,
-        ((rotated >> 24) & 0x000000ff) as usize,
-        (half & 0x000000ff) as usize,
     ]
 }

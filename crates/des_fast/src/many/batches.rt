@@ -1,8 +1,12 @@
 //! How a list is processed: in batches, which read no table, or side by side.
 
-ghost use Rattle.std.specs.Prelude.{◌≡◌, ◌≢◌, ◌≤◌, ◌-◌, ◌%◌};
+ghost use Rattle.std.specs.Prelude.{◌≡◌, ◌≢◌, ◌≤◌, ◌-◌, ◌%◌, map};
+ghost use Rattle.std.specs.List.{All};
+ghost use Rattle.des.specs.Blocks.{IsBlock};
 
 use super::Slice;
+use crate::box_lookup::{BoxLookup, NoTables, Tables};
+use crate::side_by_side::BlockTransform;
 
 /// The most blocks of a list that is quicker over vectors of two words, even if the processor
 /// has vectors of four: a batch of 128 takes less time than one of 256. For those who choose the
@@ -10,9 +14,8 @@ use super::Slice;
 pub const MOST_NARROW: usize = 128;
 
 // The most blocks left over that go in no batch, if tables may be read and if none may be, whatever
-// the cipher, the direction and the width. On a processor where a batch took 1.04 microseconds of DES
-// and 2.66 of EDE3, 31 blocks by tables took 0.97 and 2.48, and without tables 8 blocks 0.86 and
-// 2.41 (9: 1.04 and 2.94).
+// the cipher, the direction and the width. 31 blocks by tables take 0.92 of the time of a batch, and
+// without tables 8 blocks 0.83 (DES) and 0.91 (EDE3), but 9 blocks 1.00 and 1.11.
 pub(super) const FEW_BY_TABLES: usize = 31;
 
 const FEW_NO_TABLES: usize = 8;
@@ -33,4 +36,16 @@ pub(super) fn in_batches<S: Slice>(count: usize, no_tables: bool) -> usize
     };
     let left = count % S::BATCH;
     if left <= few { count - left } else { count }
+}
+
+/// Takes a few blocks through passes, some side by side.
+pub(super) fn process_few<P: BlockTransform>(no_tables: bool, blocks: &mut [[u8; 8]], passes: &P)
+    ensures blocks { All IsBlock blocks.old }
+    ensures processed { blocks.new ≡ map (P.output passes.now) blocks.old }
+{
+    if no_tables {
+        NoTables::process_list(blocks, passes);
+    } else {
+        Tables::process_list(blocks, passes);
+    }
 }

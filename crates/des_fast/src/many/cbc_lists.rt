@@ -8,12 +8,26 @@ ghost use Rattle.des.specs.Blocks.{IsBlock};
 ghost use Rattle.des.specs.Cbc.{CbcDecrypts};
 ghost use Rattle.des_fast.specs.SpreadKeys.{AreSlicesFor};
 
+use super::batches::process_few;
 use super::{LARGEST_BATCH, Slice, process};
-use crate::box_lookup::{NoTables, Tables};
-use crate::lists;
 use crate::side_by_side::BlockTransform;
 use crate::slices::PassSlices;
 use des::cbc::{self, ListDecryption};
+
+// Passes that take a few blocks, some side by side.
+#[derive(Drop)]
+struct FewBlocks<'a, P> {
+    no_tables: bool,
+    passes: &'a P,
+}
+
+impl<'a, P: BlockTransform> ListDecryption for FewBlocks<'a, P> {
+    ghost decrypts = { λ few decryption. decryption ≡ P.output few.passes.now };
+
+    fn decrypt_list(&self, blocks: &mut [[u8; 8]]) {
+        process_few(self.no_tables, blocks, self.passes);
+    }
+}
 
 /// Decrypts a few blocks that CBC chained from `iv`, some side by side, through passes.
 pub(super) fn cbc_decrypt_few<P: BlockTransform>(
@@ -25,11 +39,8 @@ pub(super) fn cbc_decrypt_few<P: BlockTransform>(
     ensures blocks { All IsBlock blocks.old }
     ensures cbc_decrypted { CbcDecrypts (P.output passes.now) iv.now blocks.old blocks.new }
 {
-    if no_tables {
-        lists::decrypt_cbc::<NoTables, P>(blocks, iv, passes);
-    } else {
-        lists::decrypt_cbc::<Tables, P>(blocks, iv, passes);
-    }
+    let mut buffer = [[0; 8]; 12];
+    cbc::decrypt_by(&FewBlocks { no_tables, passes }, iv, blocks, &mut buffer);
 }
 
 // Passes that take blocks in batches.

@@ -4,5 +4,5 @@ use Rattle.des_fast.proofs.tables.xor_substituted.Goals as goal
 
 pub returns : goal.returns
 returns c =
-    let group = c.groups_of_halves-group in
+    let group = c.groups_of-group in
     IsSubstitutedInto-row c.args.left c.args.right group.result group.ensures.within (omega arith) group.ensures.groups
