@@ -2,6 +2,7 @@
 
 import re
 from dataclasses import dataclass, field
+from functools import cached_property
 
 from pycparser import c_ast, c_parser
 from sources.text import Refused
@@ -101,12 +102,13 @@ class Header:
     structs: dict = field(default_factory=dict)
     calls: dict = field(default_factory=dict)
 
-    @property
+    # What follows is asked for once the header is read, and often.
+    @cached_property
     def statuses(self):
         """The statuses in the order of their numbers: name without `CUKVASHE_`, number and sentence."""
         return [it for it in self.constants if it.name == "OK" or it.name.startswith("ERR_")]
 
-    @property
+    @cached_property
     def numbers(self):
         """What each call gives that takes nothing but a number: the size of each struct, and each constant, as C writes it."""
         sizes = {f"{name}_size": ("size_t", f"sizeof(cukvashe_{name})") for name in self.structs}
@@ -114,7 +116,7 @@ class Header:
         named = {it.name.lower(): ("size_t" if it.name.endswith("_SIZE") else "int", f"CUKVASHE_{it.name}") for it in constants}
         return {**sizes, **named}
 
-    @property
+    @cached_property
     def kinds(self):
         """The names of ciphers and MACs: those of contexts of words that an init makes of a key."""
         return [name for name, struct in self.structs.items() if struct.words and f"{name}_init" in self.calls]
