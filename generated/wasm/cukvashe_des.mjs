@@ -21,8 +21,8 @@ export const BLOCK_SIZE = 8;
 export const TAG_SIZE = 8;
 
 // The SHA-256 of the modules that this file was built with: the one of a 64-bit memory, and the same of a 32-bit memory.
-const MODULE_SUM = "2ef970d85bc0a5426674089f5f25b337494232caf891a8cc7d7cf40caaf16f01";
-const NARROW_SUM = "60af052975eed6af8afaee768f82483d830b47a3a4ad22e360a8eb79b81fe835";
+const MODULE_SUM = "ce1d05fff5d0a9a126974532727b5eda46148e506c95d5a54915944f59bfb9c3";
+const NARROW_SUM = "03e9a6a284df762099e3f7f3f8c9b4b53a4a028b0181fc683f906d74a4c68ed0";
 
 // The bytes of the module's stack, which lies at its address 0. `build` links it so.
 const STACK_SIZE = 131072;
