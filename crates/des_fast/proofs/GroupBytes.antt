@@ -41,6 +41,13 @@ bits_of-in_order word i below =
     bits_of-byte word i below
     ∙ ap (λ bits. take 6 (drop (6 * i) (select group_positions bits))) (bits_of_bytes-to_be word)
 
+-- the two parts of a rotated word share no bit, so that it is their sum
+joined : (word low high : ℕ) → word / 2 ^ low < 2 ^ high → word * 2 ^ high % 2 ^ 64 ≡ word % 2 ^ low * 2 ^ high
+    → bit_or (word / 2 ^ low) (word * 2 ^ high % 2 ^ 64) ≡ word % 2 ^ low * 2 ^ high + word / 2 ^ low
+joined word low high below moved =
+    ap (bit_or (word / 2 ^ low)) moved ∙ or_comm (word / 2 ^ low) (word % 2 ^ low * 2 ^ high)
+    ∙ or_shifted (word % 2 ^ low) high (word / 2 ^ low) below
+
 -- the bytes by shifts and masks of a word and of its rotations by two bytes and by five
 abbrev pub rotated_bytes : ℕ → ℕ → ℕ → List ℕ
 rotated_bytes word by_two by_five =
@@ -52,14 +59,10 @@ pub rotated_bytes-in_order : (word by_two by_five : ℕ) → word < 2 ^ 64 → b
     → by_five ≡ rotate_right w64 word 40 → rotated_bytes word by_two by_five ≡ in_order (to_be_bytes w64 word)
 rotated_bytes-in_order word by_two by_five below is_by_two is_by_five =
     let masked : (byte : ℕ) → bit_and byte 0x00000000000000ff ≡ byte % 2 ^ 8 = λ byte. and_mask byte 8 in
-    let moved_two : word * 2 ^ 48 % 2 ^ 64 ≡ word % 2 ^ 16 * 2 ^ 48 = omega arith in
     let two : by_two ≡ word % 2 ^ 16 * 2 ^ 48 + word / 2 ^ 16 =
-    is_by_two ∙ ap (bit_or (word / 2 ^ 16)) moved_two ∙ or_comm (word / 2 ^ 16) (word % 2 ^ 16 * 2 ^ 48)
-    ∙ or_shifted (word % 2 ^ 16) 48 (word / 2 ^ 16) (omega arith) in
-    let moved_five : word * 2 ^ 24 % 2 ^ 64 ≡ word % 2 ^ 40 * 2 ^ 24 = omega arith in
+    is_by_two ∙ joined word 16 48 (omega arith) (omega arith) in
     let five : by_five ≡ word % 2 ^ 40 * 2 ^ 24 + word / 2 ^ 40 =
-    is_by_five ∙ ap (bit_or (word / 2 ^ 40)) moved_five ∙ or_comm (word / 2 ^ 40) (word % 2 ^ 40 * 2 ^ 24)
-    ∙ or_shifted (word % 2 ^ 40) 24 (word / 2 ^ 40) (omega arith) in
+    is_by_five ∙ joined word 40 24 (omega arith) (omega arith) in
     let first : word / 2 ^ 56 ≡ word / 2 ^ 56 % 2 ^ 8 = omega (arith, below) in
     let second : by_two / 2 ^ 8 % 2 ^ 8 ≡ word / 2 ^ 24 % 2 ^ 8 = omega (arith, two) in
     let third : by_five / 2 ^ 8 % 2 ^ 8 ≡ word / 2 ^ 48 % 2 ^ 8 = omega (arith, five) in
