@@ -1,6 +1,6 @@
 -- Rounds taken two at a time.
-use Rattle.std.proofs.Common.{◌≡◌, ℕ, ◌+◌, ◌*◌, ◌%◌, ◌<◌, ◌≤◌, List, [], ◌∷◌, ◌++◌, Bool, length, take, slice_index_or, ap, ap₂, sym, ◌∙◌, arith}
-use Rattle.std.proofs.lemmas.List.{append_assoc, take_all, take_more}
+use Rattle.std.proofs.Common.{◌≡◌, ℕ, ◌+◌, ◌*◌, ◌<◌, List, [], ◌∷◌, ◌++◌, Bool, length, take, slice_index_or, ap, ap₂, sym, ◌∙◌, arith}
+use Rattle.std.proofs.lemmas.List.{append_assoc, take_more}
 use Rattle.des.specs.Rounds.{after_rounds}
 use Rattle.des.specs.Laws.RoundsUndone.{next_half, after_rounds-append}
 
@@ -28,42 +28,3 @@ after_rounds-two_more keys i first second left right next_left next_right below 
     ∙ ap (λ (h : List Bool × List Bool). after_rounds (k1 ∷ k2 ∷ []) h.0 h.1) so_far
     ∙ sym (after_rounds-append (take (2 * i) keys) (k1 ∷ k2 ∷ []) first second)
     ∙ ap (λ ks. after_rounds ks first second) (sym (ap (λ n. take n keys) count ∙ take-two_more keys (2 * i) [] below))
-
--- the round keys that two halves after an even number of rounds have in them: each the one that meets it next, and
--- the right one also that after it
-pub record AreKeysOf (keys : List (List Bool)) (i : ℕ) (left_key right_key after_key : List Bool) : Type 0 where
-  pub left : left_key ≡ slice_index_or keys ((2 * i + 1) % 16) []
-  pub right : right_key ≡ slice_index_or keys (2 * i % 16) []
-  pub after : after_key ≡ slice_index_or keys ((2 * i + 2) % 16) []
-
--- two rounds more
-pub after_rounds-keyed : (keys : List (List Bool)) (i : ℕ) (first second : List Bool)
-    (left right after made next left_key right_key after_key : List Bool)
-    → length keys ≡ 16 → i < 8 → AreKeysOf keys i left_key right_key after_key
-    → (left, right) ≡ after_rounds (take (2 * i) keys) first second
-    → after ≡ right
-    → made ≡ next_half left right right_key
-    → next ≡ next_half after made left_key
-    → (made, next) ≡ after_rounds (take (2 * (i + 1)) keys) first second
-after_rounds-keyed keys i first second left right after made next left_key right_key after_key size below are halves same
-    makes_left makes_right =
-    let even : 2 * i % 16 ≡ 2 * i = omega arith in
-    let odd : (2 * i + 1) % 16 ≡ 2 * i + 1 = omega arith in
-    after_rounds-two_more keys i first second left right made next (omega arith) halves
-    (makes_left ∙ ap (next_half left right) (are.right ∙ ap (λ (n : ℕ). slice_index_or keys n []) even))
-    (makes_right ∙ ap₂ (λ r k. next_half r made k) same (are.left ∙ ap (λ (n : ℕ). slice_index_or keys n []) odd))
-
--- and the last two
-pub after_rounds-all : (keys : List (List Bool)) (i : ℕ) (first second : List Bool)
-    (left right after made next left_key right_key after_key : List Bool)
-    → length keys ≡ 16 → i ≡ 7 → AreKeysOf keys i left_key right_key after_key
-    → (left, right) ≡ after_rounds (take (2 * i) keys) first second
-    → after ≡ right
-    → made ≡ next_half left right right_key
-    → next ≡ next_half after made left_key
-    → (made, next) ≡ after_rounds keys first second
-after_rounds-all keys i first second left right after made next left_key right_key after_key size last are halves same
-    makes_left makes_right =
-    let all : length keys ≤ 2 * (i + 1) = omega arith in
-    rw take_all at (after_rounds-keyed keys i first second left right after made next left_key right_key after_key size
-    (omega arith) are halves same makes_left makes_right)

@@ -7,7 +7,7 @@ pub mod SpreadKeys
 pub mod CombinedTables
 pub mod RoundKeyRows
 pub mod HalfBlocks
-pub mod Keyed
+pub mod RoundKeyChanges
 pub mod Des
 pub mod KeptRoundKeys
 pub mod EachKey

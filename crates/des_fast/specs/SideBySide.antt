@@ -21,7 +21,7 @@ pub record IsSubstitutedInto (left right next : ℕ) : Type 0 where
   pub substituted : half_of change ≡ select permutation (substitute (bits_of_groups right))
 
 -- round keys in the order of enciphering, or of deciphering
-abbrev pub in_direction : Bool → List (List Bool) → List (List Bool)
+abbrev pub in_direction : {X : Type 0} → Bool → List X → List X
 in_direction false keys = keys
 in_direction true keys = reverse keys
 

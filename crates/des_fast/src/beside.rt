@@ -4,7 +4,7 @@ ghost use Rattle.std.specs.Prelude.{◌+◌};
 ghost use Rattle.des_fast.specs.Beside.{word_beside};
 
 use crate::halves::RoundKey;
-use crate::rounds::{Groups, SixteenRounds, after_rounds};
+use crate::rounds::Groups;
 
 /// Words of groups of some blocks, and then those of others.
 #[derive(Clone, Copy)]
@@ -14,6 +14,8 @@ pub struct Beside<A, B> {
 }
 
 impl<A: Groups, B: Groups> Groups for Beside<A, B> {
+    const CHANGES_AHEAD: bool = false;
+
     ghost BLOCKS = { A.BLOCKS + B.BLOCKS };
 
     ghost word = { word_beside A.BLOCKS A.word B.word };
@@ -61,17 +63,5 @@ impl<A: Groups, B: Groups> Groups for Beside<A, B> {
             first: self.first.xor_substituted(others.first),
             second: self.second.xor_substituted(others.second),
         }
-    }
-}
-
-impl<A: Groups, B: Groups> SixteenRounds for Beside<A, B> {
-    #[inline(always)]
-    fn after_rounds(
-        left: Beside<A, B>,
-        right: Beside<A, B>,
-        round_keys: &[RoundKey; 16],
-        deciphers: bool,
-    ) -> (Beside<A, B>, Beside<A, B>) {
-        after_rounds(left, right, round_keys, deciphers)
     }
 }

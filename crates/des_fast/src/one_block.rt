@@ -8,7 +8,7 @@ ghost use Rattle.des_fast.specs.HalfBlocks.{first_halves, last_block};
 ghost use Rattle.des_fast.specs.TableBlocks.{word_of_one};
 
 use crate::halves::{RoundKey, block_of};
-use crate::rounds::{Groups, OneWord, SixteenRounds, after_keyed_rounds};
+use crate::rounds::{Groups, OneWord};
 use crate::tables::substitute;
 use des::utils;
 
@@ -61,6 +61,8 @@ pub struct OneBlock {
 }
 
 impl Groups for OneBlock {
+    const CHANGES_AHEAD: bool = false;
+
     ghost BLOCKS = { 1 };
 
     ghost word = { word_of_one };
@@ -93,18 +95,6 @@ impl Groups for OneBlock {
         OneBlock {
             word: self.word ^ substitute(others.word),
         }
-    }
-}
-
-impl SixteenRounds for OneBlock {
-    #[inline(always)]
-    fn after_rounds(
-        left: OneBlock,
-        right: OneBlock,
-        round_keys: &[RoundKey; 16],
-        deciphers: bool,
-    ) -> (OneBlock, OneBlock) {
-        after_keyed_rounds(left, right, round_keys, deciphers)
     }
 }
 

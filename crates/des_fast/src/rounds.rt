@@ -3,11 +3,10 @@
 //! A half block is kept as its expansion E in a word of groups, as in `halves`.
 
 ghost use Rattle.std.specs.Prelude.{◌≡◌, ◌<◌, ◌≤◌, ℕ, [], length, slice_index_or, bit_xor};
-ghost use Rattle.des.specs.Bits.{xor_bits};
-ghost use Rattle.des.specs.CipherFunction.{cipher_function};
 ghost use Rattle.des.specs.Rounds.{after_rounds};
+ghost use Rattle.des_fast.specs.RoundKeyChanges.{AreChanges, change_word, key_word};
 ghost use Rattle.des_fast.specs.Slices.{InEachBlock};
-ghost use Rattle.des_fast.specs.Groups.{IsOfGroups, bits_of_groups, half_of};
+ghost use Rattle.des_fast.specs.Groups.{IsOfGroups, half_of};
 ghost use Rattle.des_fast.specs.HalfBlocks.{round_keys_of, first_halves, last_block};
 ghost use Rattle.des_fast.specs.SideBySide.{AreExpansions, IsSubstitutedInto, in_direction};
 
@@ -15,6 +14,9 @@ use crate::halves::RoundKey;
 
 /// A word of groups of each of some blocks.
 pub trait Groups: Copy {
+    /// Whether it is quicker to compute the changes of round keys before the rounds than in them.
+    const CHANGES_AHEAD: bool;
+
     // The number of blocks.
     ghost BLOCKS: { ℕ };
 
@@ -57,28 +59,8 @@ pub trait Groups: Copy {
             IsSubstitutedInto (word b self) (word b others) (word b result)) };
 }
 
-/// Groups with the form of the rounds that is quickest for so many blocks.
-pub trait SixteenRounds: Groups {
-    /// The halves after sixteen rounds, with the round keys in their order or, to decipher, from the
-    /// last to the first (FIPS 46-3, enciphering and deciphering).
-    fn after_rounds(
-        left: Self,
-        right: Self,
-        round_keys: &[RoundKey; 16],
-        deciphers: bool,
-    ) -> (Self, Self)
-        requires left { AreExpansions Self.BLOCKS Self.word left }
-        requires right { AreExpansions Self.BLOCKS Self.word right }
-        ensures left { AreExpansions Self.BLOCKS Self.word result.0 }
-        ensures right { AreExpansions Self.BLOCKS Self.word result.1 }
-        ensures halves { InEachBlock Self.BLOCKS (λ b.
-            (half_of (Self.word b result.0), half_of (Self.word b result.1))
-            ≡ after_rounds (in_direction deciphers (round_keys_of round_keys.now))
-            (half_of (Self.word b left)) (half_of (Self.word b right))) };
-}
-
 /// The word of groups of one block.
-pub trait OneWord: SixteenRounds {
+pub trait OneWord: Groups {
     /// The xor of the two words.
     fn xor(self, other: Self) -> Self
         ensures { InEachBlock Self.BLOCKS (λ b.
@@ -91,8 +73,7 @@ pub trait OneWord: SixteenRounds {
 #[inline(always)]
 fn round_key_of(round_keys: &[RoundKey; 16], deciphers: bool, round: usize) -> RoundKey
     requires { round < 16 }
-    ensures { bits_of_groups result.groups
-        ≡ slice_index_or (in_direction deciphers (round_keys_of round_keys.now)) round [] }
+    ensures { result.groups ≡ key_word deciphers round_keys.now round }
 {
     if deciphers {
         round_keys[15 - round]
@@ -101,21 +82,54 @@ fn round_key_of(round_keys: &[RoundKey; 16], deciphers: bool, round: usize) -> R
     }
 }
 
-// The half blocks that a round makes: the left halves, xor f of the right halves and the round key
-// (FIPS 46-3, enciphering).
+// The bits in which the round key of a round differs from that of the next round but one; after the
+// last come the first.
 #[inline(always)]
-fn next<G: Groups>(left: G, right: G, round_key: RoundKey) -> G
-    requires left { AreExpansions G.BLOCKS G.word left }
-    requires right { AreExpansions G.BLOCKS G.word right }
-    ensures expansions { AreExpansions G.BLOCKS G.word result }
-    ensures halves { InEachBlock G.BLOCKS (λ b. half_of (G.word b result)
-        ≡ xor_bits (half_of (G.word b left))
-        (cipher_function (half_of (G.word b right)) (bits_of_groups round_key.groups))) }
+fn key_change(round_keys: &[RoundKey; 16], deciphers: bool, round: usize) -> RoundKey
+    requires { round < 16 }
+    ensures { result.groups ≡ change_word deciphers round_keys.now round }
 {
-    left.xor_substituted(right.with_key(round_key))
+    let round_key = round_key_of(round_keys, deciphers, round);
+    round_key.xor(round_key_of(round_keys, deciphers, (round + 2) % 16))
 }
 
-// Sixteen rounds in one direction. Inlined where the direction is known, so that no round tests it.
+// The same of all rounds, each at the place of its round key. Made in this order since the compiler
+// then takes two at a time.
+#[inline(always)]
+fn key_changes(round_keys: &[RoundKey; 16], deciphers: bool) -> [RoundKey; 16]
+    ensures { AreChanges deciphers round_keys.now result }
+{
+    let step = if deciphers { 14 } else { 2 };
+    let mut changes = *round_keys;
+    'places: for place in 0..16usize {
+        changes[place] = round_keys[place].xor(round_keys[(place + step) % 16]);
+    }
+    changes
+}
+
+// The same of a round: one of `changes`, if they were computed ahead.
+#[inline(always)]
+fn change_of(
+    changes: &[RoundKey; 16],
+    ahead: bool,
+    round_keys: &[RoundKey; 16],
+    deciphers: bool,
+    round: usize,
+) -> RoundKey
+    requires round { round < 16 }
+    requires changes { AreChanges deciphers round_keys.now changes.now }
+    ensures { result.groups ≡ change_word deciphers round_keys.now round }
+{
+    if ahead {
+        round_key_of(changes, deciphers, round)
+    } else {
+        key_change(round_keys, deciphers, round)
+    }
+}
+
+// Sixteen rounds in one direction (FIPS 46-3, enciphering). Each half has in it the round key that it
+// meets next, so that what a round makes are the indexes of the next; the key changes while lookups
+// are under way. Inlined where the direction is known, so that no round tests it.
 #[inline(always)]
 fn rounds<G: Groups>(left: G, right: G, round_keys: &[RoundKey; 16], deciphers: bool) -> (G, G)
     requires left { AreExpansions G.BLOCKS G.word left }
@@ -127,129 +141,33 @@ fn rounds<G: Groups>(left: G, right: G, round_keys: &[RoundKey; 16], deciphers: 
         ≡ after_rounds (in_direction deciphers (round_keys_of round_keys.now))
         (half_of (G.word b left)) (half_of (G.word b right))) }
 {
-    let mut next_left = left;
-    let mut next_right = right;
+    let first_key = round_key_of(round_keys, deciphers, 0);
+    let second_key = round_key_of(round_keys, deciphers, 1);
+    let changes = key_changes(round_keys, deciphers);
+    let ahead = G::CHANGES_AHEAD;
+    let mut next_left = left.with_key(second_key);
+    let mut next_right = right.with_key(first_key);
     for i in 0..8usize {
-        next_left = next(
-            next_left,
-            next_right,
-            round_key_of(round_keys, deciphers, 2 * i),
-        );
-        next_right = next(
-            next_right,
-            next_left,
-            round_key_of(round_keys, deciphers, 2 * i + 1),
-        );
+        next_left = next_left.xor_substituted(next_right);
+        next_right = next_right.with_key(change_of(&changes, ahead, round_keys, deciphers, 2 * i));
+        next_right = next_right.xor_substituted(next_left);
+        next_left = next_left.with_key(change_of(
+            &changes,
+            ahead,
+            round_keys,
+            deciphers,
+            2 * i + 1,
+        ));
     }
-    (next_left, next_right)
+    (
+        next_left.with_key(second_key),
+        next_right.with_key(first_key),
+    )
 }
 
-// Half blocks with the round key of their next lookup xored in: what a round makes is the indexes of
-// the next.
-#[derive(Clone, Copy)]
-struct Keyed<G> {
-    groups: G,
-    round_key: RoundKey,
-}
-
-impl<G: Groups> Keyed<G> {
-    ghost use Rattle.des_fast.specs.Keyed.{AreKeyed, keyed_half};
-
-    #[inline(always)]
-    fn new(groups: G, round_key: RoundKey) -> Keyed<G>
-        requires { AreExpansions G.BLOCKS G.word groups }
-        ensures keyed { AreKeyed G.BLOCKS G.word result }
-        ensures halves { InEachBlock G.BLOCKS (λ b. keyed_half G.word b result
-            ≡ half_of (G.word b groups)) }
-        ensures key { result.round_key ≡ round_key }
-    {
-        Keyed {
-            groups: groups.with_key(round_key),
-            round_key,
-        }
-    }
-
-    // The half blocks themselves.
-    #[inline(always)]
-    fn halves(self) -> G
-        requires { AreKeyed G.BLOCKS G.word self }
-        ensures expansions { AreExpansions G.BLOCKS G.word result }
-        ensures halves { InEachBlock G.BLOCKS (λ b. half_of (G.word b result)
-            ≡ keyed_half G.word b self) }
-    {
-        self.groups.with_key(self.round_key)
-    }
-
-    // These half blocks with another round key. The xor of the two keys waits for no lookup.
-    #[inline(always)]
-    fn with_key(self, round_key: RoundKey) -> Keyed<G>
-        requires { AreKeyed G.BLOCKS G.word self }
-        ensures keyed { AreKeyed G.BLOCKS G.word result }
-        ensures halves { InEachBlock G.BLOCKS (λ b. keyed_half G.word b result
-            ≡ keyed_half G.word b self) }
-        ensures key { result.round_key ≡ round_key }
-    {
-        Keyed {
-            groups: self.groups.with_key(self.round_key.xor(round_key)),
-            round_key,
-        }
-    }
-
-    // The half blocks that a round makes: these, the left halves, xor f of the right halves and the
-    // round key in them.
-    #[inline(always)]
-    fn next(self, right: Keyed<G>) -> Keyed<G>
-        requires left { AreKeyed G.BLOCKS G.word self }
-        requires right { AreKeyed G.BLOCKS G.word right }
-        ensures keyed { AreKeyed G.BLOCKS G.word result }
-        ensures halves { InEachBlock G.BLOCKS (λ b. keyed_half G.word b result
-            ≡ xor_bits (keyed_half G.word b self)
-            (cipher_function (keyed_half G.word b right) (bits_of_groups right.round_key.groups))) }
-        ensures key { result.round_key ≡ self.round_key }
-    {
-        Keyed {
-            groups: self.groups.xor_substituted(right.groups),
-            round_key: self.round_key,
-        }
-    }
-}
-
-// Sixteen rounds in one direction, with the round keys kept in the halves.
-#[inline(always)]
-fn keyed_rounds<G: Groups>(
-    left: G,
-    right: G,
-    round_keys: &[RoundKey; 16],
-    deciphers: bool,
-) -> (G, G)
-    requires left { AreExpansions G.BLOCKS G.word left }
-    requires right { AreExpansions G.BLOCKS G.word right }
-    ensures left { AreExpansions G.BLOCKS G.word result.0 }
-    ensures right { AreExpansions G.BLOCKS G.word result.1 }
-    ensures halves { InEachBlock G.BLOCKS (λ b.
-        (half_of (G.word b result.0), half_of (G.word b result.1))
-        ≡ after_rounds (in_direction deciphers (round_keys_of round_keys.now))
-        (half_of (G.word b left)) (half_of (G.word b right))) }
-{
-    let mut keyed_left = Keyed::new(left, round_key_of(round_keys, deciphers, 1));
-    let mut keyed_right = Keyed::new(right, round_key_of(round_keys, deciphers, 0));
-    // `right_after` are the right halves with the key of their next turn, made while the lookups of
-    // `keyed_right` are under way: a key changed between two rounds would make the second wait. The last
-    // index wraps round: after the last round no key is next, and `halves` takes that out.
-    let mut right_after = keyed_right.with_key(round_key_of(round_keys, deciphers, 2));
-    for i in 0..7usize {
-        keyed_left = keyed_left.next(keyed_right);
-        keyed_right = right_after.next(keyed_left);
-        keyed_left = keyed_left.with_key(round_key_of(round_keys, deciphers, 2 * i + 3));
-        right_after = keyed_right.with_key(round_key_of(round_keys, deciphers, (2 * i + 4) % 16));
-    }
-    keyed_left = keyed_left.next(keyed_right);
-    keyed_right = right_after.next(keyed_left);
-    (keyed_left.halves(), keyed_right.halves())
-}
-
-/// The halves after sixteen rounds. Inlined, since three passes in a row would otherwise take the
-/// halves through memory.
+/// The halves after sixteen rounds, with the round keys in their order or, to decipher, from the
+/// last to the first (FIPS 46-3, enciphering and deciphering). Inlined, since three passes in a row
+/// would otherwise take the halves through memory.
 #[inline(always)]
 pub(crate) fn after_rounds<G: Groups>(
     left: G,
@@ -270,30 +188,5 @@ pub(crate) fn after_rounds<G: Groups>(
         rounds(left, right, round_keys, true)
     } else {
         rounds(left, right, round_keys, false)
-    }
-}
-
-/// The same, with the round keys kept in the halves: quicker for one block, which waits for its
-/// lookups.
-#[inline(always)]
-pub(crate) fn after_keyed_rounds<G: Groups>(
-    left: G,
-    right: G,
-    round_keys: &[RoundKey; 16],
-    deciphers: bool,
-) -> (G, G)
-    requires left { AreExpansions G.BLOCKS G.word left }
-    requires right { AreExpansions G.BLOCKS G.word right }
-    ensures left { AreExpansions G.BLOCKS G.word result.0 }
-    ensures right { AreExpansions G.BLOCKS G.word result.1 }
-    ensures halves { InEachBlock G.BLOCKS (λ b.
-        (half_of (G.word b result.0), half_of (G.word b result.1))
-        ≡ after_rounds (in_direction deciphers (round_keys_of round_keys.now))
-        (half_of (G.word b left)) (half_of (G.word b right))) }
-{
-    if deciphers {
-        keyed_rounds(left, right, round_keys, true)
-    } else {
-        keyed_rounds(left, right, round_keys, false)
     }
 }

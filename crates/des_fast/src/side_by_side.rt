@@ -6,7 +6,7 @@ ghost use Rattle.des_fast.specs.Groups.{half_of};
 ghost use Rattle.des_fast.specs.HalfBlocks.{first_halves, last_block};
 ghost use Rattle.des_fast.specs.SideBySide.{AreExpansions};
 
-use crate::rounds::{OneWord, SixteenRounds};
+use crate::rounds::{Groups, OneWord};
 use std::simd::prelude::*;
 
 /// A pass of DES, or several in a row.
@@ -15,7 +15,7 @@ pub trait BlockTransform {
     ghost output: { Self → List ℕ → List ℕ };
 
     /// Takes the halves of blocks side by side through the rounds.
-    fn process_halves<G: SixteenRounds>(&self, left: G, right: G) -> (G, G)
+    fn process_halves<G: Groups>(&self, left: G, right: G) -> (G, G)
         requires left { AreExpansions G.BLOCKS G.word left }
         requires right { AreExpansions G.BLOCKS G.word right }
         ensures left { AreExpansions G.BLOCKS G.word result.0 }
@@ -51,7 +51,7 @@ pub trait SideBySide {
 
 // Takes blocks through passes, side by side.
 #[inline(always)]
-fn process_groups<G: SixteenRounds, A: BlockTransform>(blocks: &mut [[u8; 8]], passes: &A)
+fn process_groups<G: Groups, A: BlockTransform>(blocks: &mut [[u8; 8]], passes: &A)
     requires { length blocks.old ≡ G.BLOCKS }
     ensures { blocks.new ≡ map (A.output passes.now) blocks.old }
 {
@@ -63,10 +63,7 @@ fn process_groups<G: SixteenRounds, A: BlockTransform>(blocks: &mut [[u8; 8]], p
 /// Takes blocks through passes, side by side. Not inlined: so each number of blocks has the registers
 /// to itself.
 #[inline(never)]
-pub(crate) fn process_side_by_side<G: SixteenRounds, A: BlockTransform>(
-    blocks: &mut [[u8; 8]],
-    passes: &A,
-)
+pub(crate) fn process_side_by_side<G: Groups, A: BlockTransform>(blocks: &mut [[u8; 8]], passes: &A)
     requires { length blocks.old ≡ G.BLOCKS }
     ensures { blocks.new ≡ map (A.output passes.now) blocks.old }
 {

@@ -5,7 +5,7 @@ ghost use Rattle.des_fast.specs.TableBlocks.{word_of_two, word_of_three};
 use crate::halves::RoundKey;
 use crate::one_block::{block_of_halves, halves_of_block};
 use crate::permutations::{blocks_of, halves_of};
-use crate::rounds::{Groups, SixteenRounds, after_rounds};
+use crate::rounds::Groups;
 use crate::tables::xor_substituted;
 use std::simd::prelude::*;
 
@@ -17,6 +17,8 @@ pub struct TwoBlocks {
 }
 
 impl Groups for TwoBlocks {
+    const CHANGES_AHEAD: bool = true;
+
     ghost BLOCKS = { 2 };
 
     ghost word = { word_of_two };
@@ -69,18 +71,6 @@ impl Groups for TwoBlocks {
     }
 }
 
-impl SixteenRounds for TwoBlocks {
-    #[inline(always)]
-    fn after_rounds(
-        left: TwoBlocks,
-        right: TwoBlocks,
-        round_keys: &[RoundKey; 16],
-        deciphers: bool,
-    ) -> (TwoBlocks, TwoBlocks) {
-        after_rounds(left, right, round_keys, deciphers)
-    }
-}
-
 /// A word of groups of each of three blocks.
 #[derive(Clone, Copy)]
 pub struct ThreeBlocks {
@@ -90,6 +80,8 @@ pub struct ThreeBlocks {
 }
 
 impl Groups for ThreeBlocks {
+    const CHANGES_AHEAD: bool = true;
+
     ghost BLOCKS = { 3 };
 
     ghost word = { word_of_three };
@@ -145,17 +137,5 @@ impl Groups for ThreeBlocks {
             second: xor_substituted(self.second, others.second),
             third: xor_substituted(self.third, others.third),
         }
-    }
-}
-
-impl SixteenRounds for ThreeBlocks {
-    #[inline(always)]
-    fn after_rounds(
-        left: ThreeBlocks,
-        right: ThreeBlocks,
-        round_keys: &[RoundKey; 16],
-        deciphers: bool,
-    ) -> (ThreeBlocks, ThreeBlocks) {
-        after_rounds(left, right, round_keys, deciphers)
     }
 }

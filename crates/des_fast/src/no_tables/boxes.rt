@@ -15,7 +15,7 @@ ghost use Rattle.des_fast.specs.GroupBytes.{box_of_byte, in_order};
 
 use crate::halves::{RoundKey, word_of};
 use crate::one_block::{block_of_halves, halves_of_block};
-use crate::rounds::{Groups, OneWord, SixteenRounds, after_keyed_rounds};
+use crate::rounds::{Groups, OneWord};
 use std::simd::prelude::*;
 
 // The entries of the boxes S1, S3, S5, S7, S2, S4, S6 and S8, in the order of the groups in a word:
@@ -129,6 +129,8 @@ const FIRST: [u8; 16] = [16, 16, 16, 16, 16, 16, 16, 16, 32, 32, 32, 32, 32, 32,
 
 /// One block.
 impl Groups for u64 {
+    const CHANGES_AHEAD: bool = false;
+
     ghost BLOCKS = { 1 };
 
     ghost word = { λ b groups. groups };
@@ -156,18 +158,6 @@ impl Groups for u64 {
     #[inline(always)]
     fn xor_substituted(self, others: u64) -> u64 {
         self ^ substitute(others)
-    }
-}
-
-impl SixteenRounds for u64 {
-    #[inline(always)]
-    fn after_rounds(
-        left: u64,
-        right: u64,
-        round_keys: &[RoundKey; 16],
-        deciphers: bool,
-    ) -> (u64, u64) {
-        after_keyed_rounds(left, right, round_keys, deciphers)
     }
 }
 

@@ -21,7 +21,7 @@ ghost use Rattle.des_fast.specs.JoinedEntries.{entry_order, entry_bits, joined_b
 
 use crate::halves::RoundKey;
 use crate::permutations::{blocks_of, halves_of};
-use crate::rounds::{Groups, SixteenRounds, after_rounds};
+use crate::rounds::Groups;
 use std::simd::prelude::*;
 
 // The terms of the entries, each box in the byte of its group: in the second half of the byte for
@@ -41,6 +41,8 @@ static TERMS: [u64; 32] = [
 
 /// Four blocks.
 impl Groups for u64x4 {
+    const CHANGES_AHEAD: bool = false;
+
     ghost BLOCKS = { 4 };
 
     ghost word = { lane };
@@ -75,18 +77,6 @@ impl Groups for u64x4 {
     #[inline(always)]
     fn xor_substituted(self, others: u64x4) -> u64x4 {
         xor(self, substitute(others))
-    }
-}
-
-impl SixteenRounds for u64x4 {
-    #[inline(always)]
-    fn after_rounds(
-        left: u64x4,
-        right: u64x4,
-        round_keys: &[RoundKey; 16],
-        deciphers: bool,
-    ) -> (u64x4, u64x4) {
-        after_rounds(left, right, round_keys, deciphers)
     }
 }
 
