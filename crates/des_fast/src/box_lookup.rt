@@ -48,7 +48,7 @@ impl SideBySide for Tables {
 
     ghost MOST = { 4 };
 
-    // Threes, and fours so that neither one nor two are left.
+    // Threes, the quickest, and fours so that no block is left alone.
     #[inline(always)]
     fn next_count(left: usize) -> usize {
         if left <= 4 {

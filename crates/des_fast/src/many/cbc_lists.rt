@@ -29,6 +29,9 @@ impl<'a, P: BlockTransform> ListDecryption for FewBlocks<'a, P> {
     }
 }
 
+// The blocks that go through a buffer at a time: four threes, or three fours.
+const IN_BUFFER: usize = 12;
+
 /// Decrypts a few blocks that CBC chained from `iv`, some side by side, through passes.
 pub(super) fn cbc_decrypt_few<P: BlockTransform>(
     no_tables: bool,
@@ -39,7 +42,7 @@ pub(super) fn cbc_decrypt_few<P: BlockTransform>(
     ensures blocks { All IsBlock blocks.old }
     ensures cbc_decrypted { CbcDecrypts (P.output passes.now) iv.now blocks.old blocks.new }
 {
-    let mut buffer = [[0; 8]; 12];
+    let mut buffer = [[0; 8]; IN_BUFFER];
     cbc::decrypt_by(&FewBlocks { no_tables, passes }, iv, blocks, &mut buffer);
 }
 
