@@ -14,9 +14,9 @@ use crate::side_by_side::BlockTransform;
 pub const MOST_NARROW: usize = 128;
 
 // The most blocks left over that go in no batch, if tables may be read and if none may be, whatever
-// the cipher, the direction and the width. On Sapphire Rapids 31 blocks by tables take 0.92 of the
-// time of a batch, and without tables 8 blocks 0.83 (DES) and 0.91 (EDE3), but 9 blocks 1.00 and
-// 1.11.
+// the cipher, the direction and the width: which lists read tables is promised to callers. 31 blocks by
+// tables take 0.83 (DES) and 0.86 (EDE3) of the time of a batch on Cascade Lake; without tables 8
+// blocks take 0.83 and 0.91 on Sapphire Rapids, but 9 blocks 1.00 and 1.11.
 pub(super) const FEW_BY_TABLES: usize = 31;
 
 const FEW_NO_TABLES: usize = 8;
