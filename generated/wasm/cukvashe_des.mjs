@@ -21,8 +21,8 @@ export const BLOCK_SIZE = 8;
 export const TAG_SIZE = 8;
 
 // The SHA-256 of the modules that this file was built with: the one of a 64-bit memory, and the same of a 32-bit memory.
-const MODULE_SUM = "ce1d05fff5d0a9a126974532727b5eda46148e506c95d5a54915944f59bfb9c3";
-const NARROW_SUM = "03e9a6a284df762099e3f7f3f8c9b4b53a4a028b0181fc683f906d74a4c68ed0";
+const MODULE_SUM = "db65ced5fa5b4711fa2eab14f3e442c427ef119a121ee45acd6a374e4da81bad";
+const NARROW_SUM = "5601514c45bf42e1e7c177af55eb5549e32a7916c6076ccbf539f755ae3daacb";
 
 // The bytes of the module's stack, which lies at its address 0. `build` links it so.
 const STACK_SIZE = 131072;

@@ -4542,14 +4542,14 @@
 	movabsq	$-1567235041631666176, %rdx
 	andq	%r14, %rdx
 	movq	%rbx, %r14
-	shldq	$4, %r14, %r14
+	rolq	$4, %r14
 	movabsq	$9588840905908225, %r15
 	andq	%r14, %r15
 	movabsq	$281474983067654, %r12
 	imulq	%r15, %r12
 	movabsq	$1262415562605068288, %r14
 	andq	%r12, %r14
-	shldq	$3, %rbx, %rbx
+	rolq	$3, %rbx
 	movabsq	$90161029316610, %r15
 	andq	%rbx, %r15
 	imulq	%r8, %r15
@@ -5479,7 +5479,7 @@
 	movq	120(%r14), %rsi
 	movq	%rax, %rdi
 	callq	"des::utils::round"
-	shldq	$32, %rax, %rax
+	rolq	$32, %rax
 	movq	%rax, %rdx
 	shrq	$24, %rdx
 	xorq	%rax, %rdx
@@ -5681,7 +5681,7 @@
 	movabsq	$144126612688863232, %rcx
 	andq	%r9, %rcx
 	orq	%rax, %rcx
-	shldq	$9, %rsi, %rsi
+	rolq	$9, %rsi
 	movabsq	$72079584270483626, %rax
 	andq	%rsi, %rax
 	movabsq	$36292742119553, %rsi
@@ -5887,7 +5887,7 @@
 	movq	(%r14), %rsi
 	movq	%rax, %rdi
 	callq	"des::utils::round"
-	shldq	$32, %rax, %rax
+	rolq	$32, %rax
 	movq	%rax, %rdx
 	shrq	$24, %rdx
 	xorq	%rax, %rdx
