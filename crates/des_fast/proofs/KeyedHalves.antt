@@ -46,22 +46,24 @@ IsKeyed-first key half word is is_expansion of_groups = record {
   expansion = rw (ap (λ it. bit_xor it key) is ∙ xor-out half key) is_expansion;
 }
 
-pub IsKeyed-next : (left_key right_key left right next : ℕ) → IsSubstitutedInto left right next
-    → IsKeyed left_key left → IsKeyed left_key next
-IsKeyed-next left_key right_key left right next made is = record {
+-- what is joined to a word is joined to it without the key
+joined-beside_key : (key left right next : ℕ) (made : IsSubstitutedInto left right next)
+    → bit_xor next key ≡ bit_xor (bit_xor left key) made.change
+joined-beside_key key left right next made =
+    ap (λ word. bit_xor word key) made.joined ∙ xor-beside_key left made.change key
+
+IsKeyed-next : (key left right next : ℕ) → IsSubstitutedInto left right next → IsKeyed key left → IsKeyed key next
+IsKeyed-next key left right next made is = record {
   of_groups = rw made.joined (IsOfGroups-xor left made.change is.of_groups made.expansion.of_groups);
-  expansion = IsExpansion-next _ _ _
-      (ap (λ word. bit_xor word left_key) made.joined ∙ xor-beside_key left made.change left_key)
-      is.expansion made.expansion;
+  expansion = IsExpansion-next _ _ _ (joined-beside_key key left right next made) is.expansion made.expansion;
 }
 
 keyed_half-next : (left_key right_key left right next : ℕ) → IsSubstitutedInto left right next → IsKeyed right_key right
     → keyed_half left_key next
     ≡ next_half (keyed_half left_key left) (keyed_half right_key right) (bits_of_groups right_key)
 keyed_half-next left_key right_key left right next made is =
-    half_of-next _ _ _ _ _ _
-    (ap (λ word. bit_xor word left_key) made.joined ∙ xor-beside_key left made.change left_key)
-    (sym (xor-out right right_key)) is.expansion made.substituted
+    half_of-next _ _ _ _ _ _ (joined-beside_key left_key left right next made) (sym (xor-out right right_key))
+    is.expansion made.substituted
 
 with_new : (old new change word changed : ℕ) → changed ≡ bit_xor word change → change ≡ bit_xor old new
     → bit_xor changed new ≡ bit_xor word old
@@ -133,7 +135,7 @@ AreAfterRounds-two_more deciphers round_keys i first second left right made chan
     is_change_left
     ∙ ap₂ bit_xor (at (2 * i + 1) ((2 * i + 1) % 16) (omega arith))
     (at ((2 * i + 1 + 2) % 16) ((2 * (i + 1) + 1) % 16) (omega arith)) in
-    let made_keyed = IsKeyed-next left_key right_key left right made makes are.left_keyed in
+    let made_keyed = IsKeyed-next left_key left right made makes are.left_keyed in
     let changed_keyed =
     IsKeyed-changed right_key next_right_key change right changed is_changed right_change change_of are.right_keyed in
     let bits = λ (n : ℕ) (within : n < length round_keys). key_word-bits deciphers round_keys n within in
@@ -144,7 +146,7 @@ AreAfterRounds-two_more deciphers round_keys i first second left right made chan
     record {
       left_keyed = IsKeyed-changed left_key next_left_key change_left made changed_left is_changed_left left_change
           change_left_of made_keyed;
-      right_keyed = IsKeyed-next next_right_key left_key changed made made_right makes_right changed_keyed;
+      right_keyed = IsKeyed-next next_right_key changed made made_right makes_right changed_keyed;
       halves =
           ap (λ (word : ℕ). (half_of word, keyed_half next_right_key made_right))
           (with_new left_key next_left_key change_left made changed_left is_changed_left left_change)
@@ -158,31 +160,20 @@ AreAfterRounds-two_more deciphers round_keys i first second left right made chan
     }
 
 -- after all, without the keys, which are the first two again
-pub record AreAfterAll (keys : List (List Bool)) (first second : List Bool) (left right : ℕ) : Type 0 where
-  pub left_is : IsExpansion left
-  pub right_is : IsExpansion right
-  pub halves : (half_of left, half_of right) ≡ after_rounds keys first second
-
-pub AreAfterAll-without_keys : (deciphers : Bool) (round_keys : List RoundKey) (i : ℕ) (first second : List Bool)
+pub after_rounds-without_keys : (deciphers : Bool) (round_keys : List RoundKey) (i : ℕ) (first second : List Bool)
     (left right last_left last_right left_key right_key : ℕ) → length round_keys ≡ 16 → i ≡ 8
     → left_key ≡ key_word deciphers round_keys 1 → right_key ≡ key_word deciphers round_keys 0
     → AreAfterRounds deciphers round_keys i first second left right
     → last_left ≡ bit_xor left left_key → last_right ≡ bit_xor right right_key
-    → AreAfterAll (in_direction deciphers (round_keys_of round_keys)) first second last_left last_right
-AreAfterAll-without_keys deciphers round_keys i first second left right last_left last_right left_key right_key size all
+    → (half_of last_left, half_of last_right)
+    ≡ after_rounds (in_direction deciphers (round_keys_of round_keys)) first second
+after_rounds-without_keys deciphers round_keys i first second left right last_left last_right left_key right_key size all
     is_left is_right are without_left without_right =
     let keys : List (List Bool) = in_direction deciphers (round_keys_of round_keys) in
-    let key : ℕ → ℕ = key_word deciphers round_keys in
-    let at = λ (n m : ℕ) (same : n ≡ m). ap key same in
-    let left_is : last_left ≡ bit_xor left (key ((2 * i + 1) % 16)) =
-    without_left ∙ ap (bit_xor left) (is_left ∙ at 1 ((2 * i + 1) % 16) (omega arith)) in
-    let right_is : last_right ≡ bit_xor right (key (2 * i % 16)) =
-    without_right ∙ ap (bit_xor right) (is_right ∙ at 0 (2 * i % 16) (omega arith)) in
-    record {
-      left_is = rw left_is are.left_keyed.expansion;
-      right_is = rw right_is are.right_keyed.expansion;
-      halves = ap₂ (λ (l r : ℕ). (half_of l, half_of r)) left_is right_is
-          ∙ are.halves
-          ∙ ap (λ ks. after_rounds ks first second)
-          (take_all (2 * i) keys (omega (arith, length-in_direction deciphers round_keys)));
-    }
+    let at = λ (n m : ℕ) (same : n ≡ m). ap (key_word deciphers round_keys) same in
+    ap₂ (λ (l r : ℕ). (half_of l, half_of r))
+    (without_left ∙ ap (bit_xor left) (is_left ∙ at 1 ((2 * i + 1) % 16) (omega arith)))
+    (without_right ∙ ap (bit_xor right) (is_right ∙ at 0 (2 * i % 16) (omega arith)))
+    ∙ are.halves
+    ∙ ap (λ ks. after_rounds ks first second)
+    (take_all (2 * i) keys (omega (arith, length-in_direction deciphers round_keys)))

@@ -49,13 +49,7 @@ key_word-other round_keys n size below =
     sym (key_word-at_reverse round_keys n (15 - n) none (omega (arith, size)))
     ∙ key_word-at round_keys (15 - n) none (omega (arith, size))
 
--- changes at the places of their round keys: in the order of enciphering, and of deciphering
-pub AreChanges-forward : (round_keys changes : List RoundKey)
-    → ((n : ℕ) → n < 16 → key_word false changes n
-    ≡ bit_xor (key_word false round_keys n) (key_word false round_keys ((n + 2) % 16)))
-    → AreChanges false round_keys changes
-AreChanges-forward round_keys changes each = each
-
+-- changes at the places of their round keys, in the order of deciphering
 pub AreChanges-backward : (round_keys changes : List RoundKey) → length round_keys ≡ 16 → length changes ≡ 16
     → ((n : ℕ) → n < 16 → key_word false changes n
     ≡ bit_xor (key_word false round_keys n) (key_word false round_keys ((n + 14) % 16)))

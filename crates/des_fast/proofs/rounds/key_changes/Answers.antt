@@ -1,7 +1,7 @@
 use Rattle.std.proofs.Common.{◌≡◌, ◌<◌, ◌+◌, ◌%◌, ℕ, List, false, map, get_or, bit_xor, ap₂, sym, subst, ◌∙◌, arith}
 use Rattle.std.proofs.lemmas.List.{length-map, length-set, map-set}
 use Rattle.des_fast.specs.RoundKeyChanges.{key_word}
-use Rattle.des_fast.proofs.RoundKeysByPlace.{key_word-at, AreChanges-forward, AreChanges-backward}
+use Rattle.des_fast.proofs.RoundKeysByPlace.{key_word-at, AreChanges-backward}
 use Rattle.des_fast.proofs.WrittenElements.{written_below}
 use Rattle.des_fast.proofs.rounds.key_changes.Goals as goal
 use Rattle.des_fast.proofs.rounds.key_changes.Goals.{then-deciphers, else-deciphers}
@@ -37,5 +37,5 @@ returns c =
       | then-deciphers w ↦
           rw w.if-deciphers.true
           (AreChanges-backward keys changes (omega arith) c.places.invariant.size (each 14 w.step-is))
-      | else-deciphers w ↦ rw w.if-deciphers.false (AreChanges-forward keys changes (each 2 w.step-is))
+      | else-deciphers w ↦ rw w.if-deciphers.false (each 2 w.step-is)
     ]

@@ -1,6 +1,6 @@
 use Rattle.std.proofs.Common.{arith}
 use Rattle.des_fast.proofs.GroupWords.{IsOfGroups-xor}
-use Rattle.des_fast.proofs.KeyedHalves.{AreAfterRounds-none, AreAfterRounds-two_more, AreAfterAll-without_keys}
+use Rattle.des_fast.proofs.KeyedHalves.{AreAfterRounds-none, AreAfterRounds-two_more, after_rounds-without_keys}
 use Rattle.des_fast.proofs.rounds.rounds.Goals as goal
 
 pub loop-i-init : goal.loop-i-init
@@ -34,6 +34,6 @@ loop-i-preserved g c = record {
 
 pub returns-clause-halves : goal.returns-clause-halves
 returns-clause-halves g c b within =
-    (AreAfterAll-without_keys c.args.deciphers c.args.round_keys.now c.loop-i.i _ _ _ _ _ _ _ _ (omega arith) (omega arith)
+    after_rounds-without_keys c.args.deciphers c.args.round_keys.now c.loop-i.i _ _ _ _ _ _ _ _ (omega arith) (omega arith)
     c.round_key_of-second_key.ensures c.round_key_of-first_key.ensures (c.loop-i.invariant.after b within)
-    (c.with_key.ensures b within) (c.with_key-2.ensures b within)).halves
+    (c.with_key.ensures b within) (c.with_key-2.ensures b within)
