@@ -49,15 +49,17 @@ static inline __attribute__((always_inline)) void look_below(const uint8_t *poin
   const uint8_t *low = stack;
   while (low < pointer && *low == PAINT) low++;
   for (const uint8_t *at = low + LAST; at < pointer - NEAR; at++) bytes_left += *at != 0 && *at != PAINT;
-  for (size_t secret = 0; secret < sizeof sizes / sizeof *sizes; secret++)
-    for (size_t i = 0; i + PART <= sizes[secret]; i++) {
-      uint32_t part, word;
-      memcpy(&part, secrets[secret] + i, PART);
-      for (const uint8_t *at = low; at + PART <= pointer && part != 0; at++) {
-        memcpy(&word, at, PART);
+  for (const uint8_t *at = low; at + PART <= pointer; at++) {
+    uint32_t part, word;
+    memcpy(&word, at, PART);
+    /* Most of it. */
+    if (word == 0 || word == PAINT * 0x01010101u) continue;
+    for (size_t secret = 0; secret < sizeof sizes / sizeof *sizes; secret++)
+      for (size_t i = 0; i + PART <= sizes[secret]; i++) {
+        memcpy(&part, secrets[secret] + i, PART);
         parts_left += word == part;
       }
-    }
+  }
 }
 
 static void *run(void *given) {
