@@ -22,7 +22,7 @@ use clap::ArgMatches;
 use des_lines::fault::{Fault, Misuse};
 use des_lines::requests::{Calculation, Purpose};
 use des_payment::dukpt::MessageDirection;
-pub use grammar::{known_name, names_of, parse};
+pub use grammar::{known_name, names_of, parse, takes};
 use key_blocks::key_block_request;
 use lines::lines_request;
 use misuse::{misuse, refuse};
@@ -53,8 +53,10 @@ fn method_of<'a>(name: &str, padding: Option<&str>) -> Result<Method, Fault<'a>>
 fn question_of<'a>(matches: &ArgMatches<'a>) -> Result<Question<'a>, Fault<'a>> {
     match (text_of(matches, "verify"), count_of(matches, "length")) {
         (None, count) => Ok(Question::Print(count.unwrap_or(8))),
-        (Some(digits), None) => Ok(Question::Verify(digits)),
-        (Some(_), Some(_)) => Err(misuse(Misuse::LengthOfVerify, "")),
+        (Some(digits), Some(count)) if digits.len() != 2 * count as usize => {
+            Err(misuse(Misuse::LengthOfVerify, ""))
+        }
+        (Some(digits), _) => Ok(Question::Verify(digits)),
     }
 }
 

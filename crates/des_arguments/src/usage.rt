@@ -1,7 +1,7 @@
 //! What is shown of a command line that was not understood, or that asks for help. None of the words
 //! that were typed is shown if it may be a key.
 
-use crate::arguments::{known_name, names_of, parse};
+use crate::arguments::{known_name, names_of, parse, takes};
 use clap::error::ErrorKind;
 use des_lines::fault::{Fault, FaultKind, Misuse};
 use des_lines::report::{send, show, tell};
@@ -110,50 +110,115 @@ fn between<'a>(message: &'a str, start: &str, end: &str) -> Option<&'a str> {
     Some(text)
 }
 
-// What others call the options and commands, and what serves here.
-const OTHER_NAMES: &[(&str, &str)] = &[
-    ("kcv", "check-value"),
-    ("enc", "encrypt or decrypt"),
-    ("dec", "decrypt"),
-    ("xor", "combine"),
-    ("tr31", "key-block"),
-    ("ksn", "dukpt"),
-    ("bdk", "dukpt"),
-    ("-K", "--key-file"),
-    ("-k", "--password-file"),
-    ("-pass", "--password-file"),
-    ("--pass", "--password-file"),
-    ("--password", "--password-file"),
-    ("--key", "--key-file"),
-    ("-i", "--in"),
-    ("-o", "--out"),
-    ("--output", "--out"),
-    ("-d", "decrypt"),
-    ("-e", "encrypt"),
-    ("-a", "--base64, of decrypt"),
-    ("-md", "--derive"),
-    ("-pbkdf2", "--derive"),
-    ("-iter", "--derive"),
-    ("-nosalt", "--no-salt, of decrypt"),
-    ("-nopad", "--padding none, of ECB and CBC"),
-    ("--counter", "--iv"),
-    ("--nonce", "--iv"),
-    ("--pin", "standard input or --pin-file"),
-    ("--ksn", "the key serial number without an option"),
+// What serves for the options by which OpenSSL takes a cipher.
+const A_CIPHER: &str =
+    "a cipher without a dash: des-ede3-cbc for -des3, des-ede3-ecb for -des-ede3";
+
+// What others call the options and commands, and what serves here: of several, the first that is no
+// option or that the command has.
+const OTHER_NAMES: &[(&str, &[&str])] = &[
+    ("kcv", &["check-value"]),
+    ("enc", &["encrypt or decrypt"]),
+    ("dec", &["decrypt"]),
+    ("xor", &["combine"]),
+    ("tr31", &["key-block"]),
+    ("ksn", &["dukpt"]),
+    ("bdk", &["dukpt"]),
+    ("arqc", &["emv cryptogram"]),
+    ("arpc", &["emv response-1 or emv response-2"]),
+    ("pin-block", &["pin encode, pin decode or pin translate"]),
+    ("version", &["--version"]),
+    ("-v", &["--version"]),
+    ("-K", KEY_NAMES),
+    ("--key", KEY_NAMES),
+    ("--key-file", KEY_NAMES),
+    ("--kbpk", KEY_NAMES),
+    ("--kbpk-file", KEY_NAMES),
+    ("-k", PASSWORD_NAMES),
+    ("-kfile", PASSWORD_NAMES),
+    ("-pass", PASSWORD_NAMES),
+    ("-passin", PASSWORD_NAMES),
+    ("--pass", PASSWORD_NAMES),
+    ("--password", PASSWORD_NAMES),
+    ("-i", &["--in"]),
+    ("-o", &["--out"]),
+    ("--output", &["--out"]),
+    ("-d", &["decrypt in place of encrypt"]),
+    ("-e", &["encrypt in place of decrypt"]),
+    ("-a", BASE64_NAMES),
+    ("-A", BASE64_NAMES),
+    ("-S", &["a salt in the input, behind Salted__"]),
+    ("-md", DERIVATION_NAMES),
+    ("-pbkdf2", DERIVATION_NAMES),
+    ("--pbkdf2", DERIVATION_NAMES),
+    ("-iter", DERIVATION_NAMES),
+    ("--iter", DERIVATION_NAMES),
+    ("-nosalt", &["--no-salt", "--no-salt of decrypt"]),
+    ("-nopad", PADDING_NAMES),
+    ("--nopad", PADDING_NAMES),
+    ("--no-pad", PADDING_NAMES),
+    ("--counter", &["--iv"]),
+    ("--nonce", &["--iv"]),
+    ("--pin", &["--pin-file, or standard input"]),
+    ("--ksn", &["the key serial number without an option"]),
+    ("--ipek", &["--initial-key and the file of the key"]),
+    ("--pan", &["--account"]),
+    ("--psn", &["--sequence"]),
+    ("--atc", &["--counter"]),
+    ("--arqc", &["--cryptogram"]),
+    ("--arc", &["--code"]),
+    ("--csu", &["--status"]),
+    ("--pvki", &["--index"]),
 ];
 
+const KEY_NAMES: &[&str] = &[
+    "--protection-key-file",
+    "--key-file",
+    "encrypt or decrypt, which take a key",
+];
+
+const PASSWORD_NAMES: &[&str] = &["--password-file"];
+
+const BASE64_NAMES: &[&str] = &["--base64", "base64, in a pipe"];
+
+const DERIVATION_NAMES: &[&str] = &["--derive"];
+
+const PADDING_NAMES: &[&str] = &["--padding none"];
+
 // What serves in the place of a word that others take; nothing of another word.
-fn other_name(word: &str) -> &'static str {
+fn other_name(command_line: &[&str], word: &str) -> &'static str {
     let found = OTHER_NAMES.iter().find(|name| name.0 == word);
-    found.map_or("", |name| name.1)
+    let names = found.map_or(&[][..], |name| name.1);
+    let serves = names.iter().find(|name| match name.strip_prefix("--") {
+        Some(option) if word.starts_with("-") => {
+            let (option, _) = option.split_once(' ').unwrap_or((option, ""));
+            let (option, _) = option.split_once(',').unwrap_or((option, ""));
+            takes(command_line, option)
+        }
+        _ => true,
+    });
+    serves.map_or("", |name| *name)
 }
 
-// The option with two dashes of a word with one.
-fn with_two_dashes(word: &str) -> &'static str {
+// The option with two dashes of a word with one, if the command has it.
+fn with_two_dashes(command_line: &[&str], word: &str) -> &'static str {
     match word.strip_prefix("-") {
-        Some(name) if !name.starts_with("-") => known_name(name),
+        Some(name) if takes(command_line, name) => known_name(name),
         _ => "",
     }
+}
+
+// The word of a command line that a message refuses: of short options in one, clap tells the first.
+fn refused_in<'a>(message: &str, command_line: &[&'a str]) -> &'a str {
+    let (_, rest) = message.split_once("'").unwrap_or(("", ""));
+    let (told, _) = rest.split_once("'").unwrap_or(("", ""));
+    for word in command_line {
+        if told != "" && word.starts_with(told) {
+            let (word, _) = word.split_once('=').unwrap_or((word, ""));
+            return word;
+        }
+    }
+    ""
 }
 
 // The last name that a message lists as a similar one, the best.
@@ -165,19 +230,24 @@ fn similar_in<'a>(message: &'a str) -> &'a str {
     name
 }
 
-// What may have been meant: a name that others use, an option with one dash, or the name that
-// the message suggests. Nothing of it was typed, but what is a name here.
+// What may have been meant by the word that a message refuses: a name that others use, an option with
+// one dash, or the name that the message suggests. Nothing of it was typed, but what is a name here.
 fn meant(rt: &HostRuntime, message: &str, command_line: &[&str]) -> Result<String, AllocError> {
-    for word in command_line {
-        let (word, _) = word.split_once('=').unwrap_or((word, ""));
-        let other = other_name(word);
-        if other != "" {
-            return format!(in rt.alloc(); "  did you mean {other}?\n");
-        }
-        let name = with_two_dashes(word);
-        if name != "" {
-            return format!(in rt.alloc(); "  did you mean --{name}?\n");
-        }
+    let word = refused_in(message, command_line);
+    if word.starts_with("-des") {
+        return format!(in rt.alloc(); "  did you mean {A_CIPHER}?\n");
+    }
+    let other = other_name(command_line, word);
+    if other != "" {
+        return format!(in rt.alloc(); "  did you mean {other}?\n");
+    }
+    let name = with_two_dashes(command_line, word);
+    if name != "" {
+        return format!(in rt.alloc(); "  did you mean --{name}?\n");
+    }
+    // A file without the option that takes one.
+    if word != "" && !word.starts_with("-") && takes(command_line, "in") {
+        return format!(in rt.alloc(); "  did you mean --in FILE?\n");
     }
     let similar = similar_in(message);
     let (dashes, word) = match similar.strip_prefix("--") {

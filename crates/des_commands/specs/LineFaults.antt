@@ -25,7 +25,7 @@ sentence_of KeyNumber = codes "the value names a key that is not given"
 sentence_of Length = codes "the value ends within a block of 8 bytes"
 sentence_of Salt = codes "the value ends within the salt"
 sentence_of Padding = codes "wrong key, password, format or padding"
-sentence_of Unprintable = codes "the text does not fit a line: --hex writes digits"
+sentence_of Unprintable = codes "the text is not printable UTF-8 in one line: --hex writes digits"
 
 -- nothing of the value stands in it
 abbrev pub fault_line : LineFault → List ℕ → List ℕ

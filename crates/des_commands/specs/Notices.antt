@@ -8,7 +8,7 @@ use Rattle.des_lines.specs.declared.fault.FaultKind.TheVariants.{WeakKey as Refu
 use Rattle.des_lines.specs.declared.keys.Verdict.{Verdict}
 use Rattle.des_lines.specs.declared.keys.Verdict.TheVariants.{DoubleLength as TwoParts, Weak}
 use Rattle.des_commands.specs.declared.outputs.notices.Notice.{Notice}
-use Rattle.des_commands.specs.declared.outputs.notices.Notice.TheVariants.{Hexadecimal, WeakKey, DoubleLength, Limit, Permissions}
+use Rattle.des_commands.specs.declared.outputs.notices.Notice.TheVariants.{Hexadecimal, Base64, WeakKey, DoubleLength, Limit, Permissions}
 use Rattle.des_arguments.specs.declared.command.streams.WeakKeys.{WeakKeys}
 use Rattle.des_arguments.specs.declared.command.streams.WeakKeys.TheVariants.{Refuse, Warn}
 use Rattle.des_lines.specs.Faults.{line_with}
@@ -22,6 +22,9 @@ abbrev pub notice_line : Notice → List ℕ → List ℕ
 notice_line Hexadecimal about =
     line_with (codes "Hexadecimal") about
     (codes "the input is hexadecimal digits, and was taken as text: --hex reads it as bytes")
+notice_line Base64 about =
+    line_with (codes "Base64") about
+    (codes "the input is a text in Base64, and was taken as bytes: --base64 decodes it")
 notice_line WeakKey about = line_with (codes "WeakKey") about (codes "the key is weak, and is used")
 notice_line DoubleLength about =
     line_with (codes "DoubleLength") about

@@ -65,6 +65,7 @@ pub enum Misuse {
     FillOfFormat1,
     ToFormat1,
     LengthOfVerify,
+    Capitals,
     ResponseOfPin,
     Session,
     ProtectionKeySource,

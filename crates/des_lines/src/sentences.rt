@@ -47,14 +47,16 @@ fn sentence_of(kind: FaultKind) -> &'static str {
         FaultKind::Usage(misuse) => misuse_words(misuse),
         FaultKind::Source(reason) | FaultKind::Read(reason) | FaultKind::Write(reason) =>
             reason_words(reason),
-        FaultKind::Variable => "the environment has no such variable of text",
+        FaultKind::Variable => "no such environment variable is exported, or its value is no text",
         FaultKind::InputLength => "the input is too long",
         FaultKind::KeyLength(size) => key_words(size),
         FaultKind::ToKeyLength => key_words(None),
         FaultKind::KeyText | FaultKind::ToKeyText => {
             "the key has a character that is no hexadecimal digit"
         }
-        FaultKind::WeakKey => "the key is weak",
+        FaultKind::WeakKey => {
+            "the key is weak, or has equal parts (see --weak-keys of encrypt and decrypt)"
+        }
         FaultKind::Components => "a key has two components at least",
         FaultKind::Vector =>
             "random (to encrypt), first-block (to decrypt) or 16 hexadecimal digits are needed",
@@ -97,7 +99,7 @@ fn sentence_of(kind: FaultKind) -> &'static str {
 // What is said of what can't be read or written.
 fn reason_words(reason: Reason) -> &'static str {
     match reason {
-        Reason::NotFound => "there is no such file",
+        Reason::NotFound => "there is no such file, folder or descriptor",
         Reason::Permission => "permission denied",
         Reason::IsFolder => "it is a folder",
         Reason::NotFolder => "a part of the path is no folder",
@@ -127,7 +129,8 @@ fn misuse_words(misuse: Misuse) -> &'static str {
     match misuse {
         Misuse::KeySource => "give one of --key-file, --key-fd and --key-env",
         Misuse::ToKeySource => "give one of --to-key-file, --to-key-fd and --to-key-env",
-        Misuse::StandardInputTwice => "only one of the files can be standard input",
+        Misuse::StandardInputTwice =>
+            "only one of the files can be standard input: name the other, as by --in FILE",
         Misuse::VectorNeeded => "all modes but ECB need --iv",
         Misuse::VectorOfEcb => "ECB takes no --iv",
         Misuse::RandomToDecrypt => "random is for encryption; first-block reads what it wrote",
@@ -144,11 +147,12 @@ fn misuse_words(misuse: Misuse) -> &'static str {
         Misuse::ArgumentValue => "its value is missing or unknown (see --help)",
         Misuse::Components => "give --part-file twice or more, or --count and one source of all",
         Misuse::Fill => "formats 0 and 2 take no --fill",
-        Misuse::FillNeeded => "formats 1 and 3 need --fill, ten digits",
+        Misuse::FillNeeded =>
+            "formats 1 and 3 need --fill, ten hexadecimal digits, of format 3 a to f alone",
         Misuse::FillOfFormat1 => "from format 1 to 1 the digits stay: there is no --fill",
         Misuse::ToFormat1 => "only a block of format 1 becomes one of format 1",
-        Misuse::LengthOfVerify =>
-            "--verify takes no --length: it compares as many bytes as its tag has",
+        Misuse::LengthOfVerify => "the tag of --verify does not have the bytes that --length says",
+        Misuse::Capitals => "the fields of a key block have capital letters and digits",
         Misuse::ResponseOfPin => "--response is for mac, data and data-variant",
         Misuse::Session => "give one of --counter and --cryptogram",
         Misuse::ProtectionKeySource =>
@@ -164,7 +168,7 @@ fn misuse_words(misuse: Misuse) -> &'static str {
         Misuse::Derivation =>
             "md5, sha1, sha256, pbkdf2-sha1:COUNT or pbkdf2-sha256:COUNT is needed",
         Misuse::DerivationNeeded =>
-            "decryption needs --derive md5, sha1, sha256, pbkdf2-sha1:COUNT or pbkdf2-sha256:COUNT",
+            "decryption needs --derive: md5 (OpenSSL before 1.1.0), sha256 (since then), pbkdf2-sha256:COUNT (-pbkdf2; COUNT is 10000 without -iter), sha1 or pbkdf2-sha1:COUNT",
         Misuse::DerivationToEncrypt => "encryption takes pbkdf2-sha256:COUNT alone",
         Misuse::Count => "more than 10000000 iterations need --any-count",
         Misuse::NoText => "an argument is no text",
@@ -184,14 +188,16 @@ fn file_words(fault: FileFault) -> &'static str {
         FileFault::Base64 => "it is no Base64",
         FileFault::HexText => "a character is no hexadecimal digit",
         FileFault::HexLength => "the number of hexadecimal digits is odd",
-        FileFault::Begin => "no line begins an encrypted private key",
+        FileFault::Begin =>
+            "no line begins an encrypted private key (BEGIN PRIVATE KEY is not encrypted)",
         FileFault::End => "no line ends the key as it begins",
         FileFault::NotEncrypted => "the key is not encrypted",
         FileFault::NoDekInfo => "no DEK-Info follows Proc-Type",
         FileFault::Cipher => "the cipher is neither DES-EDE3-CBC nor, of DEK-Info, DES-CBC",
         FileFault::DekVector => "the vector of DEK-Info does not have 16 hexadecimal digits",
         FileFault::EmptyLine => "no empty line follows DEK-Info",
-        FileFault::Structure => "it is not the DER of an encrypted private key",
+        FileFault::Structure =>
+            "it is not the DER of an encrypted private key (take one out of PKCS #12 by openssl pkcs12 -legacy -nocerts)",
         FileFault::Algorithm => {
             "the algorithm is neither PBES2 nor one of DES or triple DES by PKCS #5 or PKCS #12"
         }
@@ -222,7 +228,7 @@ fn pin_words(error: PinError) -> &'static str {
         PinError::PinDigit => "the PIN has a character that is no digit",
         PinError::AccountLength => "an account number of 8 to 19 digits is needed",
         PinError::AccountDigit => "the account number has a character that is no digit",
-        PinError::Fill => "a fill digit is none of the format",
+        PinError::Fill => "the fill digits of format 3 are a to f",
     }
 }
 
@@ -246,7 +252,7 @@ fn translation_words(error: TranslationError) -> &'static str {
         TranslationError::Formats => "there is no such translation",
         TranslationError::AccountLength => "an account number of 8 to 19 digits is needed",
         TranslationError::AccountDigit => "the account number has a character that is no digit",
-        TranslationError::Fill => "a fill digit is none of the format",
+        TranslationError::Fill => "the fill digits of format 3 are a to f",
         TranslationError::Block => "decrypted, the block is none of a PIN in its format",
     }
 }
@@ -285,7 +291,9 @@ fn key_block_words(error: KeyBlockError) -> &'static str {
         KeyBlockError::ProtectionKeyLength => "a key of 32 or 48 hexadecimal digits is needed",
         KeyBlockError::Length =>
             "the block is not as long as its header says, or has more than 9999 characters",
-        KeyBlockError::Version => "the block is of another version than A, B and C, in capitals",
+        KeyBlockError::Version => {
+            "the block's version is not A, B or C: leave out what an HSM puts before it; D needs AES"
+        }
         KeyBlockError::Header =>
             "characters 13 to 16 are not the number of optional blocks, 0, 1 or 2, and 0",
         KeyBlockError::OptionalBlock => "the optional blocks are not the standard's",

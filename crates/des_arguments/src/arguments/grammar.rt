@@ -154,16 +154,44 @@ pub fn known_name(word: &str) -> &'static str {
             if row.name == word {
                 return row.name;
             }
-            for arguments in row.arguments {
-                for argument in list_of(*arguments) {
-                    if argument.0 == word {
-                        return argument.0;
-                    }
-                }
+            let name = argument_name(row, word);
+            if name != "" {
+                return name;
             }
         }
     }
     ""
+}
+
+// The name of an argument of a command that a word is; nothing of another word.
+fn argument_name(row: &CommandRow<'static>, word: &str) -> &'static str {
+    for arguments in row.arguments {
+        for argument in list_of(*arguments) {
+            if argument.0 == word {
+                return argument.0;
+            }
+        }
+    }
+    ""
+}
+
+/// Whether the command that a command line names has an argument of this name.
+pub fn takes(command_line: &[&str], name: &str) -> bool {
+    let (first, second) = names_of(command_line);
+    let (of_group, of_command) = if second == "" {
+        ("", first)
+    } else {
+        (first, second)
+    };
+    for group in groups() {
+        for row in group.commands {
+            let is_named = group.name == of_group && row.name == of_command;
+            if is_named && argument_name(row, name) != "" {
+                return true;
+            }
+        }
+    }
+    false
 }
 
 /// The names of the command, as they are known here: none that was typed.

@@ -6,7 +6,7 @@ use super::requests::{Requested, by_input, by_key, with_key};
 use super::sources::{input_at, one_of};
 use clap::ArgMatches;
 use des_key_blocks::key_block_header::Version;
-use des_lines::fault::Misuse;
+use des_lines::fault::{Fault, Misuse};
 use des_lines::requests::{Calculation, CalculationRequest, KeyBlockCalculation, Wrapping};
 
 // The request with the key that protects blocks.
@@ -26,6 +26,18 @@ fn version_of(word: Option<&str>) -> Version {
         Some("C") => Version::C,
         _ => Version::B,
     }
+}
+
+// Refuses small letters in the fields of a header, where no standard has any: `p0` would be another usage
+// than `P0`.
+fn refuse_small<'a>(matches: &ArgMatches<'a>) -> Result<(), Fault<'a>> {
+    for name in ["usage", "algorithm", "mode", "exportability"] {
+        let text = text_of(matches, name).unwrap_or("");
+        if text.bytes().any(|byte| byte.is_ascii_lowercase()) {
+            return Err(misuse(Misuse::Capitals, ""));
+        }
+    }
+    Ok(())
 }
 
 fn wrapping_of<'a>(matches: &ArgMatches<'a>) -> Wrapping<'a> {
@@ -56,6 +68,7 @@ pub fn key_block_request<'a>(name: &str, matches: &ArgMatches<'a>) -> Requested<
             protected(by_input(calculation, block), matches)
         }
         "wrap" => {
+            refuse_small(matches)?;
             let calculation = Calculation::KeyBlock(KeyBlockCalculation::Wrap(wrapping_of(
                 matches,
             )));

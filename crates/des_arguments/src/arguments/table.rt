@@ -48,9 +48,9 @@ macro_rules! group {
 /// What the program's own help ends with.
 pub const STATUSES: &str = "\
 Statuses: 0 done, 1 the answer is weak or wrong, 2 arguments, keys and inputs,
-3 memory, 4 reading and writing, 5 the data, 6 some lines (--keep-going). Keys, PINs, blocks and components
-are never arguments: they are in files, descriptors or variables. Options are
-not abbreviated.";
+3 memory, 4 reading and writing, 5 the data, 6 some lines (--keep-going). Keys,
+PINs, blocks and components are never arguments: they are in files, descriptors
+or variables. Options are not abbreviated.";
 
 const WEAK_KEYS: &[&str] = &["refuse", "warn", "accept"];
 
@@ -103,7 +103,8 @@ static DECRYPTION: CommandGroup<'static> = group! {
         "blocks": Number("COUNT") => "Decrypt at most this number of blocks";
     }, Files, Hex, Progress, KeyOrPassword, Password, {
         "derive": Text("METHOD") =>
-            "Needed by a password: md5, sha1, sha256, pbkdf2-sha1:COUNT or pbkdf2-sha256:COUNT";
+            "Needed by a password: md5 (OpenSSL before 1.1.0), sha256 (since then), pbkdf2-sha256:COUNT \
+             (-pbkdf2; COUNT is 10000 without -iter), sha1 or pbkdf2-sha1:COUNT";
     }, AnyCount, {
         "no-salt": Nothing => "The input has no salt, and does not begin with Salted__";
         "base64": Nothing => "The input is Base64 in lines";
@@ -184,10 +185,10 @@ static MACS: CommandGroup<'static> = group! {
         "method": Place("METHOD", &["cbc-mac", "retail", "cmac"]) =>
             "CBC-MAC or retail MAC (ISO/IEC 9797-1, algorithms 1 and 3), or CMAC (NIST SP 800-38B)";
         "padding": Word("METHOD", &["1", "2"]) =>
-            "Needed by cbc-mac and retail: 2, unless all messages have one length";
+            "Needed by cbc-mac and retail: the sender's; 1 adds zeros (X9.9, mostly X9.19), 2 a one bit and zeros (EMV)";
         "in": Text("FILE") => "Read the message from a file [default: standard input]";
         "length": Word("BYTES", &["4", "5", "6", "7", "8"]) =>
-            "Print this number of the tag's first bytes [default: 8]";
+            "Print this number of the tag's first bytes [default: 8]; what --verify has must be as long";
         "verify": Text("TAG") =>
             "Print right where these are the tag's first 4 to 8 bytes, else wrong, and end with 1";
         "hex": Nothing => "The message is hexadecimal digits, of either case, with white space between";
@@ -263,7 +264,7 @@ static PIN: CommandGroup<'static> = group! {
     "decode": "Print the PIN of a block";
     [Format, {
         "block-file": Text("FILE") =>
-            "Read the block's 16 hexadecimal digits from a file [default: standard input]";
+            "Read the decrypted block's 16 hexadecimal digits from a file [default: standard input]";
     }, Account] "Example:
   printf 041274edcba9876f | cukvashe pin decode 0 --account 4012345678909";
 

@@ -62,7 +62,8 @@ impl LineFault {
             LineFault::Length => "the value ends within a block of 8 bytes",
             LineFault::Salt => "the value ends within the salt",
             LineFault::Padding => "wrong key, password, format or padding",
-            LineFault::Unprintable => "the text does not fit a line: --hex writes digits",
+            LineFault::Unprintable =>
+                "the text is not printable UTF-8 in one line: --hex writes digits",
         }
     }
 }

@@ -18,6 +18,8 @@ use std::io::Write;
 pub enum Notice {
     /// What is taken as text is nothing but hexadecimal digits.
     Hexadecimal,
+    /// What is decrypted as bytes is nothing but Base64.
+    Base64,
     /// A weak key is used.
     WeakKey,
     /// A key of three parts is one of two, K1, K2, K1.
@@ -43,6 +45,12 @@ pub fn tell<E: Write>(notice: Notice, about: &str, err: &mut E) -> Result<(), St
             "Hexadecimal",
             about,
             "the input is hexadecimal digits, and was taken as text: --hex reads it as bytes",
+            err,
+        ),
+        Notice::Base64 => write_line(
+            "Base64",
+            about,
+            "the input is a text in Base64, and was taken as bytes: --base64 decodes it",
             err,
         ),
         Notice::WeakKey => write_line("WeakKey", about, "the key is weak, and is used", err),

@@ -1,6 +1,7 @@
 //! The run of `encrypt` and `decrypt`: the key or the password, random bytes, the input, and the
 //! output.
 
+use crate::inputs::base64_text::Base64TextReader;
 use crate::inputs::files::{self, RANDOM_SOURCE, system_random};
 use crate::inputs::secrets::{key_in, password_in, password_name};
 use crate::outputs::notices::{self, Notice, accept_key};
@@ -114,6 +115,15 @@ fn run_to_output<R: Read>(
 
 // ---- the input
 
+// Whether a stream's end may come of digits or Base64 that were taken as bytes, and is not that nothing
+// could be read or written.
+fn is_of_content(outcome: &Result<(), FaultKind>) -> bool {
+    matches!(
+        outcome,
+        Ok(()) | Err(FaultKind::Length | FaultKind::Padding | FaultKind::Start)
+    )
+}
+
 // Reads from a reader, and writes where the request says.
 fn run_reader<R: Read + Drop>(
     rt: &HostRuntime,
@@ -122,13 +132,18 @@ fn run_reader<R: Read + Drop>(
     total: Option<u64>,
 ) -> Result<(), FaultKind> {
     let request = task.request;
-    let mut text = HexTextReader::new(reader);
+    let mut base64 = Base64TextReader::new(reader);
+    let mut text = HexTextReader::new(&mut base64);
     let mut reader = ProgressReader::new(rt, &mut text, request, total);
     let outcome = run_to_output(rt, task, &mut reader);
     reader.end();
-    let is_text = request.encrypts && matches!(request.coding, Coding::Bytes);
-    if is_text && outcome.is_ok() && text.is_hexadecimal() {
-        let _ = notices::tell(Notice::Hexadecimal, request.input.name(), &mut rt.stderr());
+    if matches!(request.coding, Coding::Bytes) && is_of_content(&outcome) {
+        let input = request.input.name();
+        if text.is_hexadecimal() {
+            let _ = notices::tell(Notice::Hexadecimal, input, &mut rt.stderr());
+        } else if !request.encrypts && base64.is_base64() {
+            let _ = notices::tell(Notice::Base64, input, &mut rt.stderr());
+        }
     }
     outcome
 }
