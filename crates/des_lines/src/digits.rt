@@ -1,11 +1,11 @@
 //! Texts of digits: what is written in an input, the bytes of hexadecimal digits, and the lines of
 //! the answers.
 
-ghost use Rattle.std.specs.Prelude.{◌≡◌, ◌≤◌, ◌*◌, ◌++◌, length, codes, IfOk, OnOk};
+ghost use Rattle.std.specs.Prelude.{◌≡◌, ◌≤◌, ◌*◌, ◌++◌, length, codes, None, IfOk, OnOk};
 ghost use Rattle.des_payment.specs.Digits.{digits_of};
 ghost use Rattle.des_lines.specs.Texts.{bytes_of as bytes_of_text, text_fault, digits_fault, hex_line as hex_line_of};
 ghost use Rattle.des_passwords.specs.HexStreams.{written_in};
-ghost use Rattle.des_lines.specs.Faults.{FailsOnlyBy};
+ghost use Rattle.des_lines.specs.Faults.{FailsBy, FailsOnlyBy};
 
 use crate::fault::FaultKind;
 use des_passwords::hex_reader::is_space;
@@ -95,4 +95,20 @@ pub fn hex_line(alloc: Global, bytes: &[u8]) -> Result<Vec<u8>, AllocError>
 {
     let digits = hex::encode(alloc, bytes)?;
     line_of(alloc, digits.as_bytes())
+}
+
+/// The answer that is this text, a line.
+pub fn text_answer(alloc: Global, text: &[u8]) -> Lines
+    ensures fault { FailsBy None result }
+    ensures line { IfOk result (λ line. line.items ≡ text.now ++ codes "\n") }
+{
+    Ok(line_of(alloc, text)?)
+}
+
+/// The answer that is these bytes, a line of digits.
+pub fn hex_answer(alloc: Global, bytes: &[u8]) -> Lines
+    ensures fault { FailsBy None result }
+    ensures line { IfOk result (λ line. line.items ≡ hex_line_of bytes.now) }
+{
+    Ok(hex_line(alloc, bytes)?)
 }

@@ -7,7 +7,7 @@ ghost use Rattle.des_lines.specs.Texts.{bytes_of as bytes_of_text, hex_line as h
 ghost use Rattle.des_lines.specs.Faults.{FailsBy, FailsOnlyBy};
 ghost use Rattle.des_lines.specs.EmvLines.{card_key_by, cryptogram_of, cryptogram_fault, issuer_data_fault, IsEmvLine, FailsAsEmv};
 
-use crate::digits::{Lines, bytes_in, decode, hex_line};
+use crate::digits::{Lines, bytes_in, decode, hex_answer};
 use crate::fault::FaultKind;
 use crate::keys::pair_of;
 use crate::requests::{CardKeyOption, EmvCalculation, Inputs, LONGEST_INPUT};
@@ -27,24 +27,24 @@ pub fn emv_line(alloc: Global, calculation: EmvCalculation, inputs: Inputs) -> L
         EmvCalculation::CardKey { option, sequence } => {
             let issuer = pair_of(inputs.text)?;
             let key = card_key(option, &issuer, inputs.account, sequence.as_bytes())?;
-            Ok(hex_line(alloc, &key)?)
+            hex_answer(alloc, &key)
         }
         EmvCalculation::ApplicationKey { counter } => {
             let card = pair_of(inputs.text)?;
             let counter = bytes_in::<2>(counter, FaultKind::Counter)?;
-            Ok(hex_line(alloc, &emv::application_key(&card, &counter))?)
+            hex_answer(alloc, &emv::application_key(&card, &counter))
         }
         EmvCalculation::SessionKey { cryptogram } => {
             let card = pair_of(inputs.text)?;
             let block = bytes_in::<8>(cryptogram, FaultKind::Cryptogram)?;
-            Ok(hex_line(alloc, &emv::session_key(&card, &block))?)
+            hex_answer(alloc, &emv::session_key(&card, &block))
         }
         EmvCalculation::Cryptogram => cryptogram_line(alloc, inputs),
         EmvCalculation::Response1 { cryptogram, code } => {
             let session = pair_of(inputs.text)?;
             let block = bytes_in::<8>(cryptogram, FaultKind::Cryptogram)?;
             let code = bytes_in::<2>(code, FaultKind::ResponseCode)?;
-            Ok(hex_line(alloc, &emv::response_1(&session, &block, &code))?)
+            hex_answer(alloc, &emv::response_1(&session, &block, &code))
         }
         EmvCalculation::Response2 {
             cryptogram,
@@ -57,7 +57,7 @@ pub fn emv_line(alloc: Global, calculation: EmvCalculation, inputs: Inputs) -> L
             let mut bytes = [0u8; 8];
             let size = read_data(issued, &mut bytes)?;
             let response = emv::response_2(&session, &block, &status, &bytes[..size])?;
-            Ok(hex_line(alloc, &response)?)
+            hex_answer(alloc, &response)
         }
     }
 }
@@ -93,7 +93,7 @@ fn cryptogram_line(alloc: Global, inputs: Inputs) -> Lines
     let mut buffer = [0u8; LONGEST_INPUT / 2];
     let bytes = &mut buffer[..digits.len() / 2];
     decode(digits, bytes, FaultKind::CryptogramData)?;
-    Ok(hex_line(alloc, &emv::application_cryptogram(&session, bytes))?)
+    hex_answer(alloc, &emv::application_cryptogram(&session, bytes))
 }
 
 // Reads the issuer's data, at most eight bytes, into the first bytes of a block, and returns their

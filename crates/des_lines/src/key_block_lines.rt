@@ -11,7 +11,7 @@ ghost use Rattle.des_lines.specs.KeyBlockLines.{IsReadable, TellsHeader, FailsAs
 ghost use Rattle.des_lines.specs.KeyBlockLines.{field_fault, header_text_fault, IsHeaderOf, IsMadeLine, IsWrapped, FailsAsMade, FailsAsWrapped};
 ghost use Rattle.des_lines.specs.KeyBlockLines.{FailsAsKeyBlock, AnswersKeyBlock};
 
-use crate::digits::{Lines, hex_line, line_of};
+use crate::digits::{Lines, hex_answer, hex_line, text_answer};
 use crate::fault::{FaultKind, Field};
 use crate::keys::AnyKey;
 use crate::requests::{Inputs, KeyBlockCalculation, RANDOM, Wrapping};
@@ -207,7 +207,7 @@ fn unwrap_lines(alloc: Global, shows_key: bool, protection: &[u8], block: &[u8])
     let protection = protection_of(protection)?;
     let (header, key) = key_blocks::unwrap(protection.bytes(), block)?;
     if shows_key {
-        return Ok(hex_line(alloc, key.bytes())?);
+        return hex_answer(alloc, key.bytes());
     }
     let mut lines = header_lines(alloc, block)?;
     add_check_value(alloc, &mut lines, header.algorithm, key.bytes())?;
@@ -280,7 +280,7 @@ fn block_line(
         padding,
         &mut text,
     )?;
-    Ok(line_of(alloc, &text[..size])?)
+    text_answer(alloc, &text[..size])
 }
 
 // The line of the block of the key that digits write.

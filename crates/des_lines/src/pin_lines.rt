@@ -2,15 +2,17 @@
 //! natural PINs and offsets.
 
 ghost use Rattle.std.specs.Prelude.{◌≡◌, IfOk};
+ghost use Rattle.std.specs.Result.{result_err};
+ghost use Rattle.des_payment.specs.PinVerification.{table_fault};
 ghost use Rattle.des_payment.specs.Texts.{values, number_fault};
 ghost use Rattle.des_lines.specs.Texts.{bytes_of as bytes_of_text, hex_line as hex_line_of, text_line};
 ghost use Rattle.des_lines.specs.Faults.{FailsBy, FailsOnlyBy};
 ghost use Rattle.des_lines.specs.PinLines.{fill_for as fill_by, fill_text_fault, block_text_fault, translated_fault, rekeyed_by, rekeyed_fault};
 ghost use Rattle.des_lines.specs.PinLines.{pvv_of, pvv_fault, HasPvv, pvv_verdict_fault, natural_pin_by, natural_fault};
-ghost use Rattle.des_lines.specs.PinLines.{data_fault, key_and_pin_fault, offset_by, offset_fault, HasOffset, offset_verdict_fault};
+ghost use Rattle.des_lines.specs.PinLines.{least_variety, data_fault, key_and_pin_fault, offset_by, offset_fault, HasOffset, offset_verdict_fault};
 ghost use Rattle.des_lines.specs.PinLines.{IsVerdictLine, TellsOutcome, pin_line_fault, IsPinLine};
 
-use crate::digits::{Lines, bytes_in, bytes_of, fill_of, hex_line, line_of};
+use crate::digits::{Lines, bytes_in, bytes_of, fill_of, hex_answer, text_answer};
 use crate::fault::FaultKind;
 use crate::keys::{AnyKey, pair_of};
 use crate::requests::{Inputs, NaturalPins, PinCalculation};
@@ -74,7 +76,7 @@ fn translated_line(alloc: Global, from: Format, to: Format, fill: &str, inputs: 
     let fill = fill_for(to, fill)?;
     let (key, to_key) = (key.bytes(), to_key.bytes());
     let translated = translate(key, from, to_key, to, inputs.account, &fill, &block)?;
-    Ok(hex_line(alloc, &translated)?)
+    hex_answer(alloc, &translated)
 }
 
 fn rekeyed_line(alloc: Global, inputs: Inputs) -> Lines
@@ -83,7 +85,7 @@ fn rekeyed_line(alloc: Global, inputs: Inputs) -> Lines
 {
     let (key, to_key, block) = block_of(inputs)?;
     let translated = translate_format_1(key.bytes(), to_key.bytes(), &block)?;
-    Ok(hex_line(alloc, &translated)?)
+    hex_answer(alloc, &translated)
 }
 
 // ---- PIN verification values
@@ -116,7 +118,7 @@ fn pvv_line(alloc: Global, index: u8, inputs: Inputs) -> Lines
     let key = pair_of(inputs.key)?;
     let pin = Pin::new(inputs.text)?;
     let value = pvv(&key, inputs.account, index, &pin)?;
-    Ok(line_of(alloc, &value)?)
+    text_answer(alloc, &value)
 }
 
 fn pvv_verdict(alloc: Global, index: u8, value: &str, inputs: Inputs) -> Lines
@@ -133,6 +135,18 @@ fn pvv_verdict(alloc: Global, index: u8, value: &str, inputs: Inputs) -> Lines
 
 // ---- natural PINs and offsets
 
+fn table_of(by: NaturalPins) -> Result<DecimalTable, VerificationError>
+    ensures fault { result_err result ≡ table_fault (least_variety by.entry.takes_any_table) by.entry.table.now }
+    ensures table { IfOk result (λ table. table ≡ values by.entry.table.now) }
+{
+    let text = by.table.as_bytes();
+    if by.takes_any_table {
+        DecimalTable::of_any_variety(text)
+    } else {
+        DecimalTable::new(text)
+    }
+}
+
 // The validation data and the decimalization table that digits write.
 fn data_of(by: NaturalPins) -> Result<([u8; 8], DecimalTable), FaultKind>
     ensures fault { FailsOnlyBy (data_fault by.entry) result }
@@ -140,13 +154,7 @@ fn data_of(by: NaturalPins) -> Result<([u8; 8], DecimalTable), FaultKind>
     ensures table { IfOk result (λ found. found.1 ≡ values by.entry.table.now) }
 {
     let validation = bytes_in::<8>(by.validation, FaultKind::Validation)?;
-    let text = by.table.as_bytes();
-    let table = if by.takes_any_table {
-        DecimalTable::of_any_variety(text)?
-    } else {
-        DecimalTable::new(text)?
-    };
-    Ok((validation, table))
+    Ok((validation, table_of(by)?))
 }
 
 // The line of the natural PIN of `count` digits under the key that digits write.
@@ -158,7 +166,7 @@ fn natural_line(alloc: Global, by: NaturalPins, count: u8, digits: &[u8]) -> Lin
     let key = AnyKey::of_digits(digits)?;
     let (validation, table) = data_of(by)?;
     let pin = natural_pin(key.bytes(), &table, &validation, count as usize)?;
-    Ok(line_of(alloc, pin.text())?)
+    text_answer(alloc, pin.text())
 }
 
 // The key and the PIN that digits write.
@@ -179,7 +187,7 @@ fn offset_line(alloc: Global, by: NaturalPins, inputs: Inputs) -> Lines
     let (key, pin) = key_and_pin(inputs)?;
     let (validation, table) = data_of(by)?;
     let offset = pin_offset(key.bytes(), &table, &validation, &pin)?;
-    Ok(line_of(alloc, offset.text())?)
+    text_answer(alloc, offset.text())
 }
 
 // The offset that a text writes, which has a PIN's form.
