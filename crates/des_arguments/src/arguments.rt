@@ -154,6 +154,22 @@ fn calculation_of<'a>(name: &str, matches: &ArgMatches<'a>) -> Requested<'a> {
     }
 }
 
+// What the arguments of a command of this name ask for, which is no stream.
+fn other_command<'m, 'a>(
+    name: &str,
+    matches: &'m ArgMatches<'a>,
+) -> Result<Command<'m, 'a>, Fault<'a>>
+    ensures { IfOk result (λ command. (name : Option (List ℕ)) → HasDirectionOf name command) }
+{
+    match name {
+        "decrypt-pem" => Ok(Command::PrivateKey(private_key_request(matches)?)),
+        "decrypt-lines" => Ok(Command::Lines(lines_request(matches)?)),
+        "mac" => Ok(Command::Mac(mac_request(matches)?)),
+        "combine" => combine_request(matches),
+        _ => Ok(Command::Calculate(calculation_of(name, matches)?)),
+    }
+}
+
 /// What the arguments ask for; a fault if their options don't go together.
 pub fn command_of<'m, 'a>(matches: &'m ArgMatches<'a>) -> Result<Command<'m, 'a>, Fault<'a>>
     ensures direction { IfOk result (HasDirectionOf (subcommand_name_of matches.now)) }
@@ -161,11 +177,7 @@ pub fn command_of<'m, 'a>(matches: &'m ArgMatches<'a>) -> Result<Command<'m, 'a>
     match matches.subcommand() {
         Some(("encrypt", matches)) => Ok(Command::Stream(stream_request(true, matches)?)),
         Some(("decrypt", matches)) => Ok(Command::Stream(stream_request(false, matches)?)),
-        Some(("decrypt-pem", matches)) => Ok(Command::PrivateKey(private_key_request(matches)?)),
-        Some(("decrypt-lines", matches)) => Ok(Command::Lines(lines_request(matches)?)),
-        Some(("mac", matches)) => Ok(Command::Mac(mac_request(matches)?)),
-        Some(("combine", matches)) => combine_request(matches),
-        Some((name, matches)) => Ok(Command::Calculate(calculation_of(name, matches)?)),
+        Some((name, matches)) => other_command(name, matches),
         None => Err(misuse(Misuse::Arguments, "")),
     }
 }

@@ -26,21 +26,35 @@ fn needed<'a>(arg: Arg<'a>) -> Arg<'a> {
     arg.required(true)
 }
 
+// The argument as it is typed: in its place, or after its name.
+fn typed<'a>(arg: Arg<'a>, name: &'a str, takes: Takes<'a>) -> Arg<'a> {
+    match takes {
+        Takes::Place(value, _) | Takes::PlaceOfText(value) => place(arg, value),
+        Takes::Word(value, _)
+        | Takes::Number(value)
+        | Takes::Count(value)
+        | Takes::Text(value)
+        | Takes::Needed(value)
+        | Takes::NeededWord(value, _)
+        | Takes::Texts(value) => option(arg, name, value),
+        Takes::Hidden => option(arg, name, name),
+        Takes::Nothing => arg.long(name),
+    }
+}
+
 fn arg_of<'a>(alloc: Global, argument: Argument<'a>) -> Arg<'a> {
     let Argument(name, takes, help) = argument;
-    let arg = Arg::new(alloc, name).help(help);
+    let arg = typed(Arg::new(alloc, name).help(help), name, takes);
     match takes {
-        Takes::Place(value, values) => one_of(place(arg, value), values),
-        Takes::PlaceOfText(value) => place(arg, value),
-        Takes::Word(value, values) => one_of(option(arg, name, value), values),
-        Takes::Number(value) => number(option(arg, name, value)),
-        Takes::Count(value) => option(arg, name, value).value_parser(value_parser!(u8)),
-        Takes::Text(value) => option(arg, name, value),
-        Takes::Needed(value) => needed(option(arg, name, value)),
-        Takes::NeededWord(value, values) => needed(one_of(option(arg, name, value), values)),
-        Takes::Texts(value) => option(arg, name, value).action(ArgAction::Append),
-        Takes::Hidden => number(option(arg, name, name)).hide(true),
-        Takes::Nothing => arg.long(name).action(ArgAction::SetTrue),
+        Takes::Place(_, values) | Takes::Word(_, values) => one_of(arg, values),
+        Takes::NeededWord(_, values) => needed(one_of(arg, values)),
+        Takes::Needed(_) => needed(arg),
+        Takes::Number(_) => number(arg),
+        Takes::Hidden => number(arg).hide(true),
+        Takes::Count(_) => arg.value_parser(value_parser!(u8)),
+        Takes::Texts(_) => arg.action(ArgAction::Append),
+        Takes::Nothing => arg.action(ArgAction::SetTrue),
+        Takes::PlaceOfText(_) | Takes::Text(_) => arg,
     }
 }
 

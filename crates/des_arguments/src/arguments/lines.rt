@@ -161,6 +161,15 @@ pub fn request_of<'a>(arguments: &LineArguments<'a>) -> Result<LinesRequest<'a>,
     })
 }
 
+fn password_of<'a>(matches: &ArgMatches<'a>, fault: Misuse) -> Result<LineSecret<'a>, Fault<'a>> {
+    Ok(LineSecret::Password(one_of(matches, PASSWORD, fault)?))
+}
+
+fn key_alone<'a>(matches: &ArgMatches<'a>) -> Result<LineSecret<'a>, Fault<'a>> {
+    refuse(names_one(matches, PASSWORD), Misuse::PasswordSource)?;
+    Ok(LineSecret::Key(one_of(matches, KEY, Misuse::KeySource)?))
+}
+
 // What gives the keys of MySQL: the server's file of them, or a place of a key string.
 fn secret_of_mysql<'a>(
     matches: &ArgMatches<'a>,
@@ -168,8 +177,7 @@ fn secret_of_mysql<'a>(
 ) -> Result<LineSecret<'a>, Fault<'a>> {
     refuse(names_one(matches, KEY), Misuse::MysqlSource)?;
     let Some(path) = keys else {
-        let source = one_of(matches, PASSWORD, Misuse::MysqlSource)?;
-        return Ok(LineSecret::Password(source));
+        return password_of(matches, Misuse::MysqlSource);
     };
     refuse(names_one(matches, PASSWORD), Misuse::MysqlSource)?;
     Ok(LineSecret::Key(file_of(path)))
@@ -183,11 +191,10 @@ fn secret_of<'a>(matches: &ArgMatches<'a>) -> Result<LineSecret<'a>, Fault<'a>> 
     }
     refuse_option(keys.is_some(), "--des-key-file")?;
     if names_one(matches, KEY) {
-        refuse(names_one(matches, PASSWORD), Misuse::PasswordSource)?;
-        return Ok(LineSecret::Key(one_of(matches, KEY, Misuse::KeySource)?));
+        key_alone(matches)
+    } else {
+        password_of(matches, Misuse::KeyOrPasswordSource)
     }
-    let source = one_of(matches, PASSWORD, Misuse::KeyOrPasswordSource)?;
-    Ok(LineSecret::Password(source))
 }
 
 /// What the arguments of `decrypt-lines` ask for; a fault if they don't go together.

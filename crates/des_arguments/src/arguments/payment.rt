@@ -2,8 +2,8 @@
 
 use super::argument_values::{count_of, is_given, is_set, place_of, text_of};
 use super::misuse::misuse;
-use super::requests::{Requested, by_input, by_key, with_account, with_key};
-use super::sources::{input_at, key_of, one_of};
+use super::requests::{Requested, by_input, by_key, with_account, with_key_of};
+use super::sources::{input_at, one_of};
 use clap::ArgMatches;
 use des_lines::fault::{Fault, Misuse};
 use des_lines::requests::{
@@ -105,7 +105,7 @@ fn translate_request<'a>(matches: &ArgMatches<'a>) -> Requested<'a> {
     let request = translation_between(from, to, matches)?;
     let names = ["to-key-file", "to-key-fd", "to-key-env"];
     let to_key = Some(one_of(matches, names, Misuse::ToKeySource)?);
-    with_key(CalculationRequest { to_key, ..request }, key_of(matches)?)
+    with_key_of(CalculationRequest { to_key, ..request }, matches)
 }
 
 /// What the arguments of the command of `pin` of this name ask for.
@@ -134,7 +134,7 @@ pub fn pvv_request<'a>(matches: &ArgMatches<'a>) -> Requested<'a> {
         None => PinCalculation::MakePvv { index },
     };
     let request = with_account(by_pin(calculation, matches), matches)?;
-    with_key(request, key_of(matches)?)
+    with_key_of(request, matches)
 }
 
 fn natural_pins_of<'a>(matches: &ArgMatches<'a>) -> NaturalPins<'a> {
@@ -159,7 +159,7 @@ pub fn offset_request<'a>(name: &str, matches: &ArgMatches<'a>) -> Requested<'a>
         Some(offset) => PinCalculation::VerifyOffset { by, offset },
         None => PinCalculation::MakeOffset { by },
     };
-    with_key(by_pin(calculation, matches), key_of(matches)?)
+    with_key_of(by_pin(calculation, matches), matches)
 }
 
 // ---- cards
@@ -207,18 +207,21 @@ fn by_card_key<'a>(calculation: EmvCalculation<'a>, matches: &ArgMatches<'a>) ->
     by_key(Calculation::Emv(calculation), matches)
 }
 
+fn card_key_request<'a>(matches: &ArgMatches<'a>) -> Requested<'a> {
+    with_account(by_card_key(card_key_of(matches), matches)?, matches)
+}
+
 /// What the arguments of the command of `emv` of this name ask for.
 pub fn emv_request<'a>(name: &str, matches: &ArgMatches<'a>) -> Requested<'a> {
     match name {
-        "card-key" => {
-            let request = by_card_key(card_key_of(matches), matches)?;
-            with_account(request, matches)
-        }
+        "card-key" => card_key_request(matches),
         "session-key" => by_card_key(session_of(matches)?, matches),
         "cryptogram" => {
             let calculation = Calculation::Emv(EmvCalculation::Cryptogram);
-            let request = by_input(calculation, input_at(matches, "data-file"));
-            with_key(request, key_of(matches)?)
+            with_key_of(
+                by_input(calculation, input_at(matches, "data-file")),
+                matches,
+            )
         }
         "response-1" | "response-2" => by_card_key(response_of(matches), matches),
         _ => Err(misuse(Misuse::Arguments, "")),

@@ -85,6 +85,11 @@ pub fn with_account<'a>(
     })
 }
 
+/// The request with the key of the options beside its input.
+pub fn with_key_of<'a>(request: CalculationRequest<'a>, matches: &ArgMatches<'a>) -> Requested<'a> {
+    with_key(request, key_of(matches)?)
+}
+
 /// The request with a key beside its input.
 pub fn with_key<'a>(request: CalculationRequest<'a>, key: Source<'a>) -> Requested<'a> {
     let key = Some(key);
