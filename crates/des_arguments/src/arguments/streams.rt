@@ -12,7 +12,7 @@ ghost use Rattle.des_arguments.specs.StreamArguments.{IsVector, FailsAsVector, I
 ghost use Rattle.des_arguments.specs.StreamArguments.{IsRequest, FailsAsRequest};
 
 use super::argument_values::{is_set, number_of, place_of, text_of};
-use super::misuse::{misuse, refuse};
+use super::misuse::misuse;
 use super::passwords::secret_of;
 use super::sources::{input_of, output_of, read_once};
 use crate::command::streams::{
@@ -176,20 +176,24 @@ pub fn request_of<'a>(arguments: &StreamArguments<'a>) -> Result<StreamRequest<'
     ensures asked { IfOk result (IsRequest arguments.now) }
     ensures fault { IfErr result (λ fault. FailsAsRequest arguments.now fault.kind) }
 {
-    let (cipher, mode) = cipher_of(arguments.cipher).ok_or(misuse(Misuse::Arguments, "CIPHER"))?;
-    let padding = padding_of(arguments.padding).ok_or(misuse(Misuse::Arguments, "--padding"))?;
-    refuse(
-        mode.is_stream() && arguments.padding.is_some(),
-        Misuse::PaddingOfStream,
-    )?;
-    let weak_keys = weak_keys_of(arguments.weak_keys, arguments.encrypts).ok_or(misuse(
-        Misuse::Arguments,
-        "--weak-keys",
-    ))?;
+    let Some((cipher, mode)) = cipher_of(arguments.cipher) else {
+        return Err(misuse(Misuse::Arguments, "CIPHER"));
+    };
+    let Some(padding) = padding_of(arguments.padding) else {
+        return Err(misuse(Misuse::Arguments, "--padding"));
+    };
+    if mode.is_stream() && arguments.padding.is_some() {
+        return Err(misuse(Misuse::PaddingOfStream, ""));
+    }
+    let Some(weak_keys) = weak_keys_of(arguments.weak_keys, arguments.encrypts) else {
+        return Err(misuse(Misuse::Arguments, "--weak-keys"));
+    };
     let part = part_of(arguments.from, arguments.count, arguments.encrypts).map_err(|kind| fault_of(
         kind,
     ))?;
-    refuse(!mode.takes_part() && part.is_some(), Misuse::PartOfOfb)?;
+    if !mode.takes_part() && part.is_some() {
+        return Err(misuse(Misuse::PartOfOfb, ""));
+    }
     let vector = asked_vector(arguments, mode.takes_vector()).map_err(|kind| fault_of(kind))?;
     let input = input_of(arguments.input);
     read_once(arguments.secret.source(), input)?;
