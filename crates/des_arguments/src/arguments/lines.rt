@@ -7,7 +7,7 @@ ghost use Rattle.des_arguments.specs.LineArguments.{algorithm_by, iterations_by,
 ghost use Rattle.des_arguments.specs.LineFormats.{coding_of as coding_by, takes_secret as takes_secret_of};
 
 use super::argument_values::{is_set, number_of, place_of, text_of};
-use super::misuse::{misuse, refuse};
+use super::misuse::misuse;
 use super::passwords::PASSWORD;
 use super::sources::{KEY, file_of, input_of, names_one, one_of, output_of, read_once};
 use crate::command::lines::{LineCoding, LineSecret, LinesRequest, ValueFormat};
@@ -38,17 +38,6 @@ pub struct LineArguments<'a> {
     pub shows_progress: bool,
 }
 
-// The fault of an option that the format does not take.
-fn refuse_option<'a>(is_given: bool, option: &'a str) -> Result<(), Fault<'a>>
-    ensures passed { IfOk result (λ _. is_given ≡ false) }
-    ensures fault { IfErr result (λ fault. (is_given ≡ true) × (fault.kind ≡ Usage Arguments)) }
-{
-    if is_given {
-        return Err(misuse(Misuse::Arguments, option));
-    }
-    Ok(())
-}
-
 // The number of iterations that the arguments ask for.
 fn iterations_of<'a>(arguments: &LineArguments) -> Result<u32, Fault<'a>>
     ensures count { IfOk result (λ count. (count ≡ iterations_by arguments.now) × (1 ≤ count)
@@ -76,8 +65,12 @@ fn jasypt_of<'a>(arguments: &LineArguments) -> Result<(Algorithm, u32), Fault<'a
     ensures asked { IfOk result (λ asked. IsJasypt arguments.now asked.0 asked.1) }
     ensures fault { IfErr result (λ fault. FailsAsJasypt arguments.now × IsOfOption fault.kind) }
 {
-    refuse_option(arguments.iv.is_some(), "--iv")?;
-    refuse_option(arguments.is_base64, "--base64")?;
+    if arguments.iv.is_some() {
+        return Err(misuse(Misuse::Arguments, "--iv"));
+    }
+    if arguments.is_base64 {
+        return Err(misuse(Misuse::Arguments, "--base64"));
+    }
     let Some(by) = algorithm_of(arguments) else {
         return Err(misuse(Misuse::ArgumentValue, "--algorithm"));
     };
@@ -90,8 +83,12 @@ fn other_of<'a>(arguments: &LineArguments<'a>) -> Result<ValueFormat<'a>, Fault<
     ensures asked { IfOk result (IsOther arguments.now) }
     ensures fault { IfErr result (λ fault. FailsAsOther arguments.now × IsOfOption fault.kind) }
 {
-    refuse_option(arguments.algorithm.is_some(), "--algorithm")?;
-    refuse_option(arguments.iterations.is_some(), "--iterations")?;
+    if arguments.algorithm.is_some() {
+        return Err(misuse(Misuse::Arguments, "--algorithm"));
+    }
+    if arguments.iterations.is_some() {
+        return Err(misuse(Misuse::Arguments, "--iterations"));
+    }
     match (arguments.format, arguments.iv) {
         ("mysql", None) => Ok(ValueFormat::Mysql),
         ("mysql", Some(_)) => Err(misuse(Misuse::Arguments, "--iv")),
@@ -143,10 +140,9 @@ pub fn request_of<'a>(arguments: &LineArguments<'a>) -> Result<LinesRequest<'a>,
     ensures fault { IfErr result (λ fault. FailsAsLinesRequest arguments.now fault.kind) }
 {
     let format = format_of(arguments)?;
-    refuse(
-        !takes_secret(format, arguments.secret),
-        Misuse::PasswordSource,
-    )?;
+    if !takes_secret(format, arguments.secret) {
+        return Err(misuse(Misuse::PasswordSource, ""));
+    }
     let input = input_of(arguments.input);
     read_once(arguments.secret.source(), input)?;
     Ok(LinesRequest {
@@ -166,7 +162,9 @@ fn password_of<'a>(matches: &ArgMatches<'a>, fault: Misuse) -> Result<LineSecret
 }
 
 fn key_alone<'a>(matches: &ArgMatches<'a>) -> Result<LineSecret<'a>, Fault<'a>> {
-    refuse(names_one(matches, PASSWORD), Misuse::PasswordSource)?;
+    if names_one(matches, PASSWORD) {
+        return Err(misuse(Misuse::PasswordSource, ""));
+    }
     Ok(LineSecret::Key(one_of(matches, KEY, Misuse::KeySource)?))
 }
 
@@ -175,11 +173,15 @@ fn secret_of_mysql<'a>(
     matches: &ArgMatches<'a>,
     keys: Option<&'a str>,
 ) -> Result<LineSecret<'a>, Fault<'a>> {
-    refuse(names_one(matches, KEY), Misuse::MysqlSource)?;
+    if names_one(matches, KEY) {
+        return Err(misuse(Misuse::MysqlSource, ""));
+    }
     let Some(path) = keys else {
         return password_of(matches, Misuse::MysqlSource);
     };
-    refuse(names_one(matches, PASSWORD), Misuse::MysqlSource)?;
+    if names_one(matches, PASSWORD) {
+        return Err(misuse(Misuse::MysqlSource, ""));
+    }
     Ok(LineSecret::Key(file_of(path)))
 }
 
@@ -189,7 +191,9 @@ fn secret_of<'a>(matches: &ArgMatches<'a>) -> Result<LineSecret<'a>, Fault<'a>> 
     if place_of(matches, "format") == "mysql" {
         return secret_of_mysql(matches, keys);
     }
-    refuse_option(keys.is_some(), "--des-key-file")?;
+    if keys.is_some() {
+        return Err(misuse(Misuse::Arguments, "--des-key-file"));
+    }
     if names_one(matches, KEY) {
         key_alone(matches)
     } else {
