@@ -3,11 +3,11 @@
 ghost use Rattle.std.specs.Prelude.{◌≡◌, ◌≤◌, ◌*◌, ◌/◌, ◌%◌, ◌⊎◌, length, IfOk};
 ghost use Rattle.des.specs.WeakKeys.{IsRefused};
 ghost use Rattle.des_payment.specs.Components.{combined};
-ghost use Rattle.des_lines.specs.Texts.{bytes_of as bytes_of_text, hex_line as hex_line_of, text_line, text_fault};
+ghost use Rattle.des_lines.specs.Texts.{bytes_of as bytes_of_text, hex_line as hex_line_of, text_fault};
 ghost use Rattle.des_lines.specs.Faults.{FailsBy, FailsOnlyBy, FailsOrRefuses};
 ghost use Rattle.des_lines.specs.Keys.{key_fault, IsKeySize};
-ghost use Rattle.des_lines.specs.Lines.{check_value_of, parity_line as parity_line_of, IsWeakLine, key_of_components, key_size_of, key_of_count, few_fault, components_fault, encoding_fault, IsEncoded, decoding_fault, IsDecoded};
-ghost use Rattle.des_lines.specs.Lines.{FailsAs, IsLine, key_for, initial_key_of as initial_key_by, transaction_key_of, transaction_fault, cvv_of, cvv_fault};
+ghost use Rattle.des_lines.specs.Lines.{check_value_of, IsWeakLine, key_of_components, key_size_of, key_of_count, few_fault, components_fault, encoding_fault, IsEncoded, decoding_fault, IsDecoded};
+ghost use Rattle.des_lines.specs.Lines.{FailsAs, IsLine, key_for, initial_key_of as initial_key_by, transaction_key_of, transaction_fault};
 
 use crate::digits::{Lines, bytes_of, decode, fill_of, hex_answer, hex_line, text_answer};
 use crate::emv_lines::emv_line;
@@ -35,18 +35,32 @@ pub fn lines_of(alloc: Global, calculation: Calculation, inputs: Inputs) -> Line
 {
     match calculation {
         Calculation::CheckValue { bytes } => check_line(alloc, bytes, inputs.text),
-        Calculation::Parity => parity_line(alloc, inputs.text),
+        Calculation::Parity => {
+            let mut key = key_of_digits(alloc, inputs.text, None)?;
+            set_odd_parity(&mut key);
+            hex_answer(alloc, key.as_slice())
+        }
         Calculation::Weak => weak_line(alloc, inputs.text),
         Calculation::Combine { count } => combine_line(alloc, count, inputs.text),
         Calculation::CombineBytes { size } => combined_bytes_line(alloc, size, inputs.text),
-        Calculation::Encode { format, fill } => encoded_line(alloc, format, fill, inputs),
-        Calculation::Decode { format } => decoded_line(alloc, format, inputs),
+        Calculation::Encode { format, fill } => {
+            let pin = Pin::new(inputs.text)?;
+            hex_answer(alloc, &block_of(format, fill, inputs.account, &pin)?)
+        }
+        Calculation::Decode { format } => {
+            let block = bytes_of::<8>(inputs.text, FaultKind::BlockLength, FaultKind::BlockText)?;
+            text_answer(alloc, pin_of(format, inputs.account, &block)?.text())
+        }
         Calculation::Transaction {
             serial,
             purpose,
             is_initial,
         } => transaction_line(alloc, serial, purpose, is_initial, inputs.text),
-        Calculation::Cvv { expiry, service } => cvv_line(alloc, expiry, service, inputs),
+        Calculation::Cvv { expiry, service } => {
+            let key = pair_of(inputs.text)?;
+            let value = cvv(&key, inputs.account, expiry.as_bytes(), service.as_bytes())?;
+            text_answer(alloc, &value)
+        }
         Calculation::Pin(calculation) => pin_line(alloc, calculation, inputs),
         Calculation::Emv(calculation) => emv_line(alloc, calculation, inputs),
         Calculation::KeyBlock(calculation) => key_block_lines(alloc, calculation, inputs),
@@ -64,16 +78,6 @@ fn check_line(alloc: Global, bytes: u8, digits: &[u8]) -> Lines
     let value = key_check_value(key.bytes()).unwrap();
     let count = std::cmp::min(bytes as usize, 3);
     Ok(hex_line(alloc, &value[..count])?)
-}
-
-// The line of the key that the digits write, with odd parity.
-fn parity_line(alloc: Global, digits: &[u8]) -> Lines
-    ensures fault { FailsBy (key_fault None digits.now) result }
-    ensures line { IfOk result (λ line. line.items ≡ parity_line_of digits.now) }
-{
-    let mut key = key_of_digits(alloc, digits, None)?;
-    set_odd_parity(&mut key);
-    hex_answer(alloc, key.as_slice())
 }
 
 fn weak_text(key: &[u8]) -> &'static str
@@ -206,35 +210,6 @@ fn pin_of(format: Format, account: &[u8], block: &[u8; 8]) -> Result<Pin, FaultK
         Format::Format3 => pin_blocks::decode_format_3(block, account)?,
     };
     Ok(pin)
-}
-
-fn encoded_line(alloc: Global, format: Format, fill: &str, inputs: Inputs) -> Lines
-    ensures fault { FailsAs (Calculation.Encode format fill.entry) inputs.entry result }
-    ensures line { IfOk result (λ line.
-        IsLine (Calculation.Encode format fill.entry) inputs.entry line.items) }
-{
-    let pin = Pin::new(inputs.text)?;
-    hex_answer(alloc, &block_of(format, fill, inputs.account, &pin)?)
-}
-
-fn decoded_line(alloc: Global, format: Format, inputs: Inputs) -> Lines
-    ensures fault { FailsAs (Calculation.Decode format) inputs.entry result }
-    ensures line { IfOk result (λ line. IsLine (Calculation.Decode format) inputs.entry line.items) }
-{
-    let block = bytes_of::<8>(inputs.text, FaultKind::BlockLength, FaultKind::BlockText)?;
-    text_answer(alloc, pin_of(format, inputs.account, &block)?.text())
-}
-
-// ---- card verification values
-
-fn cvv_line(alloc: Global, expiry: &str, service: &str, inputs: Inputs) -> Lines
-    ensures fault { FailsBy (cvv_fault expiry.now service.now inputs.entry) result }
-    ensures line { IfOk result (λ line.
-        line.items ≡ text_line (cvv_of expiry.now service.now inputs.entry)) }
-{
-    let key = pair_of(inputs.text)?;
-    let value = cvv(&key, inputs.account, expiry.as_bytes(), service.as_bytes())?;
-    text_answer(alloc, &value)
 }
 
 // ---- keys of transactions
