@@ -15,7 +15,7 @@ ghost use Rattle.des_context.specs.CipherTypes.{encryption_of, relation_of};
 ghost use Rattle.des_context.specs.Contexts.{HasCipherType, HasMark, IsContextOf, IsSoundIfMarked};
 ghost use Rattle.des_context.specs.declared.ciphers.TheConstants.{NO_MAC};
 
-use crate::ciphers::{ContextCipher, NO_MAC, dispatch_cipher, opened};
+use crate::ciphers::{CipherType, ContextCipher, NO_MAC, dispatch_cipher, opened};
 use crate::status::{ERR_CONTEXT, ERR_MODE, ERR_STREAM, OK};
 use des_fast::many::{ManyBlocks, Slice};
 use des_modes::Direction;
@@ -57,6 +57,41 @@ fn apply_by<C: ContextCipher + ManyBlocks, S: Slice>(
     stream.apply(direction, mode, &cipher, bytes);
 }
 
+// Encrypts or decrypts the bytes that come next, by the cipher of a type.
+#[inline(always)]
+fn apply<S: Slice>(
+    cipher: CipherType,
+    direction: Direction,
+    context: &[u64],
+    no_tables: bool,
+    mode: Mode,
+    stream: &mut Stream,
+    bytes: &mut [u8],
+)
+    requires cipher_type { HasCipherType cipher context.now }
+    requires made { (key : List ℕ) × IsContextOf context.now key }
+    requires mode { IsInMode mode stream.old }
+    ensures bytes { (number : ℕ) (key iv p c : List ℕ) → IsContextOf context.now key
+        → IsStreamAt number (encryption_of key) iv p c stream.old
+        → IsStreamAt number (encryption_of key) iv (p ++ plaintext direction bytes.old bytes.new)
+        (c ++ ciphertext direction bytes.old bytes.new) stream.new }
+    ensures under { (number : ℕ) (key iv p c : List ℕ) → IsContextOf context.now key
+        → IsStreamAt number (encryption_of key) iv p c stream.old
+        → InModeUnder (mode_by number) (relation_of key) iv
+        (p ++ plaintext direction bytes.old bytes.new)
+        (c ++ ciphertext direction bytes.old bytes.new) }
+    ensures bits { (key iv : List ℕ) (p c : List Bool) → IsContextOf context.now key
+        → IsBitStreamAt (encryption_of key) iv p c stream.old
+        → IsBitStreamAt (encryption_of key) iv
+        (p ++ bits_of_bytes (plaintext direction bytes.old bytes.new))
+        (c ++ bits_of_bytes (ciphertext direction bytes.old bytes.new)) stream.new }
+{
+    dispatch_cipher!(
+        cipher,
+        apply_by::<S>(direction, context, no_tables, mode, stream, bytes)
+    )
+}
+
 // Encrypts or decrypts the first `bits` bits, which come next, by a cipher: bit after bit, so that
 // no width is faster.
 #[inline(never)]
@@ -82,6 +117,34 @@ fn apply_bits_by<C: ContextCipher + ManyBlocks>(
     let cipher = C::of(context);
     let cipher = ByLists::<C, u64x2>::new(&cipher, no_tables);
     stream.apply_bits(direction, &cipher, bytes, bits);
+}
+
+// Encrypts or decrypts the first `bits` bits, which come next, by the cipher of a type.
+#[inline(always)]
+fn apply_bits(
+    cipher: CipherType,
+    direction: Direction,
+    context: &[u64],
+    no_tables: bool,
+    stream: &mut Stream,
+    bytes: &mut [u8],
+    bits: usize,
+)
+    requires cipher_type { HasCipherType cipher context.now }
+    requires made { (key : List ℕ) × IsContextOf context.now key }
+    requires mode { IsInMode BitFeedback stream.old }
+    requires few { bits ≤ 8 * length bytes.old }
+    ensures bits { (key iv : List ℕ) (p c : List Bool) → IsContextOf context.now key
+        → IsBitStreamAt (encryption_of key) iv p c stream.old
+        → IsBitStreamAt (encryption_of key) iv
+        (p ++ first_bits bits (plaintext direction bytes.old bytes.new))
+        (c ++ first_bits bits (ciphertext direction bytes.old bytes.new)) stream.new }
+    ensures rest { drop bits (bits_of_bytes bytes.new) ≡ drop bits (bits_of_bytes bytes.old) }
+{
+    dispatch_cipher!(
+        cipher,
+        apply_bits_by(direction, context, no_tables, stream, bytes, bits)
+    )
 }
 
 /// Begins a stream in the mode of a number from an initialization vector, or for the counter mode
@@ -142,10 +205,7 @@ pub fn apply_stream<S: Slice>(
         Some(mode) => mode,
         None => return ERR_STREAM,
     };
-    dispatch_cipher!(
-        cipher,
-        apply_by::<S>(direction, context, no_tables, mode, stream, bytes)
-    );
+    apply::<S>(cipher, direction, context, no_tables, mode, stream, bytes);
     OK
 }
 
@@ -185,10 +245,7 @@ pub fn apply_stream_bits(
     if stream.number() != CFB1 {
         return ERR_MODE;
     }
-    dispatch_cipher!(
-        cipher,
-        apply_bits_by(direction, context, no_tables, stream, bytes, bits)
-    );
+    apply_bits(cipher, direction, context, no_tables, stream, bytes, bits);
     OK
 }
 
@@ -219,9 +276,14 @@ pub fn apply_mode<S: Slice>(
     };
     let mode = begun.mode().unwrap();
     let mut stream = begun;
-    dispatch_cipher!(
+    apply::<S>(
         cipher,
-        apply_by::<S>(direction, context, no_tables, mode, &mut stream, bytes)
+        direction,
+        context,
+        no_tables,
+        mode,
+        &mut stream,
+        bytes,
     );
     OK
 }
