@@ -8,13 +8,13 @@ ghost use Rattle.des_context.specs.CipherTypes.{relation_of};
 ghost use Rattle.des_context.specs.Contexts.{HasCipherType, HasMark, IsContextOf, IsSoundIfMarked};
 ghost use Rattle.des_context.specs.Records.{AreSizesOf, ChainedByKey, CbcUnderEach};
 
-use crate::ciphers::{ContextCipher, NO_MAC, dispatch_cipher, opened};
+use crate::ciphers::{CipherType, ContextCipher, NO_MAC, dispatch_cipher, opened};
 use crate::status::{ERR_BLOCKS, ERR_CONTEXT, ERR_COUNTS, OK};
 use des_fast::many::{Slice, SpreadOnce};
 
-// Encrypts records in place by CBC.
+// Encrypts records in place by CBC, by a cipher.
 #[inline(never)]
-fn encrypt_records<C: ContextCipher + SpreadOnce, S: Slice>(
+fn encrypt_records_by<C: ContextCipher + SpreadOnce, S: Slice>(
     context: &[u64],
     vectors: &mut [[u8; 8]],
     sizes: &[usize],
@@ -32,9 +32,29 @@ fn encrypt_records<C: ContextCipher + SpreadOnce, S: Slice>(
     }
 }
 
-// Decrypts records in place that CBC encrypted.
+// Encrypts records in place by CBC, by the cipher of a type.
+#[inline(always)]
+fn encrypt_records<S: Slice>(
+    cipher: CipherType,
+    context: &[u64],
+    vectors: &mut [[u8; 8]],
+    sizes: &[usize],
+    blocks: &mut [[u8; 8]],
+) -> i32
+    requires cipher_type { HasCipherType cipher context.now }
+    requires made { (key : List ℕ) × IsContextOf context.now key }
+    ensures { ChainedByKey context.now sizes.now vectors.old vectors.new blocks.old blocks.new
+        blocks.old blocks.new result }
+{
+    dispatch_cipher!(
+        cipher,
+        encrypt_records_by::<S>(context, vectors, sizes, blocks)
+    )
+}
+
+// Decrypts records in place that CBC encrypted, by a cipher.
 #[inline(never)]
-fn decrypt_records<C: ContextCipher + SpreadOnce, S: Slice>(
+fn decrypt_records_by<C: ContextCipher + SpreadOnce, S: Slice>(
     context: &[u64],
     vectors: &mut [[u8; 8]],
     sizes: &[usize],
@@ -50,6 +70,26 @@ fn decrypt_records<C: ContextCipher + SpreadOnce, S: Slice>(
         Ok(()) => OK,
         Err(_) => ERR_COUNTS,
     }
+}
+
+// Decrypts records in place that CBC encrypted, by the cipher of a type.
+#[inline(always)]
+fn decrypt_records<S: Slice>(
+    cipher: CipherType,
+    context: &[u64],
+    vectors: &mut [[u8; 8]],
+    sizes: &[usize],
+    blocks: &mut [[u8; 8]],
+) -> i32
+    requires cipher_type { HasCipherType cipher context.now }
+    requires made { (key : List ℕ) × IsContextOf context.now key }
+    ensures { ChainedByKey context.now sizes.now vectors.old vectors.new blocks.old blocks.new
+        blocks.new blocks.old result }
+{
+    dispatch_cipher!(
+        cipher,
+        decrypt_records_by::<S>(context, vectors, sizes, blocks)
+    )
 }
 
 /// Encrypts records in place by CBC, in step: `sizes[k]` blocks are record k, one record after
@@ -85,10 +125,7 @@ pub fn encrypt_cbc_records<S: Slice>(
     if size != blocks.as_flattened().len() {
         return ERR_BLOCKS;
     }
-    dispatch_cipher!(
-        cipher,
-        encrypt_records::<S>(context, vectors, sizes, blocks)
-    )
+    encrypt_records::<S>(cipher, context, vectors, sizes, blocks)
 }
 
 /// Decrypts records in place that CBC encrypted, as `encrypt_cbc_records` does. The status is as
@@ -121,8 +158,5 @@ pub fn decrypt_cbc_records<S: Slice>(
     if size != blocks.as_flattened().len() {
         return ERR_BLOCKS;
     }
-    dispatch_cipher!(
-        cipher,
-        decrypt_records::<S>(context, vectors, sizes, blocks)
-    )
+    decrypt_records::<S>(cipher, context, vectors, sizes, blocks)
 }
