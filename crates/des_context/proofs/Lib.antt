@@ -7,4 +7,5 @@ mod OpenedBlocks
 pub mod PaddedCounts
 mod PartWords
 pub mod PasswordParts
+mod ReadStatuses
 mod RelationsByLength
