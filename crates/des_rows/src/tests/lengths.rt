@@ -1,9 +1,7 @@
 //! Sizes, and keys and lists of lengths that do not fit.
 
 use crate::tests::known::Known;
-use des::cipher::{
-    AlgorithmName, BlockCipher, KeyBytes, KeyInit, NotEqualError, ParBlocksSizeUser,
-};
+use des::cipher::{AlgorithmName, BlockCipher, KeyBytes, KeyInit, ParBlocksSizeUser};
 
 // Whether a type has its sizes and its name.
 pub fn has_constants<C: KeyInit + ParBlocksSizeUser + AlgorithmName>(known: &Known) -> bool {
@@ -38,8 +36,8 @@ const FILLED: [u8; 8] = [0xa5; 8];
 
 // Whether lists of two lengths are refused in each direction, and the output is unchanged.
 fn are_refused<C: BlockCipher>(cipher: &C, input: &[[u8; 8]], output: &mut [[u8; 8]]) -> bool {
-    if cipher.encrypt_blocks_b2b(input, output) != Err(NotEqualError)
-        || cipher.decrypt_blocks_b2b(input, output) != Err(NotEqualError)
+    if cipher.encrypt_blocks_b2b(input, output).is_ok()
+        || cipher.decrypt_blocks_b2b(input, output).is_ok()
     {
         return false;
     }

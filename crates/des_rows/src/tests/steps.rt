@@ -37,41 +37,44 @@ fn permutations_move_single_bits(rt: HostRuntime) {
 // By hand: bit 64 goes one place up, and to the front.
 #[test]
 fn delta_swap_moves_the_last_bit(rt: HostRuntime) {
-    assert_eq!(rt; delta_swap(1, 1, 1), 2);
-    assert_eq!(rt; delta_swap(1, 63, 1), 0x8000000000000000);
+    assert!(rt; delta_swap(1, 1, 1) == 2 && delta_swap(1, 63, 1) == 0x8000000000000000);
 }
 
 // Column 12 of the first row of S1.
 #[test]
 fn box_has_its_entry(rt: HostRuntime) {
-    assert_eq!(rt; SBOXES[0][24], 5);
+    assert!(rt; SBOXES[0][24] == 5);
 }
 
 // The first and the last round key of the worked example.
 #[test]
 fn key_has_its_round_keys(rt: HostRuntime) {
     let keys = gen_keys(0x133457799bbcdff1);
-    assert_eq!(rt; keys[0], 0x1b02effc70720000);
-    assert_eq!(rt; keys[15], 0xcb3d8b0e17f50000);
     let cipher = Des::new(&0x133457799bbcdff1u64.to_be_bytes());
-    assert_eq!(rt; *cipher.round_keys(), keys);
+    assert!(rt;
+        keys[0] == 0x1b02effc70720000
+            && keys[15] == 0xcb3d8b0e17f50000
+            && *cipher.round_keys() == keys
+    );
 }
 
 // Permuted choice 2 where copies of bits fall on one place, and where a bit is dropped, by hand
 // from the table of FIPS 46-3.
 #[test]
 fn pc2_where_copies_meet(rt: HostRuntime) {
-    assert_eq!(rt; pc2(0xffffffffffffff00), 0xffffffffffff0000);
-    assert_eq!(rt; pc2(0x0000001000000200), 0x0100000400000000);
-    assert_eq!(rt; pc2(0x0000001000000000), 0x0100000000000000);
-    assert_eq!(rt; pc2(0x0000000102000000), 0x0000000002010000);
-    assert_eq!(rt; pc2(0x0080000000000000), 0);
+    assert!(rt;
+        pc2(0xffffffffffffff00) == 0xffffffffffff0000
+            && pc2(0x0000001000000200) == 0x0100000400000000
+            && pc2(0x0000001000000000) == 0x0100000000000000
+            && pc2(0x0000000102000000) == 0x0000000002010000
+            && pc2(0x0080000000000000) == 0x0000000000000000
+    );
 }
 
 // By hand from the table of FIPS 46-3, where bit 1 is the ninth.
 #[test]
 fn p_moves_the_first_bit(rt: HostRuntime) {
-    assert_eq!(rt; p(0x8000000000000000), 0x0080000000000000);
+    assert!(rt; p(0x8000000000000000) == 0x0080000000000000);
 }
 
 // Whether a cipher takes the block of the worked example to its ciphertext, and back.

@@ -134,16 +134,24 @@ fn lists_sixty_four_of_the_repeating_keys(rt: HostRuntime) {
     }
 }
 
+// Whether a key has the same round keys with any parity bit flipped.
+fn has_no_use_for_parity(key: &[u8; 8]) -> bool {
+    let cipher = Des::new(key);
+    for byte in 0..8usize {
+        let mut flipped = *key;
+        flipped[byte] ^= 1;
+        if Des::new(&flipped).round_keys() != cipher.round_keys() {
+            return false;
+        }
+    }
+    true
+}
+
 // A listed key with a parity bit flipped is the same key, as the round keys show.
 #[test]
 fn listed_keys_with_a_parity_bit_flipped_have_the_same_round_keys(rt: HostRuntime) {
-    for key in des::WEAK_KEYS {
-        let cipher = Des::new(&key);
-        for byte in 0..8usize {
-            let mut flipped = key;
-            flipped[byte] ^= 1;
-            assert!(rt; Des::new(&flipped).round_keys() == cipher.round_keys());
-        }
+    for key in &des::WEAK_KEYS {
+        assert!(rt; has_no_use_for_parity(key));
     }
 }
 
