@@ -245,8 +245,8 @@ fn meant(rt: &HostRuntime, message: &str, command_line: &[&str]) -> Result<Strin
     if name != "" {
         return format!(in rt.alloc(); "  did you mean --{name}?\n");
     }
-    // A file without the option that takes one.
-    if word != "" && !word.starts_with("-") && takes(command_line, "in") {
+    // A path without the option that takes one.
+    if (word.contains('.') || word.contains('/')) && takes(command_line, "in") {
         return format!(in rt.alloc(); "  did you mean --in FILE?\n");
     }
     let similar = similar_in(message);

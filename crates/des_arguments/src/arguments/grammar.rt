@@ -189,9 +189,13 @@ fn argument_name(row: &CommandRow<'static>, word: &str) -> &'static str {
     ""
 }
 
-/// Whether the command that a command line names has an argument of this name.
+/// Whether the command that a command line names has an argument of this name; if it names none,
+/// whether any has.
 pub fn takes(command_line: &[&str], name: &str) -> bool {
     let (first, second) = names_of(command_line);
+    if first == "" {
+        return known_name(name) != "";
+    }
     let (of_group, of_command) = if second == "" {
         ("", first)
     } else {
