@@ -1,7 +1,8 @@
 //! Notices: lines in the form of faults that a stream writes to standard error and goes on.
 
-ghost use Rattle.std.specs.Prelude.{◌≡◌, ◌<◌, OnOk, IsTrue, ◌↔◌, ◌^◌, length};
+ghost use Rattle.std.specs.Prelude.{◌≡◌, ◌<◌, ℕ, List, OnOk, IsTrue, ◌↔◌, ◌^◌, length};
 ghost use Rattle.des_lines.specs.Keys.{IsKeySize};
+ghost use Rattle.des_lines.specs.Faults.{line_with};
 ghost use Rattle.des_commands.specs.Notices.{notice_line, ruling_of as ruling_by, blocks_of as blocks_by, IsAccepted};
 ghost use Rattle.des_lines.specs.Written.{AppendsPrefix};
 ghost use Rattle.std.specs.Io.KnownBytes.{Appends};
@@ -33,6 +34,36 @@ pub enum Notice {
 // The blocks that NIST SP 800-67 Rev. 2, 3.4, allows under one key of three parts.
 const BLOCKS_UNDER_ONE_KEY: u64 = 1048576;
 
+// The name of a notice, and the words of its line.
+fn words_of(notice: Notice) -> (&'static str, &'static str)
+    ensures { (about : List ℕ)
+        → notice_line notice about ≡ line_with result.0.now about result.1.now }
+{
+    match notice {
+        Notice::Hexadecimal => (
+            "Hexadecimal",
+            "the input is hexadecimal digits, and was taken as text: --hex reads it as bytes",
+        ),
+        Notice::Base64 => (
+            "Base64",
+            "the input is a text in Base64, and was taken as bytes: --base64 decodes it",
+        ),
+        Notice::WeakKey => ("WeakKey", "the key is weak, and is used"),
+        Notice::DoubleLength => (
+            "DoubleLength",
+            "the first and third parts of the key are one: this is des-ede with the first two",
+        ),
+        Notice::Limit => (
+            "Limit",
+            "more than 2^20 blocks (8 MiB, of CFB-8 1 MiB) are encrypted under one key (NIST SP 800-67)",
+        ),
+        Notice::Permissions => (
+            "Permissions",
+            "the new file is yours alone: others had rights to the old one",
+        ),
+    }
+}
+
 /// Writes the line of a notice. `about` is the file or option that it is about, or is empty.
 pub fn tell<E: Write>(notice: Notice, about: &str, err: &mut E) -> Result<(), StreamError>
     ensures part { AppendsPrefix (E.contents err.old) (E.contents err.new)
@@ -40,39 +71,8 @@ pub fn tell<E: Write>(notice: Notice, about: &str, err: &mut E) -> Result<(), St
     ensures whole { OnOk result (Appends (E.contents err.old) (E.contents err.new)
         (notice_line notice about.now)) }
 {
-    match notice {
-        Notice::Hexadecimal => write_line(
-            "Hexadecimal",
-            about,
-            "the input is hexadecimal digits, and was taken as text: --hex reads it as bytes",
-            err,
-        ),
-        Notice::Base64 => write_line(
-            "Base64",
-            about,
-            "the input is a text in Base64, and was taken as bytes: --base64 decodes it",
-            err,
-        ),
-        Notice::WeakKey => write_line("WeakKey", about, "the key is weak, and is used", err),
-        Notice::DoubleLength => write_line(
-            "DoubleLength",
-            about,
-            "the first and third parts of the key are one: this is des-ede with the first two",
-            err,
-        ),
-        Notice::Limit => write_line(
-            "Limit",
-            about,
-            "more than 2^20 blocks (8 MiB, of CFB-8 1 MiB) are encrypted under one key (NIST SP 800-67)",
-            err,
-        ),
-        Notice::Permissions => write_line(
-            "Permissions",
-            about,
-            "the new file is yours alone: others had rights to the old one",
-            err,
-        ),
-    }
+    let (name, words) = words_of(notice);
+    write_line(name, about, words, err)
 }
 
 /// What follows from a key's verdict: the fault `WeakKey`, a notice, or nothing. `Refuse` refuses a
