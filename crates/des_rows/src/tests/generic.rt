@@ -16,13 +16,9 @@ fn list_goes_there_and_back<C: BlockCipher>(cipher: &C, count: usize, ciphertext
     requires { count ≤ 3 }
 {
     let (mut there, mut back) = ([[0xa5; 8]; 3], [[0xa5; 8]; 3]);
-    there_and_back(
-        cipher,
-        &PLAINTEXT[..count],
-        &mut there[..count],
-        &mut back[..count],
-    );
-    there[..count] == ciphertext[..count] && back[..count] == PLAINTEXT[..count]
+    let (blocks, there, back) = (&PLAINTEXT[..count], &mut there[..count], &mut back[..count]);
+    there_and_back(cipher, blocks, there, back);
+    &*there == &ciphertext[..count] && &*back == blocks
 }
 
 // Whether they do by CBC, in place, and the blocks after them are unchanged.
@@ -30,10 +26,10 @@ fn cbc_goes_there_and_back<C: BlockCipher>(cipher: &C, count: usize, ciphertext:
     requires { count ≤ 3 }
 {
     let mut blocks = PLAINTEXT;
-    encrypt_cbc(cipher, &IV, &mut blocks[..count]);
-    let is_encrypted = blocks[..count] == ciphertext[..count]
-        && blocks[count..] == PLAINTEXT[count..];
-    decrypt_cbc(cipher, &IV, &mut blocks[..count]);
+    let (first, rest) = blocks.split_at_mut(count);
+    encrypt_cbc(cipher, &IV, first);
+    let is_encrypted = &*first == &ciphertext[..count] && &*rest == &PLAINTEXT[count..];
+    decrypt_cbc(cipher, &IV, first);
     is_encrypted && blocks == PLAINTEXT
 }
 

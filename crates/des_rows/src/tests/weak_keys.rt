@@ -52,7 +52,7 @@ const ROUND_KEYS: [(u64, u8); 6] = [
 #[test]
 fn counts_round_keys(rt: HostRuntime) {
     for (key, count) in ROUND_KEYS {
-        assert_eq!(rt; round_keys_of(&key.to_be_bytes()), count);
+        assert!(rt; round_keys_of(&key.to_be_bytes()) == count);
     }
 }
 
@@ -82,10 +82,7 @@ fn listed_with(count: u8) -> usize {
 
 #[test]
 fn lists_keys_by_their_round_keys(rt: HostRuntime) {
-    assert_eq!(rt;
-        [listed_with(1), listed_with(2), listed_with(4)],
-        [4, 12, 48]
-    );
+    assert!(rt; listed_with(1) == 4 && listed_with(2) == 12 && listed_with(4) == 48);
 }
 
 // The key of odd parity whose halves C and D repeat these four bits each, by permuted choice 1: the
