@@ -85,7 +85,7 @@ fn cms_refuses() -> bool {
     let mut changed = CMS_WRAPPED;
     changed[4][7] ^= 1;
     let mut key = CMS_CEK;
-    cms_key_wrap::unwrap(&TdesEde3::new(&CMS_KEK), &changed, &mut key) == Err(UnwrapError)
+    cms_key_wrap::unwrap(&TdesEde3::new(&CMS_KEK), &changed, &mut key).is_err()
         && key == [[0; 8]; 3]
 }
 

@@ -50,17 +50,17 @@ fn gives_known<C: BlockCipher>(cipher: &C, known: &Known) -> bool {
 }
 
 fn three_parts_give_known() -> bool {
-    let cipher = des_fast::TdesEee3::new(&THREE);
-    gives_known_by_many(&cipher, &EEE3)
-        && spread_keys_give_known(&cipher.spread_keys::<u64x2>(), &EEE3)
-        && gives_known(&no_tables::TdesEee3::new(&THREE), &EEE3)
+    let (cipher, known) = (des_fast::TdesEee3::new(&THREE), &EEE3);
+    gives_known_by_many(&cipher, known)
+        && spread_keys_give_known(&cipher.spread_keys::<u64x2>(), known)
+        && gives_known(&no_tables::TdesEee3::new(&THREE), known)
 }
 
 fn two_parts_give_known() -> bool {
-    let cipher = des_fast::TdesEee2::new(&TWO);
-    gives_known_by_many(&cipher, &EEE2)
-        && spread_keys_give_known(&cipher.spread_keys::<u64x4>(), &EEE2)
-        && gives_known(&no_tables::TdesEee2::new(&TWO), &EEE2)
+    let (cipher, known) = (des_fast::TdesEee2::new(&TWO), &EEE2);
+    gives_known_by_many(&cipher, known)
+        && spread_keys_give_known(&cipher.spread_keys::<u64x4>(), known)
+        && gives_known(&no_tables::TdesEee2::new(&TWO), known)
 }
 
 #[test]
