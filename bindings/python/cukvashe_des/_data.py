@@ -30,18 +30,25 @@ def in_order(view: memoryview) -> memoryview:
     return view
 
 
+def _no_text(data: _Data) -> _Data:
+    """What is no text, for which Python's own error would name a memoryview that nobody wrote."""
+    if isinstance(data, str):
+        raise TypeError("bytes are needed and not a text: encode makes them of a text, and bytes.fromhex of hexadecimal digits")
+    return data
+
+
 def bytes_of(data: ReadableBuffer) -> bytes:
     """The bytes of an object that has some. They are taken once, and what is given is not asked again, since another thread
     may change it meanwhile, and a class of the caller's may say another length."""
     if type(data) is bytes:
         return data
-    with memoryview(data) as view:
+    with memoryview(_no_text(data)) as view:
         return in_order(view).tobytes()
 
 
 def copy_of(data: ReadableBuffer) -> bytearray:
     """A copy of the bytes, taken once, which can be wiped."""
-    with memoryview(data) as view:
+    with memoryview(_no_text(data)) as view:
         return bytearray(in_order(view))
 
 
@@ -189,7 +196,7 @@ def lent(data: ReadableBuffer) -> Iterator[Tuple[Any, int]]:
     """Where the bytes of an object begin, and how many there are. Where they do not lie in one piece they are copied, and
     the copy is wiped after the call. Until the call ends nobody can change their number; if the bytes themselves change
     meanwhile, the answer is to some of both."""
-    with memoryview(data) as view:
+    with memoryview(_no_text(data)) as view:
         if view.c_contiguous:
             buffer = _Buffer()
             _take_buffer(view, ctypes.byref(buffer), 0)

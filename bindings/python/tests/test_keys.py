@@ -35,6 +35,18 @@ class Hexadecimal(unittest.TestCase):
                         call(data, *others)
                     self.assertIn(type(caught.exception), (cukvashe_des.KeyLengthError, cukvashe_des.ProtectionKeyLengthError))
 
+
+    def test_other_bytes_are_no_texts(self):
+        """A password, data, a vector and a salt that are texts, which most who pass them mean encoded or as digits."""
+        cipher = TdesEde3(KEY)
+        for call in (
+            lambda: cukvashe_des.pbkdf2("sha1", "password", b"salt", 1, 24),
+            lambda: cukvashe_des.pbkdf2("sha1", b"password", "salt", 1, 24),
+            lambda: cipher.encrypt_ecb("8 bytes."),
+            lambda: cipher.encrypt_cbc(b"8 bytes.", iv="1234567890abcdef"),
+        ):
+            self.assertRaisesRegex(TypeError, "^bytes are needed and not a text: encode makes them of a text", call)
+
     def test_texts_of_keys(self):
         for call in (cukvashe_des.encrypt_each, cukvashe_des.decrypt_each):
             self.assertRaisesRegex(TypeError, "bytes.fromhex", call, TdesEde2, PAIR.hex(), bytes(8))

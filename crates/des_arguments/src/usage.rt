@@ -143,8 +143,8 @@ const OTHER_NAMES: &[(&str, &[&str])] = &[
     ("-i", &["--in"]),
     ("-o", &["--out"]),
     ("--output", &["--out"]),
-    ("-d", &["decrypt in place of encrypt"]),
-    ("-e", &["encrypt in place of decrypt"]),
+    ("-d", &["decrypt"]),
+    ("-e", &["encrypt"]),
     ("-a", BASE64_NAMES),
     ("-A", BASE64_NAMES),
     ("-S", &["a salt in the input, behind Salted__"]),
@@ -185,17 +185,19 @@ const DERIVATION_NAMES: &[&str] = &["--derive"];
 
 const PADDING_NAMES: &[&str] = &["--padding none"];
 
-// What serves in the place of a word that others take; nothing of another word.
+// What serves in the place of a word that others take, and is not the command itself; nothing of another
+// word.
 fn other_name(command_line: &[&str], word: &str) -> &'static str {
     let found = OTHER_NAMES.iter().find(|name| name.0 == word);
     let names = found.map_or(&[][..], |name| name.1);
+    let (command, _) = names_of(command_line);
     let serves = names.iter().find(|name| match name.strip_prefix("--") {
         Some(option) if word.starts_with("-") => {
             let (option, _) = option.split_once(' ').unwrap_or((option, ""));
             let (option, _) = option.split_once(',').unwrap_or((option, ""));
             takes(command_line, option)
         }
-        _ => true,
+        _ => **name != command,
     });
     serves.map_or("", |name| *name)
 }
