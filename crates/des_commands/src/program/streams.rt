@@ -120,7 +120,13 @@ fn run_to_output<R: Read>(
 fn is_of_content(outcome: &Result<(), FaultKind>) -> bool {
     matches!(
         outcome,
-        Ok(()) | Err(FaultKind::Length | FaultKind::Padding | FaultKind::Start)
+        Ok(())
+            | Err(
+                FaultKind::Length
+                    | FaultKind::Padding
+                    | FaultKind::Start
+                    | FaultKind::File(FileFault::NotSalted)
+            )
     )
 }
 
