@@ -185,21 +185,38 @@ const DERIVATION_NAMES: &[&str] = &["--derive"];
 
 const PADDING_NAMES: &[&str] = &["--padding none"];
 
-// What serves in the place of a word that others take, and is not the command itself; nothing of another
-// word.
-fn other_name(command_line: &[&str], word: &str) -> &'static str {
-    let found = OTHER_NAMES.iter().find(|name| name.0 == word);
-    let names = found.map_or(&[][..], |name| name.1);
-    let (command, _) = names_of(command_line);
-    let serves = names.iter().find(|name| match name.strip_prefix("--") {
+// Whether a name serves in the place of a word: an option only if the command has it, and no command in
+// its own place.
+fn serves(command_line: &[&str], word: &str, name: &str) -> bool {
+    match name.strip_prefix("--") {
         Some(option) if word.starts_with("-") => {
             let (option, _) = option.split_once(' ').unwrap_or((option, ""));
             let (option, _) = option.split_once(',').unwrap_or((option, ""));
             takes(command_line, option)
         }
-        _ => **name != command,
-    });
-    serves.map_or("", |name| *name)
+        _ => {
+            let (command, _) = names_of(command_line);
+            name != command
+        }
+    }
+}
+
+// The first of some names that serves in the place of a word, if one does.
+fn first_serving(names: &[&'static str], command_line: &[&str], word: &str) -> &'static str {
+    for name in names {
+        if serves(command_line, word, name) {
+            return name;
+        }
+    }
+    ""
+}
+
+// What serves in the place of a word that others take; nothing of another word.
+fn other_name(command_line: &[&str], word: &str) -> &'static str {
+    let Some(found) = OTHER_NAMES.iter().find(|name| name.0 == word) else {
+        return "";
+    };
+    first_serving(found.1, command_line, word)
 }
 
 // The option with two dashes of a word with one, if the command has it.

@@ -189,6 +189,15 @@ fn argument_name(row: &CommandRow<'static>, word: &str) -> &'static str {
     ""
 }
 
+// Whether a command of a group has an argument of this name.
+fn has_argument(group: &CommandGroup<'static>, command: &str, name: &str) -> bool {
+    let row = group.commands.iter().find(|row| row.name == command);
+    match row {
+        Some(row) => argument_name(row, name) != "",
+        None => false,
+    }
+}
+
 /// Whether the command that a command line names has an argument of this name; if it names none,
 /// whether any has.
 pub fn takes(command_line: &[&str], name: &str) -> bool {
@@ -196,17 +205,14 @@ pub fn takes(command_line: &[&str], name: &str) -> bool {
     if first == "" {
         return known_name(name) != "";
     }
-    let (of_group, of_command) = if second == "" {
+    let (of_group, command) = if second == "" {
         ("", first)
     } else {
         (first, second)
     };
     for group in groups() {
-        for row in group.commands {
-            let is_named = group.name == of_group && row.name == of_command;
-            if is_named && argument_name(row, name) != "" {
-                return true;
-            }
+        if group.name == of_group && has_argument(group, command, name) {
+            return true;
         }
     }
     false
