@@ -682,8 +682,8 @@ CUKVASHE_CHECK int cukvashe_cmac_tdes_ede3_final(const cukvashe_cmac_tdes_ede3 *
  *
  * is_tag is true, and verify CUKVASHE_OK, which is 0, for the tag of the message and for its first 4 to 7 bytes; for
  * all else is_tag is false, and verify CUKVASHE_ERR_TAG. Every byte is compared. Give the `tag_length` that both sides
- * agreed on, not the one that was sent: a forger sends 4 bytes, of which one guess in 2^32 is right. (In Python, Rust
- * and JavaScript verify takes whole tags alone, and another call cut ones.) Errors: CUKVASHE_ERR_CONTEXT, _TAG.
+ * agreed on, not the one that was sent: a forger sends 4 bytes, of which one guess in 2^32 is right. (In Python, Rust,
+ * Go and JavaScript verify takes whole tags alone, and another call cut ones.) Errors: CUKVASHE_ERR_CONTEXT, _TAG.
  */
 CUKVASHE_CHECK int cukvashe_cbc_mac_des_verify(const cukvashe_cbc_mac_des *context, const uint8_t *tag,
                                                size_t tag_length);

@@ -37006,10 +37006,10 @@
 	.size	"des_context::block_modes::decrypt_cbc_by::<#d5374fbf7d81a556>", .Lfunc_end63-"des_context::block_modes::decrypt_cbc_by::<#d5374fbf7d81a556>"
 	.cfi_endproc
 
-	.section	".text.des_context::records::decrypt_records::<#eacaad2d800cfa0d>","ax",@progbits
+	.section	".text.des_context::records::decrypt_records_by::<#eacaad2d800cfa0d>","ax",@progbits
 	.p2align	2
-	.type	"des_context::records::decrypt_records::<#eacaad2d800cfa0d>",@function
-"des_context::records::decrypt_records::<#eacaad2d800cfa0d>":
+	.type	"des_context::records::decrypt_records_by::<#eacaad2d800cfa0d>",@function
+"des_context::records::decrypt_records_by::<#eacaad2d800cfa0d>":
 	.cfi_startproc
 	hint	#25
 	.cfi_negate_ra_state
@@ -37097,7 +37097,7 @@
 	.cfi_negate_ra_state
 	ret
 .Lfunc_end64:
-	.size	"des_context::records::decrypt_records::<#eacaad2d800cfa0d>", .Lfunc_end64-"des_context::records::decrypt_records::<#eacaad2d800cfa0d>"
+	.size	"des_context::records::decrypt_records_by::<#eacaad2d800cfa0d>", .Lfunc_end64-"des_context::records::decrypt_records_by::<#eacaad2d800cfa0d>"
 	.cfi_endproc
 
 	.section	".text.des_fast::many::spread::DesSpreadOnce::spread_keys::<#2eb1a170ccba6c38>","ax",@progbits
@@ -37845,10 +37845,10 @@
 	.size	"des_fast::many::spread::SpreadKeys::decrypt_cbc_records::<#2eb1a170ccba6c38>", .Lfunc_end66-"des_fast::many::spread::SpreadKeys::decrypt_cbc_records::<#2eb1a170ccba6c38>"
 	.cfi_endproc
 
-	.section	".text.des_context::records::decrypt_records::<#0b607b391fb70037>","ax",@progbits
+	.section	".text.des_context::records::decrypt_records_by::<#0b607b391fb70037>","ax",@progbits
 	.p2align	2
-	.type	"des_context::records::decrypt_records::<#0b607b391fb70037>",@function
-"des_context::records::decrypt_records::<#0b607b391fb70037>":
+	.type	"des_context::records::decrypt_records_by::<#0b607b391fb70037>",@function
+"des_context::records::decrypt_records_by::<#0b607b391fb70037>":
 	.cfi_startproc
 	hint	#25
 	.cfi_negate_ra_state
@@ -37967,13 +37967,13 @@
 	.cfi_negate_ra_state
 	ret
 .Lfunc_end67:
-	.size	"des_context::records::decrypt_records::<#0b607b391fb70037>", .Lfunc_end67-"des_context::records::decrypt_records::<#0b607b391fb70037>"
+	.size	"des_context::records::decrypt_records_by::<#0b607b391fb70037>", .Lfunc_end67-"des_context::records::decrypt_records_by::<#0b607b391fb70037>"
 	.cfi_endproc
 
-	.section	".text.des_context::records::decrypt_records::<#eabbe0cbbd3b319f>","ax",@progbits
+	.section	".text.des_context::records::decrypt_records_by::<#eabbe0cbbd3b319f>","ax",@progbits
 	.p2align	2
-	.type	"des_context::records::decrypt_records::<#eabbe0cbbd3b319f>",@function
-"des_context::records::decrypt_records::<#eabbe0cbbd3b319f>":
+	.type	"des_context::records::decrypt_records_by::<#eabbe0cbbd3b319f>",@function
+"des_context::records::decrypt_records_by::<#eabbe0cbbd3b319f>":
 	.cfi_startproc
 	hint	#25
 	.cfi_negate_ra_state
@@ -38091,7 +38091,7 @@
 	.cfi_negate_ra_state
 	ret
 .Lfunc_end68:
-	.size	"des_context::records::decrypt_records::<#eabbe0cbbd3b319f>", .Lfunc_end68-"des_context::records::decrypt_records::<#eabbe0cbbd3b319f>"
+	.size	"des_context::records::decrypt_records_by::<#eabbe0cbbd3b319f>", .Lfunc_end68-"des_context::records::decrypt_records_by::<#eabbe0cbbd3b319f>"
 	.cfi_endproc
 
 	.section	".text.des_context::each_key::decrypt_by::<#566ff94287509721>","ax",@progbits
@@ -51396,10 +51396,10 @@
 	.size	"des_context::block_modes::encrypt_cbc_by::<#d3c2069877afbd25>", .Lfunc_end113-"des_context::block_modes::encrypt_cbc_by::<#d3c2069877afbd25>"
 	.cfi_endproc
 
-	.section	".text.des_context::records::encrypt_records::<#eacaad2d800cfa0d>","ax",@progbits
+	.section	".text.des_context::records::encrypt_records_by::<#eacaad2d800cfa0d>","ax",@progbits
 	.p2align	2
-	.type	"des_context::records::encrypt_records::<#eacaad2d800cfa0d>",@function
-"des_context::records::encrypt_records::<#eacaad2d800cfa0d>":
+	.type	"des_context::records::encrypt_records_by::<#eacaad2d800cfa0d>",@function
+"des_context::records::encrypt_records_by::<#eacaad2d800cfa0d>":
 	.cfi_startproc
 	hint	#25
 	.cfi_negate_ra_state
@@ -51487,7 +51487,7 @@
 	.cfi_negate_ra_state
 	ret
 .Lfunc_end114:
-	.size	"des_context::records::encrypt_records::<#eacaad2d800cfa0d>", .Lfunc_end114-"des_context::records::encrypt_records::<#eacaad2d800cfa0d>"
+	.size	"des_context::records::encrypt_records_by::<#eacaad2d800cfa0d>", .Lfunc_end114-"des_context::records::encrypt_records_by::<#eacaad2d800cfa0d>"
 	.cfi_endproc
 
 	.section	.rodata.cst16,"aM",@progbits,16
@@ -51783,10 +51783,10 @@
 	.size	"des_fast::many::spread::SpreadKeys::encrypt_cbc_records::<#2eb1a170ccba6c38>", .Lfunc_end115-"des_fast::many::spread::SpreadKeys::encrypt_cbc_records::<#2eb1a170ccba6c38>"
 	.cfi_endproc
 
-	.section	".text.des_context::records::encrypt_records::<#0b607b391fb70037>","ax",@progbits
+	.section	".text.des_context::records::encrypt_records_by::<#0b607b391fb70037>","ax",@progbits
 	.p2align	2
-	.type	"des_context::records::encrypt_records::<#0b607b391fb70037>",@function
-"des_context::records::encrypt_records::<#0b607b391fb70037>":
+	.type	"des_context::records::encrypt_records_by::<#0b607b391fb70037>",@function
+"des_context::records::encrypt_records_by::<#0b607b391fb70037>":
 	.cfi_startproc
 	hint	#25
 	.cfi_negate_ra_state
@@ -51905,13 +51905,13 @@
 	.cfi_negate_ra_state
 	ret
 .Lfunc_end116:
-	.size	"des_context::records::encrypt_records::<#0b607b391fb70037>", .Lfunc_end116-"des_context::records::encrypt_records::<#0b607b391fb70037>"
+	.size	"des_context::records::encrypt_records_by::<#0b607b391fb70037>", .Lfunc_end116-"des_context::records::encrypt_records_by::<#0b607b391fb70037>"
 	.cfi_endproc
 
-	.section	".text.des_context::records::encrypt_records::<#eabbe0cbbd3b319f>","ax",@progbits
+	.section	".text.des_context::records::encrypt_records_by::<#eabbe0cbbd3b319f>","ax",@progbits
 	.p2align	2
-	.type	"des_context::records::encrypt_records::<#eabbe0cbbd3b319f>",@function
-"des_context::records::encrypt_records::<#eabbe0cbbd3b319f>":
+	.type	"des_context::records::encrypt_records_by::<#eabbe0cbbd3b319f>",@function
+"des_context::records::encrypt_records_by::<#eabbe0cbbd3b319f>":
 	.cfi_startproc
 	hint	#25
 	.cfi_negate_ra_state
@@ -52029,7 +52029,7 @@
 	.cfi_negate_ra_state
 	ret
 .Lfunc_end117:
-	.size	"des_context::records::encrypt_records::<#eabbe0cbbd3b319f>", .Lfunc_end117-"des_context::records::encrypt_records::<#eabbe0cbbd3b319f>"
+	.size	"des_context::records::encrypt_records_by::<#eabbe0cbbd3b319f>", .Lfunc_end117-"des_context::records::encrypt_records_by::<#eabbe0cbbd3b319f>"
 	.cfi_endproc
 
 	.section	".text.des_context::each_key::encrypt_by::<#566ff94287509721>","ax",@progbits
@@ -80855,7 +80855,7 @@ cukvashe_internal_decrypt_cbc_records:
 	mov	x4, x5
 	add	x5, x6, x10
 	mov	x6, x7
-	b	"des_context::records::decrypt_records::<#0b607b391fb70037>"
+	b	"des_context::records::decrypt_records_by::<#0b607b391fb70037>"
 .LBB228_8:
 	mov	w0, #2
 	ret
@@ -80866,7 +80866,7 @@ cukvashe_internal_decrypt_cbc_records:
 	mov	x4, x5
 	add	x5, x6, x10
 	mov	x6, x7
-	b	"des_context::records::decrypt_records::<#eabbe0cbbd3b319f>"
+	b	"des_context::records::decrypt_records_by::<#eabbe0cbbd3b319f>"
 .LBB228_10:
 	mov	x9, x3
 	mov	x8, x5
@@ -80876,7 +80876,7 @@ cukvashe_internal_decrypt_cbc_records:
 	mov	x2, x9
 	mov	x4, x8
 	mov	x6, x7
-	b	"des_context::records::decrypt_records::<#eacaad2d800cfa0d>"
+	b	"des_context::records::decrypt_records_by::<#eacaad2d800cfa0d>"
 .Lfunc_end228:
 	.size	cukvashe_internal_decrypt_cbc_records, .Lfunc_end228-cukvashe_internal_decrypt_cbc_records
 	.cfi_endproc
@@ -82001,7 +82001,7 @@ cukvashe_internal_encrypt_cbc_records:
 	mov	x4, x5
 	add	x5, x6, x10
 	mov	x6, x7
-	b	"des_context::records::encrypt_records::<#0b607b391fb70037>"
+	b	"des_context::records::encrypt_records_by::<#0b607b391fb70037>"
 .LBB238_8:
 	mov	w0, #2
 	ret
@@ -82012,7 +82012,7 @@ cukvashe_internal_encrypt_cbc_records:
 	mov	x4, x5
 	add	x5, x6, x10
 	mov	x6, x7
-	b	"des_context::records::encrypt_records::<#eabbe0cbbd3b319f>"
+	b	"des_context::records::encrypt_records_by::<#eabbe0cbbd3b319f>"
 .LBB238_10:
 	mov	x9, x3
 	mov	x8, x5
@@ -82022,7 +82022,7 @@ cukvashe_internal_encrypt_cbc_records:
 	mov	x2, x9
 	mov	x4, x8
 	mov	x6, x7
-	b	"des_context::records::encrypt_records::<#eacaad2d800cfa0d>"
+	b	"des_context::records::encrypt_records_by::<#eacaad2d800cfa0d>"
 .Lfunc_end238:
 	.size	cukvashe_internal_encrypt_cbc_records, .Lfunc_end238-cukvashe_internal_encrypt_cbc_records
 	.cfi_endproc

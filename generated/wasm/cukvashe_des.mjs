@@ -21,7 +21,7 @@ export const BLOCK_SIZE = 8;
 export const TAG_SIZE = 8;
 
 // The SHA-256 of the modules that this file was built with: the one of a 64-bit memory, and the same of a 32-bit memory.
-const MODULE_SUM = "db65ced5fa5b4711fa2eab14f3e442c427ef119a121ee45acd6a374e4da81bad";
+const MODULE_SUM = "ea3ecf749a601af4a78a0b2155d924aaf334ab7a400838c461311650a751ef02";
 const NARROW_SUM = "5601514c45bf42e1e7c177af55eb5549e32a7916c6076ccbf539f755ae3daacb";
 
 // The bytes of the module's stack, which lies at its address 0. `build` links it so.

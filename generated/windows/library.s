@@ -34558,7 +34558,7 @@
 	retq
 	.seh_endproc
 
-	.def	"des_context::records::decrypt_records::<#eacaad2d800cfa0d>";
+	.def	"des_context::records::decrypt_records_by::<#eacaad2d800cfa0d>";
 	.scl	3;
 	.type	32;
 	.endef
@@ -34568,8 +34568,8 @@
 	.zero	16,63
 	.text
 	.p2align	4
-"des_context::records::decrypt_records::<#eacaad2d800cfa0d>":
-.seh_proc "des_context::records::decrypt_records::<#eacaad2d800cfa0d>"
+"des_context::records::decrypt_records_by::<#eacaad2d800cfa0d>":
+.seh_proc "des_context::records::decrypt_records_by::<#eacaad2d800cfa0d>"
 	pushq	%r15
 	.seh_pushreg %r15
 	pushq	%r14
@@ -35577,13 +35577,13 @@
 	retq
 	.seh_endproc
 
-	.def	"des_context::records::decrypt_records::<#0b607b391fb70037>";
+	.def	"des_context::records::decrypt_records_by::<#0b607b391fb70037>";
 	.scl	3;
 	.type	32;
 	.endef
 	.p2align	4
-"des_context::records::decrypt_records::<#0b607b391fb70037>":
-.seh_proc "des_context::records::decrypt_records::<#0b607b391fb70037>"
+"des_context::records::decrypt_records_by::<#0b607b391fb70037>":
+.seh_proc "des_context::records::decrypt_records_by::<#0b607b391fb70037>"
 	pushq	%r15
 	.seh_pushreg %r15
 	pushq	%r14
@@ -35683,13 +35683,13 @@
 	retq
 	.seh_endproc
 
-	.def	"des_context::records::decrypt_records::<#eabbe0cbbd3b319f>";
+	.def	"des_context::records::decrypt_records_by::<#eabbe0cbbd3b319f>";
 	.scl	3;
 	.type	32;
 	.endef
 	.p2align	4
-"des_context::records::decrypt_records::<#eabbe0cbbd3b319f>":
-.seh_proc "des_context::records::decrypt_records::<#eabbe0cbbd3b319f>"
+"des_context::records::decrypt_records_by::<#eabbe0cbbd3b319f>":
+.seh_proc "des_context::records::decrypt_records_by::<#eabbe0cbbd3b319f>"
 	pushq	%r15
 	.seh_pushreg %r15
 	pushq	%r14
@@ -49647,7 +49647,7 @@
 	retq
 	.seh_endproc
 
-	.def	"des_context::records::encrypt_records::<#eacaad2d800cfa0d>";
+	.def	"des_context::records::encrypt_records_by::<#eacaad2d800cfa0d>";
 	.scl	3;
 	.type	32;
 	.endef
@@ -49657,8 +49657,8 @@
 	.zero	16,63
 	.text
 	.p2align	4
-"des_context::records::encrypt_records::<#eacaad2d800cfa0d>":
-.seh_proc "des_context::records::encrypt_records::<#eacaad2d800cfa0d>"
+"des_context::records::encrypt_records_by::<#eacaad2d800cfa0d>":
+.seh_proc "des_context::records::encrypt_records_by::<#eacaad2d800cfa0d>"
 	pushq	%r15
 	.seh_pushreg %r15
 	pushq	%r14
@@ -49989,13 +49989,13 @@
 	retq
 	.seh_endproc
 
-	.def	"des_context::records::encrypt_records::<#0b607b391fb70037>";
+	.def	"des_context::records::encrypt_records_by::<#0b607b391fb70037>";
 	.scl	3;
 	.type	32;
 	.endef
 	.p2align	4
-"des_context::records::encrypt_records::<#0b607b391fb70037>":
-.seh_proc "des_context::records::encrypt_records::<#0b607b391fb70037>"
+"des_context::records::encrypt_records_by::<#0b607b391fb70037>":
+.seh_proc "des_context::records::encrypt_records_by::<#0b607b391fb70037>"
 	pushq	%r15
 	.seh_pushreg %r15
 	pushq	%r14
@@ -50095,13 +50095,13 @@
 	retq
 	.seh_endproc
 
-	.def	"des_context::records::encrypt_records::<#eabbe0cbbd3b319f>";
+	.def	"des_context::records::encrypt_records_by::<#eabbe0cbbd3b319f>";
 	.scl	3;
 	.type	32;
 	.endef
 	.p2align	4
-"des_context::records::encrypt_records::<#eabbe0cbbd3b319f>":
-.seh_proc "des_context::records::encrypt_records::<#eabbe0cbbd3b319f>"
+"des_context::records::encrypt_records_by::<#eabbe0cbbd3b319f>":
+.seh_proc "des_context::records::encrypt_records_by::<#eabbe0cbbd3b319f>"
 	pushq	%r15
 	.seh_pushreg %r15
 	pushq	%r14
@@ -81344,7 +81344,7 @@ cukvashe_internal_decrypt_cbc_records:
 	movq	%r8, %rdx
 	movq	%r9, %r8
 	movq	%r10, %r9
-	callq	"des_context::records::decrypt_records::<#0b607b391fb70037>"
+	callq	"des_context::records::decrypt_records_by::<#0b607b391fb70037>"
 	jmp	.LBB228_9
 .LBB228_8:
 	movq	%rsi, 48(%rsp)
@@ -81353,7 +81353,7 @@ cukvashe_internal_decrypt_cbc_records:
 	movq	%r8, %rdx
 	movq	64(%rsp), %r8
 	movq	%r10, %r9
-	callq	"des_context::records::decrypt_records::<#eabbe0cbbd3b319f>"
+	callq	"des_context::records::decrypt_records_by::<#eabbe0cbbd3b319f>"
 	jmp	.LBB228_9
 .LBB228_6:
 	movq	%rsi, 48(%rsp)
@@ -81362,7 +81362,7 @@ cukvashe_internal_decrypt_cbc_records:
 	movq	%r8, %rdx
 	movq	%r9, %r8
 	movq	%r10, %r9
-	callq	"des_context::records::decrypt_records::<#eacaad2d800cfa0d>"
+	callq	"des_context::records::decrypt_records_by::<#eacaad2d800cfa0d>"
 	nop
 .LBB228_9:
 	addq	$72, %rsp
@@ -82583,7 +82583,7 @@ cukvashe_internal_encrypt_cbc_records:
 	movq	%r8, %rdx
 	movq	%r9, %r8
 	movq	%r10, %r9
-	callq	"des_context::records::encrypt_records::<#0b607b391fb70037>"
+	callq	"des_context::records::encrypt_records_by::<#0b607b391fb70037>"
 	jmp	.LBB238_9
 .LBB238_8:
 	movq	%rsi, 48(%rsp)
@@ -82592,7 +82592,7 @@ cukvashe_internal_encrypt_cbc_records:
 	movq	%r8, %rdx
 	movq	64(%rsp), %r8
 	movq	%r10, %r9
-	callq	"des_context::records::encrypt_records::<#eabbe0cbbd3b319f>"
+	callq	"des_context::records::encrypt_records_by::<#eabbe0cbbd3b319f>"
 	jmp	.LBB238_9
 .LBB238_6:
 	movq	%rsi, 48(%rsp)
@@ -82601,7 +82601,7 @@ cukvashe_internal_encrypt_cbc_records:
 	movq	%r8, %rdx
 	movq	%r9, %r8
 	movq	%r10, %r9
-	callq	"des_context::records::encrypt_records::<#eacaad2d800cfa0d>"
+	callq	"des_context::records::encrypt_records_by::<#eacaad2d800cfa0d>"
 	nop
 .LBB238_9:
 	addq	$72, %rsp

@@ -19585,7 +19585,7 @@
 	retq
 	.seh_endproc
 
-	.def	"des_context::records::decrypt_records::<#b13999160604cd3b>";
+	.def	"des_context::records::decrypt_records_by::<#b13999160604cd3b>";
 	.scl	3;
 	.type	32;
 	.endef
@@ -19595,8 +19595,8 @@
 	.quad	4557430888798830399
 	.text
 	.p2align	4
-"des_context::records::decrypt_records::<#b13999160604cd3b>":
-.seh_proc "des_context::records::decrypt_records::<#b13999160604cd3b>"
+"des_context::records::decrypt_records_by::<#b13999160604cd3b>":
+.seh_proc "des_context::records::decrypt_records_by::<#b13999160604cd3b>"
 	pushq	%rbp
 	.seh_pushreg %rbp
 	pushq	%r15
@@ -20630,13 +20630,13 @@
 	retq
 	.seh_endproc
 
-	.def	"des_context::records::decrypt_records::<#6fe7d704af6593bd>";
+	.def	"des_context::records::decrypt_records_by::<#6fe7d704af6593bd>";
 	.scl	3;
 	.type	32;
 	.endef
 	.p2align	4
-"des_context::records::decrypt_records::<#6fe7d704af6593bd>":
-.seh_proc "des_context::records::decrypt_records::<#6fe7d704af6593bd>"
+"des_context::records::decrypt_records_by::<#6fe7d704af6593bd>":
+.seh_proc "des_context::records::decrypt_records_by::<#6fe7d704af6593bd>"
 	pushq	%rbp
 	.seh_pushreg %rbp
 	pushq	%r15
@@ -20738,13 +20738,13 @@
 	retq
 	.seh_endproc
 
-	.def	"des_context::records::decrypt_records::<#b97e06c7f31d1c5d>";
+	.def	"des_context::records::decrypt_records_by::<#b97e06c7f31d1c5d>";
 	.scl	3;
 	.type	32;
 	.endef
 	.p2align	4
-"des_context::records::decrypt_records::<#b97e06c7f31d1c5d>":
-.seh_proc "des_context::records::decrypt_records::<#b97e06c7f31d1c5d>"
+"des_context::records::decrypt_records_by::<#b97e06c7f31d1c5d>":
+.seh_proc "des_context::records::decrypt_records_by::<#b97e06c7f31d1c5d>"
 	pushq	%rbp
 	.seh_pushreg %rbp
 	pushq	%r15
@@ -34912,7 +34912,7 @@
 	retq
 	.seh_endproc
 
-	.def	"des_context::records::encrypt_records::<#b13999160604cd3b>";
+	.def	"des_context::records::encrypt_records_by::<#b13999160604cd3b>";
 	.scl	3;
 	.type	32;
 	.endef
@@ -34922,8 +34922,8 @@
 	.quad	4557430888798830399
 	.text
 	.p2align	4
-"des_context::records::encrypt_records::<#b13999160604cd3b>":
-.seh_proc "des_context::records::encrypt_records::<#b13999160604cd3b>"
+"des_context::records::encrypt_records_by::<#b13999160604cd3b>":
+.seh_proc "des_context::records::encrypt_records_by::<#b13999160604cd3b>"
 	pushq	%rbp
 	.seh_pushreg %rbp
 	pushq	%r15
@@ -35400,13 +35400,13 @@
 	retq
 	.seh_endproc
 
-	.def	"des_context::records::encrypt_records::<#6fe7d704af6593bd>";
+	.def	"des_context::records::encrypt_records_by::<#6fe7d704af6593bd>";
 	.scl	3;
 	.type	32;
 	.endef
 	.p2align	4
-"des_context::records::encrypt_records::<#6fe7d704af6593bd>":
-.seh_proc "des_context::records::encrypt_records::<#6fe7d704af6593bd>"
+"des_context::records::encrypt_records_by::<#6fe7d704af6593bd>":
+.seh_proc "des_context::records::encrypt_records_by::<#6fe7d704af6593bd>"
 	pushq	%rbp
 	.seh_pushreg %rbp
 	pushq	%r15
@@ -35508,13 +35508,13 @@
 	retq
 	.seh_endproc
 
-	.def	"des_context::records::encrypt_records::<#b97e06c7f31d1c5d>";
+	.def	"des_context::records::encrypt_records_by::<#b97e06c7f31d1c5d>";
 	.scl	3;
 	.type	32;
 	.endef
 	.p2align	4
-"des_context::records::encrypt_records::<#b97e06c7f31d1c5d>":
-.seh_proc "des_context::records::encrypt_records::<#b97e06c7f31d1c5d>"
+"des_context::records::encrypt_records_by::<#b97e06c7f31d1c5d>":
+.seh_proc "des_context::records::encrypt_records_by::<#b97e06c7f31d1c5d>"
 	pushq	%rbp
 	.seh_pushreg %rbp
 	pushq	%r15
@@ -49535,7 +49535,7 @@ cukvashe_wide_decrypt_cbc_records:
 	movq	%r8, %rdx
 	movq	%r9, %r8
 	movq	%r10, %r9
-	callq	"des_context::records::decrypt_records::<#6fe7d704af6593bd>"
+	callq	"des_context::records::decrypt_records_by::<#6fe7d704af6593bd>"
 	jmp	.LBB114_9
 .LBB114_8:
 	movq	%rsi, 48(%rsp)
@@ -49544,7 +49544,7 @@ cukvashe_wide_decrypt_cbc_records:
 	movq	%r8, %rdx
 	movq	64(%rsp), %r8
 	movq	%r10, %r9
-	callq	"des_context::records::decrypt_records::<#b97e06c7f31d1c5d>"
+	callq	"des_context::records::decrypt_records_by::<#b97e06c7f31d1c5d>"
 	jmp	.LBB114_9
 .LBB114_6:
 	movq	%rsi, 48(%rsp)
@@ -49553,7 +49553,7 @@ cukvashe_wide_decrypt_cbc_records:
 	movq	%r8, %rdx
 	movq	%r9, %r8
 	movq	%r10, %r9
-	callq	"des_context::records::decrypt_records::<#b13999160604cd3b>"
+	callq	"des_context::records::decrypt_records_by::<#b13999160604cd3b>"
 	nop
 .LBB114_9:
 	addq	$72, %rsp
@@ -50740,7 +50740,7 @@ cukvashe_wide_encrypt_cbc_records:
 	movq	%r8, %rdx
 	movq	%r9, %r8
 	movq	%r10, %r9
-	callq	"des_context::records::encrypt_records::<#6fe7d704af6593bd>"
+	callq	"des_context::records::encrypt_records_by::<#6fe7d704af6593bd>"
 	jmp	.LBB122_9
 .LBB122_8:
 	movq	%rsi, 48(%rsp)
@@ -50749,7 +50749,7 @@ cukvashe_wide_encrypt_cbc_records:
 	movq	%r8, %rdx
 	movq	64(%rsp), %r8
 	movq	%r10, %r9
-	callq	"des_context::records::encrypt_records::<#b97e06c7f31d1c5d>"
+	callq	"des_context::records::encrypt_records_by::<#b97e06c7f31d1c5d>"
 	jmp	.LBB122_9
 .LBB122_6:
 	movq	%rsi, 48(%rsp)
@@ -50758,7 +50758,7 @@ cukvashe_wide_encrypt_cbc_records:
 	movq	%r8, %rdx
 	movq	%r9, %r8
 	movq	%r10, %r9
-	callq	"des_context::records::encrypt_records::<#b13999160604cd3b>"
+	callq	"des_context::records::encrypt_records_by::<#b13999160604cd3b>"
 	nop
 .LBB122_9:
 	addq	$72, %rsp

@@ -34507,10 +34507,10 @@
 	.p2align	4, 0x0
 .LCPI64_0:
 	.zero	16,63
-	.section	".text.des_context::records::decrypt_records::<#eacaad2d800cfa0d>","ax",@progbits
+	.section	".text.des_context::records::decrypt_records_by::<#eacaad2d800cfa0d>","ax",@progbits
 	.p2align	4
-	.type	"des_context::records::decrypt_records::<#eacaad2d800cfa0d>",@function
-"des_context::records::decrypt_records::<#eacaad2d800cfa0d>":
+	.type	"des_context::records::decrypt_records_by::<#eacaad2d800cfa0d>",@function
+"des_context::records::decrypt_records_by::<#eacaad2d800cfa0d>":
 	.cfi_startproc
 	pushq	%rbp
 	.cfi_def_cfa_offset 16
@@ -34604,7 +34604,7 @@
 	.cfi_def_cfa_offset 8
 	retq
 .Lfunc_end64:
-	.size	"des_context::records::decrypt_records::<#eacaad2d800cfa0d>", .Lfunc_end64-"des_context::records::decrypt_records::<#eacaad2d800cfa0d>"
+	.size	"des_context::records::decrypt_records_by::<#eacaad2d800cfa0d>", .Lfunc_end64-"des_context::records::decrypt_records_by::<#eacaad2d800cfa0d>"
 	.cfi_endproc
 
 	.section	".text.des_fast::many::spread::DesSpreadOnce::spread_keys::<#2eb1a170ccba6c38>","ax",@progbits
@@ -35521,10 +35521,10 @@
 	.size	"des_fast::many::spread::SpreadKeys::decrypt_cbc_records::<#2eb1a170ccba6c38>", .Lfunc_end66-"des_fast::many::spread::SpreadKeys::decrypt_cbc_records::<#2eb1a170ccba6c38>"
 	.cfi_endproc
 
-	.section	".text.des_context::records::decrypt_records::<#0b607b391fb70037>","ax",@progbits
+	.section	".text.des_context::records::decrypt_records_by::<#0b607b391fb70037>","ax",@progbits
 	.p2align	4
-	.type	"des_context::records::decrypt_records::<#0b607b391fb70037>",@function
-"des_context::records::decrypt_records::<#0b607b391fb70037>":
+	.type	"des_context::records::decrypt_records_by::<#0b607b391fb70037>",@function
+"des_context::records::decrypt_records_by::<#0b607b391fb70037>":
 	.cfi_startproc
 	pushq	%rbp
 	.cfi_def_cfa_offset 16
@@ -35635,13 +35635,13 @@
 	.cfi_def_cfa_offset 8
 	retq
 .Lfunc_end67:
-	.size	"des_context::records::decrypt_records::<#0b607b391fb70037>", .Lfunc_end67-"des_context::records::decrypt_records::<#0b607b391fb70037>"
+	.size	"des_context::records::decrypt_records_by::<#0b607b391fb70037>", .Lfunc_end67-"des_context::records::decrypt_records_by::<#0b607b391fb70037>"
 	.cfi_endproc
 
-	.section	".text.des_context::records::decrypt_records::<#eabbe0cbbd3b319f>","ax",@progbits
+	.section	".text.des_context::records::decrypt_records_by::<#eabbe0cbbd3b319f>","ax",@progbits
 	.p2align	4
-	.type	"des_context::records::decrypt_records::<#eabbe0cbbd3b319f>",@function
-"des_context::records::decrypt_records::<#eabbe0cbbd3b319f>":
+	.type	"des_context::records::decrypt_records_by::<#eabbe0cbbd3b319f>",@function
+"des_context::records::decrypt_records_by::<#eabbe0cbbd3b319f>":
 	.cfi_startproc
 	pushq	%rbp
 	.cfi_def_cfa_offset 16
@@ -35754,7 +35754,7 @@
 	.cfi_def_cfa_offset 8
 	retq
 .Lfunc_end68:
-	.size	"des_context::records::decrypt_records::<#eabbe0cbbd3b319f>", .Lfunc_end68-"des_context::records::decrypt_records::<#eabbe0cbbd3b319f>"
+	.size	"des_context::records::decrypt_records_by::<#eabbe0cbbd3b319f>", .Lfunc_end68-"des_context::records::decrypt_records_by::<#eabbe0cbbd3b319f>"
 	.cfi_endproc
 
 	.section	".text.des_context::each_key::decrypt_by::<#566ff94287509721>","ax",@progbits
@@ -49903,10 +49903,10 @@
 	.p2align	4, 0x0
 .LCPI114_0:
 	.zero	16,63
-	.section	".text.des_context::records::encrypt_records::<#eacaad2d800cfa0d>","ax",@progbits
+	.section	".text.des_context::records::encrypt_records_by::<#eacaad2d800cfa0d>","ax",@progbits
 	.p2align	4
-	.type	"des_context::records::encrypt_records::<#eacaad2d800cfa0d>",@function
-"des_context::records::encrypt_records::<#eacaad2d800cfa0d>":
+	.type	"des_context::records::encrypt_records_by::<#eacaad2d800cfa0d>",@function
+"des_context::records::encrypt_records_by::<#eacaad2d800cfa0d>":
 	.cfi_startproc
 	pushq	%rbp
 	.cfi_def_cfa_offset 16
@@ -50000,7 +50000,7 @@
 	.cfi_def_cfa_offset 8
 	retq
 .Lfunc_end114:
-	.size	"des_context::records::encrypt_records::<#eacaad2d800cfa0d>", .Lfunc_end114-"des_context::records::encrypt_records::<#eacaad2d800cfa0d>"
+	.size	"des_context::records::encrypt_records_by::<#eacaad2d800cfa0d>", .Lfunc_end114-"des_context::records::encrypt_records_by::<#eacaad2d800cfa0d>"
 	.cfi_endproc
 
 	.section	.rodata.cst16,"aM",@progbits,16
@@ -50261,10 +50261,10 @@
 	.size	"des_fast::many::spread::SpreadKeys::encrypt_cbc_records::<#2eb1a170ccba6c38>", .Lfunc_end115-"des_fast::many::spread::SpreadKeys::encrypt_cbc_records::<#2eb1a170ccba6c38>"
 	.cfi_endproc
 
-	.section	".text.des_context::records::encrypt_records::<#0b607b391fb70037>","ax",@progbits
+	.section	".text.des_context::records::encrypt_records_by::<#0b607b391fb70037>","ax",@progbits
 	.p2align	4
-	.type	"des_context::records::encrypt_records::<#0b607b391fb70037>",@function
-"des_context::records::encrypt_records::<#0b607b391fb70037>":
+	.type	"des_context::records::encrypt_records_by::<#0b607b391fb70037>",@function
+"des_context::records::encrypt_records_by::<#0b607b391fb70037>":
 	.cfi_startproc
 	pushq	%rbp
 	.cfi_def_cfa_offset 16
@@ -50375,13 +50375,13 @@
 	.cfi_def_cfa_offset 8
 	retq
 .Lfunc_end116:
-	.size	"des_context::records::encrypt_records::<#0b607b391fb70037>", .Lfunc_end116-"des_context::records::encrypt_records::<#0b607b391fb70037>"
+	.size	"des_context::records::encrypt_records_by::<#0b607b391fb70037>", .Lfunc_end116-"des_context::records::encrypt_records_by::<#0b607b391fb70037>"
 	.cfi_endproc
 
-	.section	".text.des_context::records::encrypt_records::<#eabbe0cbbd3b319f>","ax",@progbits
+	.section	".text.des_context::records::encrypt_records_by::<#eabbe0cbbd3b319f>","ax",@progbits
 	.p2align	4
-	.type	"des_context::records::encrypt_records::<#eabbe0cbbd3b319f>",@function
-"des_context::records::encrypt_records::<#eabbe0cbbd3b319f>":
+	.type	"des_context::records::encrypt_records_by::<#eabbe0cbbd3b319f>",@function
+"des_context::records::encrypt_records_by::<#eabbe0cbbd3b319f>":
 	.cfi_startproc
 	pushq	%rbp
 	.cfi_def_cfa_offset 16
@@ -50494,7 +50494,7 @@
 	.cfi_def_cfa_offset 8
 	retq
 .Lfunc_end117:
-	.size	"des_context::records::encrypt_records::<#eabbe0cbbd3b319f>", .Lfunc_end117-"des_context::records::encrypt_records::<#eabbe0cbbd3b319f>"
+	.size	"des_context::records::encrypt_records_by::<#eabbe0cbbd3b319f>", .Lfunc_end117-"des_context::records::encrypt_records_by::<#eabbe0cbbd3b319f>"
 	.cfi_endproc
 
 	.section	".text.des_context::each_key::encrypt_by::<#566ff94287509721>","ax",@progbits
@@ -82255,7 +82255,7 @@ cukvashe_internal_decrypt_cbc_records:
 	movq	%r8, %rcx
 	movq	%rax, %r8
 	movq	%r10, %r9
-	callq	"des_context::records::decrypt_records::<#0b607b391fb70037>"
+	callq	"des_context::records::decrypt_records_by::<#0b607b391fb70037>"
 	jmp	.LBB228_9
 .LBB228_8:
 	movq	%r11, (%rsp)
@@ -82264,7 +82264,7 @@ cukvashe_internal_decrypt_cbc_records:
 	movq	%r8, %rcx
 	movq	32(%rsp), %r8
 	movq	%r10, %r9
-	callq	"des_context::records::decrypt_records::<#eabbe0cbbd3b319f>"
+	callq	"des_context::records::decrypt_records_by::<#eabbe0cbbd3b319f>"
 	jmp	.LBB228_9
 .LBB228_6:
 	movq	%r11, (%rsp)
@@ -82273,7 +82273,7 @@ cukvashe_internal_decrypt_cbc_records:
 	movq	%r8, %rcx
 	movq	%rax, %r8
 	movq	%r10, %r9
-	callq	"des_context::records::decrypt_records::<#eacaad2d800cfa0d>"
+	callq	"des_context::records::decrypt_records_by::<#eacaad2d800cfa0d>"
 .LBB228_9:
 	addq	$40, %rsp
 	.cfi_def_cfa_offset 56
@@ -83558,7 +83558,7 @@ cukvashe_internal_encrypt_cbc_records:
 	movq	%r8, %rcx
 	movq	%rax, %r8
 	movq	%r10, %r9
-	callq	"des_context::records::encrypt_records::<#0b607b391fb70037>"
+	callq	"des_context::records::encrypt_records_by::<#0b607b391fb70037>"
 	jmp	.LBB238_9
 .LBB238_8:
 	movq	%r11, (%rsp)
@@ -83567,7 +83567,7 @@ cukvashe_internal_encrypt_cbc_records:
 	movq	%r8, %rcx
 	movq	32(%rsp), %r8
 	movq	%r10, %r9
-	callq	"des_context::records::encrypt_records::<#eabbe0cbbd3b319f>"
+	callq	"des_context::records::encrypt_records_by::<#eabbe0cbbd3b319f>"
 	jmp	.LBB238_9
 .LBB238_6:
 	movq	%r11, (%rsp)
@@ -83576,7 +83576,7 @@ cukvashe_internal_encrypt_cbc_records:
 	movq	%r8, %rcx
 	movq	%rax, %r8
 	movq	%r10, %r9
-	callq	"des_context::records::encrypt_records::<#eacaad2d800cfa0d>"
+	callq	"des_context::records::encrypt_records_by::<#eacaad2d800cfa0d>"
 .LBB238_9:
 	addq	$40, %rsp
 	.cfi_def_cfa_offset 56

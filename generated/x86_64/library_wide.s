@@ -19496,10 +19496,10 @@
 	.p2align	3, 0x0
 .LCPI37_0:
 	.quad	4557430888798830399
-	.section	".text.des_context::records::decrypt_records::<#b13999160604cd3b>","ax",@progbits
+	.section	".text.des_context::records::decrypt_records_by::<#b13999160604cd3b>","ax",@progbits
 	.p2align	4
-	.type	"des_context::records::decrypt_records::<#b13999160604cd3b>",@function
-"des_context::records::decrypt_records::<#b13999160604cd3b>":
+	.type	"des_context::records::decrypt_records_by::<#b13999160604cd3b>",@function
+"des_context::records::decrypt_records_by::<#b13999160604cd3b>":
 	.cfi_startproc
 	pushq	%rbp
 	.cfi_def_cfa_offset 16
@@ -19574,7 +19574,7 @@
 	.cfi_def_cfa %rsp, 8
 	retq
 .Lfunc_end37:
-	.size	"des_context::records::decrypt_records::<#b13999160604cd3b>", .Lfunc_end37-"des_context::records::decrypt_records::<#b13999160604cd3b>"
+	.size	"des_context::records::decrypt_records_by::<#b13999160604cd3b>", .Lfunc_end37-"des_context::records::decrypt_records_by::<#b13999160604cd3b>"
 	.cfi_endproc
 
 	.section	".text.des_fast::many::spread::DesSpreadOnce::spread_keys::<#336421e3ca4bafb2>","ax",@progbits
@@ -20536,10 +20536,10 @@
 	.size	"des_fast::many::spread::SpreadKeys::decrypt_cbc_records::<#336421e3ca4bafb2>", .Lfunc_end39-"des_fast::many::spread::SpreadKeys::decrypt_cbc_records::<#336421e3ca4bafb2>"
 	.cfi_endproc
 
-	.section	".text.des_context::records::decrypt_records::<#6fe7d704af6593bd>","ax",@progbits
+	.section	".text.des_context::records::decrypt_records_by::<#6fe7d704af6593bd>","ax",@progbits
 	.p2align	4
-	.type	"des_context::records::decrypt_records::<#6fe7d704af6593bd>",@function
-"des_context::records::decrypt_records::<#6fe7d704af6593bd>":
+	.type	"des_context::records::decrypt_records_by::<#6fe7d704af6593bd>",@function
+"des_context::records::decrypt_records_by::<#6fe7d704af6593bd>":
 	.cfi_startproc
 	pushq	%rbp
 	.cfi_def_cfa_offset 16
@@ -20645,13 +20645,13 @@
 	.cfi_def_cfa %rsp, 8
 	retq
 .Lfunc_end40:
-	.size	"des_context::records::decrypt_records::<#6fe7d704af6593bd>", .Lfunc_end40-"des_context::records::decrypt_records::<#6fe7d704af6593bd>"
+	.size	"des_context::records::decrypt_records_by::<#6fe7d704af6593bd>", .Lfunc_end40-"des_context::records::decrypt_records_by::<#6fe7d704af6593bd>"
 	.cfi_endproc
 
-	.section	".text.des_context::records::decrypt_records::<#b97e06c7f31d1c5d>","ax",@progbits
+	.section	".text.des_context::records::decrypt_records_by::<#b97e06c7f31d1c5d>","ax",@progbits
 	.p2align	4
-	.type	"des_context::records::decrypt_records::<#b97e06c7f31d1c5d>",@function
-"des_context::records::decrypt_records::<#b97e06c7f31d1c5d>":
+	.type	"des_context::records::decrypt_records_by::<#b97e06c7f31d1c5d>",@function
+"des_context::records::decrypt_records_by::<#b97e06c7f31d1c5d>":
 	.cfi_startproc
 	pushq	%rbp
 	.cfi_def_cfa_offset 16
@@ -20761,7 +20761,7 @@
 	.cfi_def_cfa %rsp, 8
 	retq
 .Lfunc_end41:
-	.size	"des_context::records::decrypt_records::<#b97e06c7f31d1c5d>", .Lfunc_end41-"des_context::records::decrypt_records::<#b97e06c7f31d1c5d>"
+	.size	"des_context::records::decrypt_records_by::<#b97e06c7f31d1c5d>", .Lfunc_end41-"des_context::records::decrypt_records_by::<#b97e06c7f31d1c5d>"
 	.cfi_endproc
 
 	.section	".text.des_context::each_key::decrypt_by::<#dc222c21e565de0f>","ax",@progbits
@@ -34994,10 +34994,10 @@
 	.p2align	3, 0x0
 .LCPI74_0:
 	.quad	4557430888798830399
-	.section	".text.des_context::records::encrypt_records::<#b13999160604cd3b>","ax",@progbits
+	.section	".text.des_context::records::encrypt_records_by::<#b13999160604cd3b>","ax",@progbits
 	.p2align	4
-	.type	"des_context::records::encrypt_records::<#b13999160604cd3b>",@function
-"des_context::records::encrypt_records::<#b13999160604cd3b>":
+	.type	"des_context::records::encrypt_records_by::<#b13999160604cd3b>",@function
+"des_context::records::encrypt_records_by::<#b13999160604cd3b>":
 	.cfi_startproc
 	pushq	%rbp
 	.cfi_def_cfa_offset 16
@@ -35072,7 +35072,7 @@
 	.cfi_def_cfa %rsp, 8
 	retq
 .Lfunc_end74:
-	.size	"des_context::records::encrypt_records::<#b13999160604cd3b>", .Lfunc_end74-"des_context::records::encrypt_records::<#b13999160604cd3b>"
+	.size	"des_context::records::encrypt_records_by::<#b13999160604cd3b>", .Lfunc_end74-"des_context::records::encrypt_records_by::<#b13999160604cd3b>"
 	.cfi_endproc
 
 	.section	.rodata.cst8,"aM",@progbits,8
@@ -35471,10 +35471,10 @@
 	.size	"des_fast::many::spread::SpreadKeys::encrypt_cbc_records::<#336421e3ca4bafb2>", .Lfunc_end75-"des_fast::many::spread::SpreadKeys::encrypt_cbc_records::<#336421e3ca4bafb2>"
 	.cfi_endproc
 
-	.section	".text.des_context::records::encrypt_records::<#6fe7d704af6593bd>","ax",@progbits
+	.section	".text.des_context::records::encrypt_records_by::<#6fe7d704af6593bd>","ax",@progbits
 	.p2align	4
-	.type	"des_context::records::encrypt_records::<#6fe7d704af6593bd>",@function
-"des_context::records::encrypt_records::<#6fe7d704af6593bd>":
+	.type	"des_context::records::encrypt_records_by::<#6fe7d704af6593bd>",@function
+"des_context::records::encrypt_records_by::<#6fe7d704af6593bd>":
 	.cfi_startproc
 	pushq	%rbp
 	.cfi_def_cfa_offset 16
@@ -35580,13 +35580,13 @@
 	.cfi_def_cfa %rsp, 8
 	retq
 .Lfunc_end76:
-	.size	"des_context::records::encrypt_records::<#6fe7d704af6593bd>", .Lfunc_end76-"des_context::records::encrypt_records::<#6fe7d704af6593bd>"
+	.size	"des_context::records::encrypt_records_by::<#6fe7d704af6593bd>", .Lfunc_end76-"des_context::records::encrypt_records_by::<#6fe7d704af6593bd>"
 	.cfi_endproc
 
-	.section	".text.des_context::records::encrypt_records::<#b97e06c7f31d1c5d>","ax",@progbits
+	.section	".text.des_context::records::encrypt_records_by::<#b97e06c7f31d1c5d>","ax",@progbits
 	.p2align	4
-	.type	"des_context::records::encrypt_records::<#b97e06c7f31d1c5d>",@function
-"des_context::records::encrypt_records::<#b97e06c7f31d1c5d>":
+	.type	"des_context::records::encrypt_records_by::<#b97e06c7f31d1c5d>",@function
+"des_context::records::encrypt_records_by::<#b97e06c7f31d1c5d>":
 	.cfi_startproc
 	pushq	%rbp
 	.cfi_def_cfa_offset 16
@@ -35696,7 +35696,7 @@
 	.cfi_def_cfa %rsp, 8
 	retq
 .Lfunc_end77:
-	.size	"des_context::records::encrypt_records::<#b97e06c7f31d1c5d>", .Lfunc_end77-"des_context::records::encrypt_records::<#b97e06c7f31d1c5d>"
+	.size	"des_context::records::encrypt_records_by::<#b97e06c7f31d1c5d>", .Lfunc_end77-"des_context::records::encrypt_records_by::<#b97e06c7f31d1c5d>"
 	.cfi_endproc
 
 	.section	".text.des_context::each_key::encrypt_by::<#dc222c21e565de0f>","ax",@progbits
@@ -49817,7 +49817,7 @@ cukvashe_wide_decrypt_cbc_records:
 	movq	%r8, %rcx
 	movq	%rax, %r8
 	movq	%r10, %r9
-	callq	"des_context::records::decrypt_records::<#6fe7d704af6593bd>"
+	callq	"des_context::records::decrypt_records_by::<#6fe7d704af6593bd>"
 	jmp	.LBB114_9
 .LBB114_8:
 	movq	%r11, (%rsp)
@@ -49826,7 +49826,7 @@ cukvashe_wide_decrypt_cbc_records:
 	movq	%r8, %rcx
 	movq	32(%rsp), %r8
 	movq	%r10, %r9
-	callq	"des_context::records::decrypt_records::<#b97e06c7f31d1c5d>"
+	callq	"des_context::records::decrypt_records_by::<#b97e06c7f31d1c5d>"
 	jmp	.LBB114_9
 .LBB114_6:
 	movq	%r11, (%rsp)
@@ -49835,7 +49835,7 @@ cukvashe_wide_decrypt_cbc_records:
 	movq	%r8, %rcx
 	movq	%rax, %r8
 	movq	%r10, %r9
-	callq	"des_context::records::decrypt_records::<#b13999160604cd3b>"
+	callq	"des_context::records::decrypt_records_by::<#b13999160604cd3b>"
 .LBB114_9:
 	addq	$40, %rsp
 	.cfi_def_cfa_offset 56
@@ -51088,7 +51088,7 @@ cukvashe_wide_encrypt_cbc_records:
 	movq	%r8, %rcx
 	movq	%rax, %r8
 	movq	%r10, %r9
-	callq	"des_context::records::encrypt_records::<#6fe7d704af6593bd>"
+	callq	"des_context::records::encrypt_records_by::<#6fe7d704af6593bd>"
 	jmp	.LBB122_9
 .LBB122_8:
 	movq	%r11, (%rsp)
@@ -51097,7 +51097,7 @@ cukvashe_wide_encrypt_cbc_records:
 	movq	%r8, %rcx
 	movq	32(%rsp), %r8
 	movq	%r10, %r9
-	callq	"des_context::records::encrypt_records::<#b97e06c7f31d1c5d>"
+	callq	"des_context::records::encrypt_records_by::<#b97e06c7f31d1c5d>"
 	jmp	.LBB122_9
 .LBB122_6:
 	movq	%r11, (%rsp)
@@ -51106,7 +51106,7 @@ cukvashe_wide_encrypt_cbc_records:
 	movq	%r8, %rcx
 	movq	%rax, %r8
 	movq	%r10, %r9
-	callq	"des_context::records::encrypt_records::<#b13999160604cd3b>"
+	callq	"des_context::records::encrypt_records_by::<#b13999160604cd3b>"
 .LBB122_9:
 	addq	$40, %rsp
 	.cfi_def_cfa_offset 56

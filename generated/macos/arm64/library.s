@@ -39010,7 +39010,7 @@ Lloh1219:
 	.cfi_endproc
 
 	.p2align	2
-"_des_context::records::decrypt_records::<#eacaad2d800cfa0d>":
+"_des_context::records::decrypt_records_by::<#eacaad2d800cfa0d>":
 	.cfi_startproc
 	stp	x28, x27, [sp, #-80]!
 	.cfi_def_cfa_offset 80
@@ -39911,7 +39911,7 @@ LBB66_15:
 	.cfi_endproc
 
 	.p2align	2
-"_des_context::records::decrypt_records::<#0b607b391fb70037>":
+"_des_context::records::decrypt_records_by::<#0b607b391fb70037>":
 	.cfi_startproc
 	stp	x28, x27, [sp, #-96]!
 	.cfi_def_cfa_offset 96
@@ -40030,7 +40030,7 @@ LBB66_15:
 	.cfi_endproc
 
 	.p2align	2
-"_des_context::records::decrypt_records::<#eabbe0cbbd3b319f>":
+"_des_context::records::decrypt_records_by::<#eabbe0cbbd3b319f>":
 	.cfi_startproc
 	stp	x28, x27, [sp, #-96]!
 	.cfi_def_cfa_offset 96
@@ -53194,7 +53194,7 @@ LBB113_3:
 	.cfi_endproc
 
 	.p2align	2
-"_des_context::records::encrypt_records::<#eacaad2d800cfa0d>":
+"_des_context::records::encrypt_records_by::<#eacaad2d800cfa0d>":
 	.cfi_startproc
 	stp	x28, x27, [sp, #-80]!
 	.cfi_def_cfa_offset 80
@@ -53598,7 +53598,7 @@ LBB115_29:
 	.cfi_endproc
 
 	.p2align	2
-"_des_context::records::encrypt_records::<#0b607b391fb70037>":
+"_des_context::records::encrypt_records_by::<#0b607b391fb70037>":
 	.cfi_startproc
 	stp	x28, x27, [sp, #-96]!
 	.cfi_def_cfa_offset 96
@@ -53717,7 +53717,7 @@ LBB115_29:
 	.cfi_endproc
 
 	.p2align	2
-"_des_context::records::encrypt_records::<#eabbe0cbbd3b319f>":
+"_des_context::records::encrypt_records_by::<#eabbe0cbbd3b319f>":
 	.cfi_startproc
 	stp	x28, x27, [sp, #-96]!
 	.cfi_def_cfa_offset 96
@@ -82926,7 +82926,7 @@ LBB228_4:
 	mov	x4, x5
 	add	x5, x6, x10
 	mov	x6, x7
-	b	"_des_context::records::decrypt_records::<#0b607b391fb70037>"
+	b	"_des_context::records::decrypt_records_by::<#0b607b391fb70037>"
 LBB228_8:
 	mov	w0, #2
 	ret
@@ -82937,7 +82937,7 @@ LBB228_9:
 	mov	x4, x5
 	add	x5, x6, x10
 	mov	x6, x7
-	b	"_des_context::records::decrypt_records::<#eabbe0cbbd3b319f>"
+	b	"_des_context::records::decrypt_records_by::<#eabbe0cbbd3b319f>"
 LBB228_10:
 	mov	x9, x3
 	mov	x8, x5
@@ -82947,7 +82947,7 @@ LBB228_10:
 	mov	x2, x9
 	mov	x4, x8
 	mov	x6, x7
-	b	"_des_context::records::decrypt_records::<#eacaad2d800cfa0d>"
+	b	"_des_context::records::decrypt_records_by::<#eacaad2d800cfa0d>"
 	.cfi_endproc
 
 	.globl	_cukvashe_internal_decrypt_cbc_to
@@ -83985,7 +83985,7 @@ LBB238_4:
 	mov	x4, x5
 	add	x5, x6, x10
 	mov	x6, x7
-	b	"_des_context::records::encrypt_records::<#0b607b391fb70037>"
+	b	"_des_context::records::encrypt_records_by::<#0b607b391fb70037>"
 LBB238_8:
 	mov	w0, #2
 	ret
@@ -83996,7 +83996,7 @@ LBB238_9:
 	mov	x4, x5
 	add	x5, x6, x10
 	mov	x6, x7
-	b	"_des_context::records::encrypt_records::<#eabbe0cbbd3b319f>"
+	b	"_des_context::records::encrypt_records_by::<#eabbe0cbbd3b319f>"
 LBB238_10:
 	mov	x9, x3
 	mov	x8, x5
@@ -84006,7 +84006,7 @@ LBB238_10:
 	mov	x2, x9
 	mov	x4, x8
 	mov	x6, x7
-	b	"_des_context::records::encrypt_records::<#eacaad2d800cfa0d>"
+	b	"_des_context::records::encrypt_records_by::<#eacaad2d800cfa0d>"
 	.cfi_endproc
 
 	.globl	_cukvashe_internal_encrypt_cbc_to

@@ -33820,7 +33820,7 @@ LCPI64_0:
 	.space	16,63
 	.section	__TEXT,__text,regular,pure_instructions
 	.p2align	4
-"_des_context::records::decrypt_records::<#eacaad2d800cfa0d>":
+"_des_context::records::decrypt_records_by::<#eacaad2d800cfa0d>":
 	.cfi_startproc
 	pushq	%rbp
 	.cfi_def_cfa_offset 16
@@ -34794,7 +34794,7 @@ LBB66_15:
 	.cfi_endproc
 
 	.p2align	4
-"_des_context::records::decrypt_records::<#0b607b391fb70037>":
+"_des_context::records::decrypt_records_by::<#0b607b391fb70037>":
 	.cfi_startproc
 	pushq	%rbp
 	.cfi_def_cfa_offset 16
@@ -34899,7 +34899,7 @@ LBB66_15:
 	.cfi_endproc
 
 	.p2align	4
-"_des_context::records::decrypt_records::<#eabbe0cbbd3b319f>":
+"_des_context::records::decrypt_records_by::<#eabbe0cbbd3b319f>":
 	.cfi_startproc
 	pushq	%rbp
 	.cfi_def_cfa_offset 16
@@ -48671,7 +48671,7 @@ LCPI114_0:
 	.space	16,63
 	.section	__TEXT,__text,regular,pure_instructions
 	.p2align	4
-"_des_context::records::encrypt_records::<#eacaad2d800cfa0d>":
+"_des_context::records::encrypt_records_by::<#eacaad2d800cfa0d>":
 	.cfi_startproc
 	pushq	%rbp
 	.cfi_def_cfa_offset 16
@@ -49007,7 +49007,7 @@ LBB115_27:
 	.cfi_endproc
 
 	.p2align	4
-"_des_context::records::encrypt_records::<#0b607b391fb70037>":
+"_des_context::records::encrypt_records_by::<#0b607b391fb70037>":
 	.cfi_startproc
 	pushq	%rbp
 	.cfi_def_cfa_offset 16
@@ -49112,7 +49112,7 @@ LBB115_27:
 	.cfi_endproc
 
 	.p2align	4
-"_des_context::records::encrypt_records::<#eabbe0cbbd3b319f>":
+"_des_context::records::encrypt_records_by::<#eabbe0cbbd3b319f>":
 	.cfi_startproc
 	pushq	%rbp
 	.cfi_def_cfa_offset 16
@@ -79803,7 +79803,7 @@ LBB228_3:
 	movq	%r8, %rcx
 	movq	%rax, %r8
 	movq	%r10, %r9
-	callq	"_des_context::records::decrypt_records::<#0b607b391fb70037>"
+	callq	"_des_context::records::decrypt_records_by::<#0b607b391fb70037>"
 	jmp	LBB228_9
 LBB228_8:
 	movq	%r11, (%rsp)
@@ -79812,7 +79812,7 @@ LBB228_8:
 	movq	%r8, %rcx
 	movq	32(%rsp), %r8
 	movq	%r10, %r9
-	callq	"_des_context::records::decrypt_records::<#eabbe0cbbd3b319f>"
+	callq	"_des_context::records::decrypt_records_by::<#eabbe0cbbd3b319f>"
 	jmp	LBB228_9
 LBB228_6:
 	movq	%r11, (%rsp)
@@ -79821,7 +79821,7 @@ LBB228_6:
 	movq	%r8, %rcx
 	movq	%rax, %r8
 	movq	%r10, %r9
-	callq	"_des_context::records::decrypt_records::<#eacaad2d800cfa0d>"
+	callq	"_des_context::records::decrypt_records_by::<#eacaad2d800cfa0d>"
 LBB228_9:
 	addq	$40, %rsp
 	popq	%rbx
@@ -80998,7 +80998,7 @@ LBB238_3:
 	movq	%r8, %rcx
 	movq	%rax, %r8
 	movq	%r10, %r9
-	callq	"_des_context::records::encrypt_records::<#0b607b391fb70037>"
+	callq	"_des_context::records::encrypt_records_by::<#0b607b391fb70037>"
 	jmp	LBB238_9
 LBB238_8:
 	movq	%r11, (%rsp)
@@ -81007,7 +81007,7 @@ LBB238_8:
 	movq	%r8, %rcx
 	movq	32(%rsp), %r8
 	movq	%r10, %r9
-	callq	"_des_context::records::encrypt_records::<#eabbe0cbbd3b319f>"
+	callq	"_des_context::records::encrypt_records_by::<#eabbe0cbbd3b319f>"
 	jmp	LBB238_9
 LBB238_6:
 	movq	%r11, (%rsp)
@@ -81016,7 +81016,7 @@ LBB238_6:
 	movq	%r8, %rcx
 	movq	%rax, %r8
 	movq	%r10, %r9
-	callq	"_des_context::records::encrypt_records::<#eacaad2d800cfa0d>"
+	callq	"_des_context::records::encrypt_records_by::<#eacaad2d800cfa0d>"
 LBB238_9:
 	addq	$40, %rsp
 	popq	%rbx

@@ -19133,7 +19133,7 @@ LCPI37_0:
 	.quad	4557430888798830399
 	.section	__TEXT,__text,regular,pure_instructions
 	.p2align	4
-"_des_context::records::decrypt_records::<#b13999160604cd3b>":
+"_des_context::records::decrypt_records_by::<#b13999160604cd3b>":
 	.cfi_startproc
 	pushq	%rbp
 	.cfi_def_cfa_offset 16
@@ -20139,7 +20139,7 @@ LBB39_15:
 	.cfi_endproc
 
 	.p2align	4
-"_des_context::records::decrypt_records::<#6fe7d704af6593bd>":
+"_des_context::records::decrypt_records_by::<#6fe7d704af6593bd>":
 	.cfi_startproc
 	pushq	%rbp
 	.cfi_def_cfa_offset 16
@@ -20245,7 +20245,7 @@ LBB39_15:
 	.cfi_endproc
 
 	.p2align	4
-"_des_context::records::decrypt_records::<#b97e06c7f31d1c5d>":
+"_des_context::records::decrypt_records_by::<#b97e06c7f31d1c5d>":
 	.cfi_startproc
 	pushq	%rbp
 	.cfi_def_cfa_offset 16
@@ -34274,7 +34274,7 @@ LCPI74_0:
 	.quad	4557430888798830399
 	.section	__TEXT,__text,regular,pure_instructions
 	.p2align	4
-"_des_context::records::encrypt_records::<#b13999160604cd3b>":
+"_des_context::records::encrypt_records_by::<#b13999160604cd3b>":
 	.cfi_startproc
 	pushq	%rbp
 	.cfi_def_cfa_offset 16
@@ -34735,7 +34735,7 @@ LBB75_40:
 	.cfi_endproc
 
 	.p2align	4
-"_des_context::records::encrypt_records::<#6fe7d704af6593bd>":
+"_des_context::records::encrypt_records_by::<#6fe7d704af6593bd>":
 	.cfi_startproc
 	pushq	%rbp
 	.cfi_def_cfa_offset 16
@@ -34841,7 +34841,7 @@ LBB75_40:
 	.cfi_endproc
 
 	.p2align	4
-"_des_context::records::encrypt_records::<#b97e06c7f31d1c5d>":
+"_des_context::records::encrypt_records_by::<#b97e06c7f31d1c5d>":
 	.cfi_startproc
 	pushq	%rbp
 	.cfi_def_cfa_offset 16
@@ -48632,7 +48632,7 @@ LBB114_3:
 	movq	%r8, %rcx
 	movq	%rax, %r8
 	movq	%r10, %r9
-	callq	"_des_context::records::decrypt_records::<#6fe7d704af6593bd>"
+	callq	"_des_context::records::decrypt_records_by::<#6fe7d704af6593bd>"
 	jmp	LBB114_9
 LBB114_8:
 	movq	%r11, (%rsp)
@@ -48641,7 +48641,7 @@ LBB114_8:
 	movq	%r8, %rcx
 	movq	32(%rsp), %r8
 	movq	%r10, %r9
-	callq	"_des_context::records::decrypt_records::<#b97e06c7f31d1c5d>"
+	callq	"_des_context::records::decrypt_records_by::<#b97e06c7f31d1c5d>"
 	jmp	LBB114_9
 LBB114_6:
 	movq	%r11, (%rsp)
@@ -48650,7 +48650,7 @@ LBB114_6:
 	movq	%r8, %rcx
 	movq	%rax, %r8
 	movq	%r10, %r9
-	callq	"_des_context::records::decrypt_records::<#b13999160604cd3b>"
+	callq	"_des_context::records::decrypt_records_by::<#b13999160604cd3b>"
 LBB114_9:
 	addq	$40, %rsp
 	popq	%rbx
@@ -49812,7 +49812,7 @@ LBB122_3:
 	movq	%r8, %rcx
 	movq	%rax, %r8
 	movq	%r10, %r9
-	callq	"_des_context::records::encrypt_records::<#6fe7d704af6593bd>"
+	callq	"_des_context::records::encrypt_records_by::<#6fe7d704af6593bd>"
 	jmp	LBB122_9
 LBB122_8:
 	movq	%r11, (%rsp)
@@ -49821,7 +49821,7 @@ LBB122_8:
 	movq	%r8, %rcx
 	movq	32(%rsp), %r8
 	movq	%r10, %r9
-	callq	"_des_context::records::encrypt_records::<#b97e06c7f31d1c5d>"
+	callq	"_des_context::records::encrypt_records_by::<#b97e06c7f31d1c5d>"
 	jmp	LBB122_9
 LBB122_6:
 	movq	%r11, (%rsp)
@@ -49830,7 +49830,7 @@ LBB122_6:
 	movq	%r8, %rcx
 	movq	%rax, %r8
 	movq	%r10, %r9
-	callq	"_des_context::records::encrypt_records::<#b13999160604cd3b>"
+	callq	"_des_context::records::encrypt_records_by::<#b13999160604cd3b>"
 LBB122_9:
 	addq	$40, %rsp
 	popq	%rbx

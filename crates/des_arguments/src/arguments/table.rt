@@ -188,7 +188,7 @@ static MACS: CommandGroup<'static> = group! {
             "Needed by cbc-mac and retail: the sender's; 1 adds zeros (X9.9, mostly X9.19), 2 a one bit and zeros (EMV)";
         "in": Text("FILE") => "Read the message from a file [default: standard input]";
         "length": Word("BYTES", &["4", "5", "6", "7", "8"]) =>
-            "Print this number of the tag's first bytes [default: 8]; what --verify has must be as long";
+            "Print this number of the tag's first bytes; what --verify has must be as long [default: 8]";
         "verify": Text("TAG") =>
             "Print right where these are the tag's first 4 to 8 bytes, else wrong, and end with 1";
         "hex": Nothing => "The message is hexadecimal digits, of either case, with white space between";
