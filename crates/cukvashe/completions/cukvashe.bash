@@ -27,6 +27,7 @@ _cukvashe() {
         'mac:'*':--padding') words='1 2' ;;
         *':--weak-keys') words='refuse warn accept' ;;
         *':--form') words='pem der' ;;
+        'mac:'*':--length') words='4 5 6 7 8' ;;
         'offset natural:'*':--length') words='4 5 6 7 8 9 10 11 12' ;;
         *':--bytes') words='2 3' ;;
         *':--check-digit') words='warn refuse' ;;

@@ -84,7 +84,7 @@ complete -c cukvashe -n "__cukvashe_option decrypt-lines" -l key-env -x -d 'Take
 complete -c cukvashe -n "__cukvashe_option decrypt-lines" -l password-file -r -F -d 'Read the key string of mysql, the password of jasypt, or the characters of a key of pgcrypto, the first line of a file, or -'
 complete -c cukvashe -n "__cukvashe_option mac" -l padding -x -a '1 2' -d 'Needed by cbc-mac and retail: the sender\'s'
 complete -c cukvashe -n "__cukvashe_option mac" -l in -r -F -d 'Read the message from a file'
-complete -c cukvashe -n "__cukvashe_option mac" -l length -x -d 'Print this number of the tag\'s first bytes'
+complete -c cukvashe -n "__cukvashe_option mac" -l length -x -a '4 5 6 7 8' -d 'Print this number of the tag\'s first bytes'
 complete -c cukvashe -n "__cukvashe_option mac" -l verify -x -d 'Print right where these are the tag\'s first 4 to 8 bytes, else wrong, and end with 1'
 complete -c cukvashe -n "__cukvashe_option mac" -l hex -d 'The message is hexadecimal digits, of either case, with white space between'
 complete -c cukvashe -n "__cukvashe_option mac check-value parity weak dukpt cvv 'pin translate' 'pvv make' 'pvv verify' 'offset make' 'offset verify' 'offset natural' 'emv card-key' 'emv session-key' 'emv cryptogram' 'emv response-1' 'emv response-2' 'key-block wrap'" -l key-file -r -F -d 'Read the key\'s hexadecimal digits from a file, or - for standard input'
