@@ -52,7 +52,7 @@ static inline __attribute__((always_inline)) void look_below(const uint8_t *poin
   for (const uint8_t *at = low; at + PART <= pointer; at++) {
     uint32_t part, word;
     memcpy(&word, at, PART);
-    /* Most of it. */
+    /* Zeros, and what no call has written, are most of it. */
     if (word == 0 || word == PAINT * 0x01010101u) continue;
     for (size_t secret = 0; secret < sizeof sizes / sizeof *sizes; secret++)
       for (size_t i = 0; i + PART <= sizes[secret]; i++) {
