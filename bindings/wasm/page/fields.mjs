@@ -46,7 +46,7 @@ function hexadecimal(text) {
   const at = digits.search(/[^0-9a-f]/i);
   if (at < 0) return digits;
   const [character] = digits.slice(at);
-  throw new Refused(`Character ${at + 1}, “${character}”, is no hexadecimal digit (0 to 9, A to F).`);
+  throw new Refused(`Character ${at + 1}, “${character}”, is not a hexadecimal digit (0 to 9, A to F).`);
 }
 
 /** The bytes of pairs of digits. */

@@ -402,7 +402,7 @@ def each_fault(browser):
     choose(browser, "dukpt")
     refuses("dukpt", {"base": EMPTY, "serial": EMPTY})
     refuses("dukpt", {"base": "32 hexadecimal digits are needed, and here are 31."}, base=BASE[:31], serial="FFFF9876543210E00001")
-    refuses("dukpt", {"base": "Character 3, “x”, is no hexadecimal digit"}, base="0 1x" + BASE[3:])
+    refuses("dukpt", {"base": "Character 3, “x”, is not a hexadecimal digit"}, base="0 1x" + BASE[3:])
     refuses("dukpt", {"serial": "20 hexadecimal digits are needed, and here are 16."}, base=BASE, serial="9876543210E00001")
     refuses("dukpt", {"initial": EMPTY, "serial": "here are 16"}, **{"from": "initial"})
     choose(browser, "pin")

@@ -13,7 +13,7 @@ ghost use Rattle.des.specs.Cbc.{xor_blocks, Cbc, CbcDecrypts, next_vector};
 use crate::cipher::{BlockCipherDecrypt, BlockCipherEncrypt, are_blocks};
 
 // The blocks that are decrypted together: a cipher may treat some of them side by side.
-const TOGETHER: usize = 24;
+const BLOCKS_AT_A_TIME: usize = 24;
 
 /// The block becomes its xor with the other, byte by byte. Public for bodies of the mode that take
 /// many blocks at a time.
@@ -50,7 +50,12 @@ pub fn decrypt<C: BlockCipherDecrypt>(cipher: &C, iv: &[u8; 8], blocks: &mut [[u
     ensures blocks { All IsBlock blocks.old }
     ensures cbc_decrypted { CbcDecrypts (C.decrypted cipher.now) iv.now blocks.old blocks.new }
 {
-    decrypt_by(&ByCipher { cipher }, iv, blocks, &mut [[0; 8]; TOGETHER]);
+    decrypt_by(
+        &ByCipher { cipher },
+        iv,
+        blocks,
+        &mut [[0; 8]; BLOCKS_AT_A_TIME],
+    );
 }
 
 /// What decrypts the blocks of a list: a cipher, or its keys in another form.
@@ -78,8 +83,8 @@ impl<'a, C: BlockCipherDecrypt> ListDecryption for ByCipher<'a, C> {
     }
 }
 
-/// Decrypts a list as `decrypt` does, as many blocks at a time as `buffer` has. What it holds
-/// afterwards, which can be plaintext, is not said.
+/// Decrypts a list as `decrypt` does, as many blocks at a time as `buffer` has. The contents of
+/// `buffer` afterwards are unspecified, and can be plaintext.
 pub fn decrypt_by<D: ListDecryption>(
     by: &D,
     iv: &[u8; 8],
@@ -104,8 +109,8 @@ pub fn decrypt_by<D: ListDecryption>(
     }
 }
 
-// Decrypts the blocks that go together, chained from the vector. They are decrypted in `buffer`, since
-// each is still needed for the one after it.
+// Decrypts the blocks that go together, chained from the vector. They are decrypted in `buffer`,
+// since each is still needed for the one after it.
 fn decrypt_part<D: ListDecryption>(
     by: &D,
     iv: &[u8; 8],

@@ -230,15 +230,15 @@ pub trait AlgorithmName {
     const NAME: &'static str;
 }
 
-/// A function for the proof alone: the numbers of a slice of bytes are bytes. Of a slice a proof knows
-/// the length, and learns by this clause what the laws ask for.
+/// A function for the proof alone: the numbers in a slice of bytes are below 256, as the laws ask.
+/// Otherwise a proof knows only the length of a slice.
 pub fn are_bytes(bytes: &[u8])
     ensures { AreBytes bytes.now }
 {}
 
-/// A function for the proof alone: the elements of a list of arrays of 8 bytes are blocks. Of such a
-/// list a proof knows the lengths, and learns by this clause that the numbers are bytes. The list calls
-/// of ciphers say it of their lists themselves.
+/// A function for the proof alone: the elements of a list of arrays of 8 bytes are blocks.
+/// Otherwise a proof knows only their lengths. The list calls of ciphers have this clause for their
+/// own lists.
 pub fn are_blocks(blocks: &[[u8; 8]])
     ensures { All IsBlock blocks.now }
 {
@@ -277,8 +277,8 @@ pub trait BlockCipherEncrypt: BlockSizeUser {
         self.encrypt_block(output);
     }
 
-    /// Encrypts each block of 8 bytes in place, in order. An empty list stays empty. A cipher writes the
-    /// call anew if it can treat some blocks side by side.
+    /// Encrypts each block of 8 bytes in place, in order. An empty list stays empty. A cipher
+    /// writes the call anew if it can treat some blocks side by side.
     fn encrypt_blocks(&self, blocks: &mut [[u8; 8]])
         ensures blocks { All IsBlock blocks.old }
         ensures encrypted { blocks.new ≡ map (encrypted self.now) blocks.old }
@@ -324,8 +324,8 @@ pub trait BlockCipherDecrypt: BlockSizeUser {
         self.decrypt_block(output);
     }
 
-    /// Decrypts each block of 8 bytes in place, in order. An empty list stays empty. A cipher writes the
-    /// call anew if it can treat some blocks side by side.
+    /// Decrypts each block of 8 bytes in place, in order. An empty list stays empty. A cipher
+    /// writes the call anew if it can treat some blocks side by side.
     fn decrypt_blocks(&self, blocks: &mut [[u8; 8]])
         ensures blocks { All IsBlock blocks.old }
         ensures decrypted { blocks.new ≡ map (decrypted self.now) blocks.old }
@@ -356,7 +356,7 @@ pub trait BlockCipherDecrypt: BlockSizeUser {
 
 /// A block cipher: encryption and decryption take blocks to blocks and undo each other.
 pub trait BlockCipher: BlockCipherEncrypt + BlockCipherDecrypt {
-    // A block is answered by a block.
+    // Each direction takes a block to a block.
     ghost encrypted_is_block: { (cipher : Self) (block : List ℕ) → IsBlock block
         → IsBlock (Self.encrypted cipher block) };
 
@@ -371,14 +371,14 @@ pub trait BlockCipher: BlockCipherEncrypt + BlockCipherDecrypt {
         → Self.encrypted cipher (Self.decrypted cipher block) ≡ block };
 }
 
-/// A block cipher whose key determines what it answers.
+/// A block cipher whose key determines its output.
 pub trait KeyedCipher: KeyInit + BlockCipher {
     // The block that a cipher made from the bytes of a key makes of a block, in each direction.
     ghost encryption: { List ℕ → List ℕ → List ℕ };
 
     ghost decryption: { List ℕ → List ℕ → List ℕ };
 
-    // A cipher made from a key answers as the key does.
+    // A cipher made from a key encrypts and decrypts as the key does.
     ghost encrypts_by_key: { (cipher : Self) (key block : List ℕ)
         → IsKey Self.KEY_SIZE key → Self.is_made_from cipher key
         → IsBlock block → Self.encrypted cipher block ≡ encryption key block };
@@ -388,9 +388,9 @@ pub trait KeyedCipher: KeyInit + BlockCipher {
         → IsBlock block → Self.decrypted cipher block ≡ decryption key block };
 }
 
-/// A keyed cipher whose key is a relation of blocks: it relates each block to its encryption, and to
-/// nothing else. `is_made_from` must say so of the key (`AreGraphsOf`): `new` proves it, and the laws
-/// hand it on.
+/// A keyed cipher whose key is a relation of blocks: it relates each block to its encryption, and
+/// to nothing else. `is_made_from` must say so of the key (`AreGraphsOf`): `new` proves it, and the
+/// laws hand it on.
 pub trait Relating: KeyedCipher {
     // The relation of a key: it takes a block to its encryption.
     ghost relation: { List ℕ → List ℕ → List ℕ → Type 0 };
@@ -405,9 +405,8 @@ pub trait Relating: KeyedCipher {
         → IsGraphOf (Self.decrypted cipher) (λ y x. relation key x y) };
 }
 
-/// A block cipher whose keys answer complements with complements: with every bit of the key
-/// complemented, the answer to the complemented block is the complemented answer, in each
-/// direction.
+/// A block cipher with the complementation property: if every bit of the key and of the block is
+/// complemented, so is every bit of the result, in each direction.
 pub trait Complementing: KeyedCipher {
     ghost encryption_complements: { (key block : List ℕ) → IsKey Self.KEY_SIZE key → IsBlock block
         → Self.encryption (complement key) (complement block)

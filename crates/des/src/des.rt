@@ -55,8 +55,8 @@ fn run_rounds<'a, I: Iterator<Item = &'a u64>>(block: &mut [u8; 8], round_keys: 
     *block = last_block(halves);
 }
 
-// How many different words there are: each is counted where it stands last. That they are words is
-// said too, since what is said of a `Des` does not tell it of its round keys.
+// The number of different words: each is counted at its last occurrence. A clause also states that
+// they are words, since the contracts of `Des` do not state this of its round keys.
 fn count_distinct(words: &[u64; 16]) -> u8
     ensures are_words { All (λ word. word < 2 ^ 64) words.now }
     ensures count { result ≡ distinct_count nat_eq words.now }

@@ -1,6 +1,5 @@
-//! The weak key test: keys under which DES has few different round keys, and keys two parts of
-//! which are one key; the parity bits of keys, which are no part of what a key does; and keys that
-//! undo each other.
+//! The weak key test, for keys under which DES has few different round keys and keys with two equal
+//! parts; the parity bits of keys, which do not affect the cipher; and keys that undo each other.
 
 ghost use Rattle.std.specs.Prelude.{◌≡◌, ◌↔◌, ◌⊎◌, ◌/◌, ◌%◌, ◌-◌, ◌≤◌, ◌++◌, ℕ, Bool, List, length, codes, Some, IsErr, IsTrue, count_ones};
 ghost use Rattle.des.specs.Bits.{bits_of_bytes, bits_of_word, zeros};

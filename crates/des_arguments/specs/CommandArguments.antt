@@ -3,8 +3,8 @@ use Rattle.std.specs.Prelude.{◌≡◌, ◌⊎◌, ℕ, Bool, true, false, List
 use Rattle.des_lines.specs.declared.requests.Account.{Account}
 use Rattle.des_lines.specs.declared.requests.Account.TheVariants.{In}
 use Rattle.des_lines.specs.declared.requests.CalculationRequest.{CalculationRequest}
-use Rattle.des_arguments.specs.declared.command.Command.{Command}
-use Rattle.des_arguments.specs.declared.command.Command.TheVariants.{Stream}
+use Rattle.des_requests.specs.declared.command.Command.{Command}
+use Rattle.des_requests.specs.declared.command.Command.TheVariants.{Stream}
 use Rattle.des_lines.specs.declared.source.Source.{Source}
 use Rattle.des_lines.specs.declared.source.Source.TheVariants.{StandardInput}
 

@@ -8,11 +8,12 @@ use Rattle.des_columns.specs.Pbe.{algorithm_of}
 use Rattle.des_columns.specs.declared.pbe.Algorithm.{Algorithm}
 use Rattle.des_columns.specs.PgcryptoColumns.{scheme_of}
 use Rattle.des_arguments.specs.declared.arguments.lines.LineArguments.{LineArguments}
-use Rattle.des_arguments.specs.declared.command.lines.LinesRequest.{LinesRequest}
-use Rattle.des_arguments.specs.declared.command.lines.ValueFormat.{ValueFormat}
-use Rattle.des_arguments.specs.declared.command.lines.ValueFormat.TheVariants.{Mysql, Pgcrypto, Jasypt}
-use Rattle.des_arguments.specs.LineFormats.{coding_of, source_of, takes_secret}
-use Rattle.des_arguments.specs.StreamArguments.{IsInput, IsOutput, IsReadTwice, text_or}
+use Rattle.des_requests.specs.declared.lines.LinesRequest.{LinesRequest}
+use Rattle.des_requests.specs.declared.lines.ValueFormat.{ValueFormat}
+use Rattle.des_requests.specs.declared.lines.ValueFormat.TheVariants.{Mysql, Pgcrypto, Jasypt}
+use Rattle.des_requests.specs.Inputs.{IsInput}
+use Rattle.des_requests.specs.LineFormats.{coding_of, source_of, takes_secret}
+use Rattle.des_arguments.specs.StreamArguments.{IsOutput, IsReadTwice, text_or}
 
 -- ---- arguments
 

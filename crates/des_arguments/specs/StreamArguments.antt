@@ -7,24 +7,25 @@ use Rattle.des_lines.specs.declared.fault.Misuse.TheVariants.{Arguments, Standar
 use Rattle.des_lines.specs.declared.fault.FaultKind.{FaultKind}
 use Rattle.des_lines.specs.declared.fault.FaultKind.TheVariants.{Usage, Vector as WrongVector}
 use Rattle.des_lines.specs.declared.source.Source.{Source}
-use Rattle.des_lines.specs.declared.source.Source.TheVariants.{StandardInput, File}
-use Rattle.des_arguments.specs.declared.command.streams.Cipher.{Cipher}
-use Rattle.des_arguments.specs.declared.command.streams.Cipher.TheVariants.{Des, TdesEde2, TdesEde3}
-use Rattle.des_arguments.specs.declared.command.streams.Vector.{Vector}
-use Rattle.des_arguments.specs.declared.command.streams.Vector.TheVariants.{Bytes, Random, FirstBlock, OfPassword}
-use Rattle.des_arguments.specs.declared.command.streams.CipherMode.{CipherMode}
-use Rattle.des_arguments.specs.declared.command.streams.CipherMode.TheVariants.{Ecb, Cbc, Stream}
-use Rattle.des_arguments.specs.declared.command.streams.StreamMode.TheVariants.{Cfb, Cfb8, Ofb, Ctr}
-use Rattle.des_arguments.specs.declared.command.streams.Secret.{Secret}
-use Rattle.des_arguments.specs.declared.command.streams.Secret.TheVariants.{Key, Password}
-use Rattle.des_arguments.specs.declared.command.streams.BlockRange.{BlockRange}
-use Rattle.des_arguments.specs.declared.command.streams.WeakKeys.{WeakKeys}
-use Rattle.des_arguments.specs.declared.command.streams.WeakKeys.TheVariants.{Refuse, Warn, Accept}
-use Rattle.des_arguments.specs.declared.command.streams.Output.{Output}
-use Rattle.des_arguments.specs.declared.command.streams.Output.TheVariants.{Unnamed, StandardOutput, File as OutputFile}
-use Rattle.des_arguments.specs.declared.command.streams.StreamRequest.{StreamRequest}
+use Rattle.des_lines.specs.declared.source.Source.TheVariants.{StandardInput}
+use Rattle.des_requests.specs.declared.streams.Cipher.{Cipher}
+use Rattle.des_requests.specs.declared.streams.Cipher.TheVariants.{Des, TdesEde2, TdesEde3}
+use Rattle.des_requests.specs.declared.streams.Vector.{Vector}
+use Rattle.des_requests.specs.declared.streams.Vector.TheVariants.{Bytes, Random, FirstBlock, OfPassword}
+use Rattle.des_requests.specs.declared.streams.CipherMode.{CipherMode}
+use Rattle.des_requests.specs.declared.streams.CipherMode.TheVariants.{Ecb, Cbc, Stream}
+use Rattle.des_requests.specs.declared.streams.StreamMode.TheVariants.{Cfb, Cfb8, Ofb, Ctr}
+use Rattle.des_requests.specs.declared.streams.Secret.{Secret}
+use Rattle.des_requests.specs.declared.streams.Secret.TheVariants.{Key, Password}
+use Rattle.des_requests.specs.declared.streams.BlockRange.{BlockRange}
+use Rattle.des_requests.specs.declared.streams.WeakKeys.{WeakKeys}
+use Rattle.des_requests.specs.declared.streams.WeakKeys.TheVariants.{Refuse, Warn, Accept}
+use Rattle.des_requests.specs.declared.streams.Output.{Output}
+use Rattle.des_requests.specs.declared.streams.Output.TheVariants.{Unnamed, StandardOutput, File as OutputFile}
+use Rattle.des_requests.specs.declared.streams.StreamRequest.{StreamRequest}
 use Rattle.des_arguments.specs.declared.arguments.streams.StreamArguments.{StreamArguments}
-use Rattle.des_arguments.specs.StreamRequests.{source_of, takes_vector, is_stream, takes_part}
+use Rattle.des_requests.specs.Inputs.{IsInput}
+use Rattle.des_requests.specs.StreamRequests.{source_of, takes_vector, is_stream, takes_part}
 use Rattle.des_lines.specs.Texts.{bytes_of, digits_fault}
 
 -- ---- arguments
@@ -113,19 +114,6 @@ part_for true None None = Ok None
 part_for true from count = Err (Usage PartToEncrypt)
 
 -- ---- files
-
--- a path that means standard input: `-`, or a name that the system gives it
-abbrev pub IsNameOfStandardInput : List ℕ → Type 0
-IsNameOfStandardInput path =
-    (path ≡ codes "-") ⊎ (path ≡ codes "/dev/stdin") ⊎ (path ≡ codes "/dev/fd/0")
-    ⊎ (path ≡ codes "/proc/self/fd/0")
-
--- standard input, as one of its names or no path asks for, or a file
-abbrev pub IsInput : Option (Bor (List ℕ)) → Source → Type 0
-IsInput None source = source ≡ StandardInput
-IsInput (Some path) StandardInput = IsNameOfStandardInput path.now
-IsInput (Some path) (File file) = (¬ IsNameOfStandardInput path.now) × (file ≡ path)
-IsInput (Some path) _ = ⊥
 
 -- standard output, as `-` asks for, a file, or neither
 abbrev pub IsOutput : Option (Bor (List ℕ)) → Output → Type 0

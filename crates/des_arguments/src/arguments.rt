@@ -16,21 +16,20 @@ ghost use Rattle.std.specs.Prelude.{ℕ, List, Option, IfOk};
 ghost use Rattle.clap.specs.Matches.{subcommand_name_of};
 ghost use Rattle.des_arguments.specs.CommandArguments.{HasDirectionOf};
 
-use crate::command::{Command, MacRequest, Method, PaddingMethod, Question};
 use argument_values::{count_of, is_set, place_of, text_of, texts_of};
 use clap::ArgMatches;
 use des_lines::fault::{Fault, Misuse};
 use des_lines::requests::{Calculation, Purpose};
 use des_payment::dukpt::MessageDirection;
+use des_requests::command::{Command, MacRequest, Method, PaddingMethod, Question};
+use des_requests::sources::file_of;
 pub use grammar::{known_name, names_of, parse, takes};
 use key_blocks::key_block_request;
 use lines::lines_request;
 use misuse::{misuse, refuse};
 use passwords::private_key_request;
 use payment::{emv_request, offset_request, pin_request, pvv_request};
-pub use requests::by_input;
 use requests::{Requested, by_key, with_account};
-pub use sources::file_of;
 use sources::{KEY, input_at, is_standard_input, key_of, names_one, read_once};
 use streams::stream_request;
 

@@ -1,5 +1,5 @@
-//! What is shown of a command line that was not understood, or that asks for help. None of the words
-//! that were typed is shown if it may be a key.
+//! What is shown of a command line that was not understood, or that asks for help. None of the
+//! words that were typed is shown if it may be a key.
 
 use crate::arguments::{known_name, names_of, parse, takes};
 use clap::error::ErrorKind;
@@ -78,8 +78,8 @@ fn show_help(rt: &HostRuntime, help: &str) -> Result<u8, AllocError> {
 
 // ---- faults
 
-// The usage of the command that the command line names: the end of the message on an option that there is
-// not, in place of what was typed.
+// The usage line of the command that the command line names: the end of clap's message on an
+// unknown option, with nothing that was typed.
 fn usage_of(rt: &HostRuntime, command_line: &[&str]) -> Result<String, AllocError> {
     let (name, second) = names_of(command_line);
     let wrong = "--?";
@@ -114,8 +114,8 @@ fn between<'a>(message: &'a str, start: &str, end: &str) -> Option<&'a str> {
 const A_CIPHER: &str =
     "a cipher without a dash: des-ede3-cbc for -des3, des-ede3-ecb for -des-ede3";
 
-// What others call the options and commands, and what serves here: of several, the first that is no
-// option or that the command has.
+// Names in other programs, and what to use here instead: of several, the first that is not an
+// option or is one of the command's.
 const OTHER_NAMES: &[(&str, &[&str])] = &[
     ("kcv", &["check-value"]),
     ("enc", &["encrypt or decrypt"]),
@@ -185,8 +185,8 @@ const DERIVATION_NAMES: &[&str] = &["--derive"];
 
 const PADDING_NAMES: &[&str] = &["--padding none"];
 
-// Whether a name serves in the place of a word: an option only if the command has it, and no command in
-// its own place.
+// Whether a name can be suggested for a word: an option only if the command has it, and a command
+// only if it is another one.
 fn serves(command_line: &[&str], word: &str, name: &str) -> bool {
     match name.strip_prefix("--") {
         Some(option) if word.starts_with("-") => {
@@ -249,8 +249,9 @@ fn similar_in<'a>(message: &'a str) -> &'a str {
     name
 }
 
-// What may have been meant by the word that a message refuses: a name that others use, an option with
-// one dash, or the name that the message suggests. Nothing of it was typed, but what is a name here.
+// What may have been meant by the word that a message refuses: a name that others use, an option
+// with one dash, or the name that the message suggests. Nothing of it was typed, but what is a name
+// here.
 fn meant(rt: &HostRuntime, message: &str, command_line: &[&str]) -> Result<String, AllocError> {
     let word = refused_in(message, command_line);
     if word.starts_with("-des") {

@@ -26,7 +26,8 @@ pub extern "C" fn cukvashe_internal_init(context: &mut [u64], key: &[u8], no_tab
 }
 
 /// Encrypts bytes in place by CBC from the vector, which becomes the last ciphertext block. The
-/// status is `ERR_BLOCKS` if the bytes are not whole blocks; they and the vector are then unchanged.
+/// status is `ERR_BLOCKS` if the bytes are not whole blocks; they and the vector are then
+/// unchanged.
 #[unsafe(no_mangle)]
 pub extern "C" fn cukvashe_internal_encrypt_cbc(
     context: &[u64],

@@ -14,8 +14,8 @@ use des_context::status::{ERR_ALGORITHM, ERR_COUNTS, ERR_ITERATIONS, OK};
 
 /// Reads strings of Jasypt by the algorithm of this name, as `des_columns::jasypt::decrypt_values`
 /// does. The status is that of the first fault, and then nothing is written: `ERR_ALGORITHM` if the
-/// name is none, `ERR_ITERATIONS` if there is no iteration, or more than 2^32 - 1, `ERR_COUNTS` if the
-/// lengths do not fit; and `ERR_VALUES` if the status of some value is not `OK`.
+/// name is none, `ERR_ITERATIONS` if there is no iteration, or more than 2^32 - 1, `ERR_COUNTS` if
+/// the lengths do not fit; and `ERR_VALUES` if the status of some value is not `OK`.
 #[unsafe(no_mangle)]
 pub extern "C" fn cukvashe_internal_jasypt_decrypt_values(
     algorithm: &[u8],

@@ -1,6 +1,6 @@
-//! The exports of key wraps: a key encrypted under a key of triple DES in the EDE form, by the key wrap of
-//! CMS (RFC 3217) and by TKW (NIST SP 800-38F). No call reads a table. What a call writes is a list of
-//! blocks or semiblocks, so that `capacity` is a number of these.
+//! The exports of key wraps: a key encrypted under a key of triple DES in the EDE form, by the key
+//! wrap of CMS (RFC 3217) and by TKW (NIST SP 800-38F). No call reads a table. What a call writes
+//! is a list of blocks or semiblocks, so that `capacity` is a number of these.
 
 ghost use Rattle.std.specs.Prelude.{◌≡◌, ◌≢◌, ◌⊎◌, ◌↔◌, ◌<◌, ◌≤◌, ◌+◌, ◌-◌, ◌/◌, ℕ, List, length, take, drop, replicate};
 ghost use Rattle.std.specs.List.{All};
@@ -36,9 +36,9 @@ fn cipher_of(protection: &[u8]) -> TdesEde3
     )
 }
 
-/// Wraps a key of one block or more by the key wrap of CMS, at the front of a buffer, and writes how many
-/// bytes that are: 16 more than the key's. The status is that of the first fault, and then nothing is
-/// written: `ERR_PROTECTION_KEY_LENGTH`, `ERR_BLOCKS` or `ERR_CAPACITY`.
+/// Wraps a key of one block or more by the key wrap of CMS, at the front of a buffer, and writes
+/// how many bytes that are: 16 more than the key's. The status is that of the first fault, and then
+/// nothing is written: `ERR_PROTECTION_KEY_LENGTH`, `ERR_BLOCKS` or `ERR_CAPACITY`.
 #[unsafe(no_mangle)]
 pub extern "C" fn cukvashe_cms_wrap_key(
     protection: &[u8],
@@ -79,10 +79,10 @@ pub extern "C" fn cukvashe_cms_wrap_key(
     OK
 }
 
-/// Unwraps what the key wrap of CMS wrapped, at the front of a buffer, and writes how many bytes the key
-/// has. The status is that of the first fault: `ERR_PROTECTION_KEY_LENGTH`, `ERR_WRAPPED_LENGTH` or
-/// `ERR_CAPACITY`, and then nothing is written; or `ERR_WRAPPED_KEY` of bytes that wrap no key, and then
-/// zeros stand where the key would.
+/// Unwraps what the key wrap of CMS wrapped, at the front of a buffer, and writes how many bytes
+/// the key has. The status is that of the first fault: `ERR_PROTECTION_KEY_LENGTH`,
+/// `ERR_WRAPPED_LENGTH` or `ERR_CAPACITY`, and then nothing is written; or `ERR_WRAPPED_KEY` of
+/// bytes that wrap no key, and then zeros stand where the key would.
 #[unsafe(no_mangle)]
 pub extern "C" fn cukvashe_cms_unwrap_key(
     protection: &[u8],
@@ -134,9 +134,9 @@ pub extern "C" fn cukvashe_cms_unwrap_key(
     }
 }
 
-/// Wraps a key of 2 to 2^28 - 1 semiblocks by TKW, at the front of a buffer, and writes how many bytes that
-/// are: 4 more than the key's. The status is that of the first fault, and then nothing is written:
-/// `ERR_PROTECTION_KEY_LENGTH`, `ERR_KEY_LENGTH` or `ERR_CAPACITY`.
+/// Wraps a key of 2 to 2^28 - 1 semiblocks by TKW, at the front of a buffer, and writes how many
+/// bytes that are: 4 more than the key's. The status is that of the first fault, and then nothing
+/// is written: `ERR_PROTECTION_KEY_LENGTH`, `ERR_KEY_LENGTH` or `ERR_CAPACITY`.
 #[unsafe(no_mangle)]
 pub extern "C" fn cukvashe_tkw_wrap_key(
     protection: &[u8],

@@ -58,7 +58,7 @@ pub extern "C" fn cukvashe_internal_mac_update(
     macs::update(algorithm, context, message, bytes)
 }
 
-/// Returns the tag of the message, which may go on. The status is as for
+/// Writes the tag of the message, which may go on. The status is as for
 /// `cukvashe_internal_mac_update`; the tag of words that it refuses is unchanged.
 #[unsafe(no_mangle)]
 pub extern "C" fn cukvashe_internal_mac_final(

@@ -44,7 +44,7 @@ pub extern "C" fn cukvashe_internal_pad(
     OK
 }
 
-/// The number of bytes before their padding, by `PKCS7` or `ISO7816`. The status is
+/// Writes the number of bytes before their padding, by `PKCS7` or `ISO7816`. The status is
 /// `ERR_PADDING_METHOD` for any other number, `ERR_BLOCKS` if the bytes are not whole blocks, and
 /// `ERR_PADDING` if they do not end with the padding, and then nothing is written.
 #[unsafe(no_mangle)]

@@ -84,10 +84,10 @@ pub extern "C" fn cukvashe_internal_open_salted(
     open_salted(key_size, derivation, password, bytes, plain, plain_length)
 }
 
-/// Writes the key of a password and a salt, and the vector behind it, by the algorithm of this name.
-/// The status is that of the first fault, and then the key is unchanged: `ERR_ALGORITHM`;
-/// `ERR_KEY_LENGTH` if there are not as many bytes; `ERR_ITERATIONS` if there is no iteration, or more
-/// than 2^32 - 1; `ERR_SALT_LENGTH` if Java's rule has a salt of other than 8 bytes.
+/// Writes the key of a password and a salt, and the vector behind it, by the algorithm of this
+/// name. The status is that of the first fault, and then the key is unchanged: `ERR_ALGORITHM`;
+/// `ERR_KEY_LENGTH` if there are not as many bytes; `ERR_ITERATIONS` if there is no iteration, or
+/// more than 2^32 - 1; `ERR_SALT_LENGTH` if Java's rule has a salt of other than 8 bytes.
 #[unsafe(no_mangle)]
 pub extern "C" fn cukvashe_pbe_key(
     algorithm: &[u8],

@@ -1,6 +1,6 @@
-//! The exports of payment formats: check values, keys of components, PIN blocks and their translation,
-//! PIN verification, the keys of a transaction at the host and in the terminal, card verification
-//! values, card cryptograms, and key blocks.
+//! The exports of payment formats: check values, keys of components, PIN blocks and their
+//! translation, PIN verification, the keys of a transaction at the host and in the terminal, card
+//! verification values, card cryptograms, and key blocks.
 
 ghost use Rattle.std.specs.Prelude.{◌≡◌, ◌≤◌, length};
 ghost use Rattle.des_c.specs.Texts.{with_zeros};

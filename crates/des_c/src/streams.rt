@@ -44,8 +44,8 @@ pub extern "C" fn cukvashe_stream_begin_ctr_at(stream: &mut Stream, counter: &[u
     *stream = Stream::ctr_at(counter, blocks);
 }
 
-/// Writes where a stream goes on: the feedback register, and how many bytes of the output block that
-/// goes next are used.
+/// Writes where a stream goes on: the feedback register, and how many bytes of the output block
+/// that goes next are used.
 #[unsafe(no_mangle)]
 pub extern "C" fn cukvashe_stream_position(stream: &Stream, iv: &mut [u8; 8], used: &mut usize)
     ensures register { iv.new ≡ stream.now.place.register }

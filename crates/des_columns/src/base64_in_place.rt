@@ -1,4 +1,4 @@
-//! Base64 (RFC 4648, section 4) in the place of what it encodes, since there is no other buffer.
+//! Base64 (RFC 4648, section 4), decoded and encoded in place, since there is no other buffer.
 
 ghost use Rattle.std.specs.Prelude.{◌≡◌, ◌≤◌, ◌+◌, ◌*◌, ◌-◌, ◌/◌, ℕ, List, None, length, take, drop, IfSome};
 ghost use Rattle.std.specs.List.{filter};
@@ -58,8 +58,7 @@ pub(crate) fn decode(characters: &mut [u8]) -> Option<usize>
     Some(size)
 }
 
-/// Makes of the bytes from `start` on, at the end of a place, the characters that encode them, and fill
-/// it.
+/// Encodes the bytes at the end of a buffer, from `start` on, into the whole buffer.
 pub(crate) fn encode(start: usize, place: &mut [u8])
     requires start { start ≤ length place.old }
     requires size { length place.old ≡ (length place.old - start + 2) / 3 * 4 }

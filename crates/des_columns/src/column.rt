@@ -1,5 +1,5 @@
-//! Columns: values, one after another, read together. The blocks of many of them are decrypted as one
-//! list, in a buffer of 1,024 blocks on the stack; a value that is longer goes by itself.
+//! Columns: values, one after another, read together. The blocks of many of them are decrypted as
+//! one list, in a buffer of 1,024 blocks on the stack; a value that is longer goes by itself.
 
 ghost use Rattle.std.specs.Prelude.{◌≡◌, ◌≤◌, ◌%◌, ◌↔◌, ◌∷◌, ℕ, IsTrue, List, length, sum};
 ghost use Rattle.std.specs.List.{All};
@@ -11,7 +11,7 @@ use crate::form::{BlockMode, ValueForm, finish};
 use crate::status::{ERR_KEY_NUMBER, OK};
 use crate::value_keys::ValueKeys;
 use crate::waiting::Waiting;
-use des_fast::many::Slice;
+use des_fast::many::{Slice, add_up_to};
 
 // The blocks that are decrypted together.
 const BLOCKS: usize = 1024;
@@ -38,8 +38,8 @@ impl<K: ValueKeys> Reader<K> {
         }
     }
 
-    // Decrypts the blocks of values together, from the first on, as long as they fit the buffer; unless
-    // some wait there.
+    // Decrypts the blocks of values together, from the first on, as long as they fit the buffer;
+    // unless some wait there.
     #[tactic(auto, using(std::proofs::lemmas::List::Sums::sum_by_more_le))]
     fn refill<S: Slice>(
         &self,
@@ -49,7 +49,7 @@ impl<K: ValueKeys> Reader<K> {
         buffer: &mut [[u8; 8]],
     )
         requires whole { sum lengths.now ≡ length values.now }
-        requires few { length buffer.old ≤ K.MOST_BLOCKS }
+        requires few { length buffer.old ≤ K.MAX_BLOCKS }
         requires waiting { AreDecrypted self.now.form (K.decryption self.now.keys)
             (pieces lengths.now values.now) waiting.old buffer.old }
         ensures { AreDecrypted self.now.form (K.decryption self.now.keys)
@@ -157,7 +157,7 @@ impl<K: ValueKeys> Reader<K> {
         ensures all { IsTrue result ↔ All (λ status. status ≡ OK) statuses.new }
     {
         let mut buffer = [[0; 8]; BLOCKS];
-        let buffer = &mut buffer[..K::MOST_BLOCKS];
+        let buffer = &mut buffer[..K::MAX_BLOCKS];
         let mut waiting = Waiting { count: 0, first: 0 };
         let mut start = 0;
         'values: for k in 0..lengths.len() {
@@ -183,8 +183,9 @@ pub(crate) fn are_ok(statuses: &[i32]) -> bool
     statuses.iter().all(|status| *status == OK)
 }
 
-/// Whether the arguments of a call over a column fit: the lengths add up to the bytes of the values,
-/// the buffer for texts is as long, and each value has a length and a status of its own to be written.
+/// Whether the arguments of a call over a column fit: the lengths add up to the bytes of the
+/// values, the buffer for texts is as long, and each value has a length and a status of its own to
+/// be written.
 pub fn fits(
     values: &[u8],
     lengths: &[usize],
@@ -200,19 +201,4 @@ pub fn fits(
         && texts.len() == values.len()
         && text_lengths.len() == lengths.len()
         && statuses.len() == lengths.len()
-}
-
-// Whether lengths add up to a number.
-pub(crate) fn add_up_to(lengths: &[usize], total: usize) -> bool
-    ensures { IsTrue result ↔ (sum lengths.now ≡ total) }
-{
-    let mut left = total;
-    'elements: for k in 0..lengths.len() {
-        let length = lengths[k];
-        if left < length {
-            return false;
-        }
-        left -= length;
-    }
-    left == 0
 }

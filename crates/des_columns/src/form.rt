@@ -1,4 +1,4 @@
-//! What a value is around its encrypted blocks, and what its blocks are around the text.
+//! The forms of values: what surrounds the encrypted blocks, and what surrounds the text in them.
 
 ghost use Rattle.std.specs.Prelude.{◌≡◌, ◌==◌, ◌≤◌, ◌*◌, ◌%◌, ◌∷◌, length, take};
 ghost use Rattle.std.specs.List.{list_all};
@@ -38,8 +38,8 @@ pub(crate) struct Reading {
     pub length: usize,
 }
 
-// Whether a server of MySQL takes bytes for encrypted: the first has its highest bit, and one or more
-// blocks of 8 bytes follow it.
+// Whether a server of MySQL takes bytes for encrypted: the first has its highest bit, and one or
+// more blocks of 8 bytes follow it.
 fn is_encrypted(value: &[u8]) -> bool
     ensures { result ≡ has_form value.now }
 {
@@ -56,8 +56,8 @@ impl BlockMode {
         }
     }
 
-    /// Makes of blocks, once each was decrypted, what was encrypted, and returns the mode of those
-    /// that come after them.
+    /// Finishes the decryption of blocks of which the cipher has decrypted each (in CBC by the xor
+    /// with the block before), and returns the mode of the blocks that follow.
     pub(crate) fn xor_previous(self, blocks: &[[u8; 8]], answers: &mut [[u8; 8]]) -> BlockMode
         requires { length answers.old ≡ length blocks.now }
         ensures xored { answers.new ≡ xored self blocks.now answers.old }

@@ -1,7 +1,7 @@
 //! Strings of Jasypt, as settings have them inside `ENC(` and `)`: in Base64 a salt of 8 bytes, and
-//! behind it what is encrypted by CBC and the padding of PKCS#7. Key and vector come from a password,
-//! the salt and a number of iterations, by default 1,000, by one of the algorithms of `pbe`: by
-//! `Md5Des` before version 3 of Jasypt's integration into Spring Boot.
+//! behind it what is encrypted by CBC and the padding of PKCS#7. Key and vector come from a
+//! password, the salt and a number of iterations, by default 1,000, by one of the algorithms of
+//! `pbe`: by `Md5Des` before version 3 of Jasypt's integration into Spring Boot.
 
 ghost use Rattle.std.specs.Prelude.{◌≡◌, ◌≢◌, ◌≤◌, ◌<◌, ◌+◌, ◌*◌, ◌/◌, ◌^◌, ◌↔◌, ◌++◌, IsTrue, length, take, drop, sum, IsOk, IfOk, OnOk, OnErr};
 ghost use Rattle.std.specs.List.{All, sum_by};
@@ -16,14 +16,14 @@ ghost use Rattle.des_columns.specs.declared.form.BlockMode.TheVariants.{Cbc};
 ghost use Rattle.des_columns.specs.declared.form.ValueForm.TheVariants.{Pkcs7};
 
 use crate::base64_in_place::{decode, encode, write_characters};
-use crate::column::{Reader, add_up_to, are_ok};
+use crate::column::{Reader, are_ok};
 use crate::form::{BlockMode, Reading, ValueForm, finish};
 use crate::pbe::{Algorithm, PbeError};
 use crate::status::{ERR_BASE64, ERR_SALT_LENGTH, OK};
 use crate::value_keys::OneKey;
 use crate::writing::Writer;
 use des::cipher::{KeyInit, are_bytes};
-use des_fast::many::ManyBlocks;
+use des_fast::many::{ManyBlocks, add_up_to};
 use des_fast::{Des, TdesEde2, TdesEde3};
 use des_passwords::pbkdf2::DeriveError;
 use std::simd::prelude::*;
@@ -160,9 +160,9 @@ fn read_value(
 /// `ENC(` and `)` around, and white space around these and within does not count. Text k is written
 /// where value k begins, before zeros, and its length; and status k, which is `OK`, or
 /// `ERR_BASE64`, `ERR_SALT_LENGTH` if the value ends within its salt, `ERR_BLOCKS` if nothing or no
-/// whole blocks are encrypted, `ERR_PADDING` if the padding is wrong, as mostly under a wrong password.
-/// Returns whether all are `OK`. `Derive` if `iterations` is 0, and then nothing is written. The key of
-/// each value is derived by itself.
+/// whole blocks are encrypted, `ERR_PADDING` if the padding is wrong, as mostly under a wrong
+/// password. Returns whether all are `OK`. `Derive` if `iterations` is 0, and then nothing is
+/// written. The key of each value is derived by itself.
 pub fn decrypt_values(
     by: Algorithm,
     iterations: u32,
@@ -266,8 +266,8 @@ pub fn value_size(size: usize) -> usize
 
 /// Writes the values of texts under a password, one after another, each from the salt at its place,
 /// which is to be random: without `ENC(` and `)` around, a text of n bytes as the characters of
-/// `value_size(n)`. `Derive` if `iterations` is 0, and then nothing is written. The key of each value
-/// is derived by itself.
+/// `value_size(n)`. `Derive` if `iterations` is 0, and then nothing is written. The key of each
+/// value is derived by itself.
 pub fn encrypt_values(
     by: Algorithm,
     iterations: u32,
@@ -301,8 +301,8 @@ pub fn encrypt_values(
     Ok(())
 }
 
-/// Whether the arguments of `encrypt_values` fit: the lengths add up to the bytes of the texts, those of
-/// their values to the length of the buffer, and each text has a salt.
+/// Whether the arguments of `encrypt_values` fit: the lengths add up to the bytes of the texts,
+/// those of their values to the length of the buffer, and each text has a salt.
 pub fn fits(salts: &[[u8; 8]], texts: &[u8], lengths: &[usize], values: &[u8]) -> bool
     ensures { IsTrue result ↔ (sum lengths.now ≡ length texts.now)
         × (length salts.now ≡ length lengths.now)

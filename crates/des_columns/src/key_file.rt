@@ -1,5 +1,5 @@
-//! The server's file of keys of MySQL and MariaDB (`des-key-file`), and columns of values whose first
-//! bytes name them.
+//! The server's file of keys of MySQL and MariaDB (`des-key-file`), and columns of values whose
+//! first bytes name them.
 
 ghost use Rattle.std.specs.Prelude.{◌≡◌, ◌==◌, ◌<◌, ℕ, List, Some, None, not, length, drop, map, get_or, replicate};
 ghost use Rattle.std.specs.List.{before_first, position_or_len};
@@ -112,10 +112,10 @@ fn take_key(line: &[u8], keys: &mut [Option<[u8; 24]>; 10])
 }
 
 impl KeyFile {
-    /// Reads the bytes of a file as the server does. A line has a digit, white space and a key string,
-    /// of which control characters at its end are none; a later line replaces an earlier one of its
-    /// digit. Lines that are no key are passed over: also what is left without the end of a line.
-    /// Where a line is longer than 1,022 bytes, what is behind these is another.
+    /// Reads the bytes of a file as the server does. A line has a digit, white space and a key
+    /// string; control characters at its end are dropped. A later line replaces an earlier one with
+    /// the same digit. Lines without a key are ignored, and so is a last line without a line end. A
+    /// line of more than 1,022 bytes is cut there, and the rest is read as the next line.
     pub fn read(file: &[u8]) -> KeyFile
         ensures { result.keys ≡ keys_in file.now }
     {
@@ -182,9 +182,9 @@ fn decrypt_by<C: ManyBlocks + Drop, S: Slice>(key: &C::Key, blocks: &mut [[u8; 8
 impl ValueKeys for KeyFile {
     ghost use Rattle.std.proofs.Common.{lit≤};
 
-    const MOST_BLOCKS: usize = 256;
+    const MAX_BLOCKS: usize = 256;
 
-    ghost MOST_BLOCKS = { 256 };
+    ghost MAX_BLOCKS = { 256 };
 
     ghost fit_buffer = { (lit≤ tt, lit≤ tt) };
 

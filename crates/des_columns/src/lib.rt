@@ -1,9 +1,8 @@
-//! Values that databases and frameworks encrypted, as they stand in columns and settings: of MySQL
-//! and MariaDB (`mysql`, `key_file`), and of pgcrypto (`pgcrypto`), a column at a time, read (`column`,
-//! `one_key`) and written (`writing`). Strings of Jasypt (`jasypt`), each under a key of its own, read
-//! and written.
-//! Keys from passwords by the names that frameworks give the rules (`pbe`), of which Java's
-//! `PBEWithMD5AndTripleDES` stands here (`java`).
+//! Values that databases and frameworks encrypted, in columns and settings. Columns of MySQL and
+//! MariaDB (`mysql`, `key_file`) and of pgcrypto (`pgcrypto`) are read (`column`, `one_key`) and
+//! written (`writing`). So are strings of Jasypt (`jasypt`), each under a key of its own. `pbe`
+//! derives keys from passwords, by the frameworks' names of the algorithms; Java's own
+//! `PBEWithMD5AndTripleDES` is in `java`.
 //!
 //! These read what others wrote, and write it for those that still read it. No value is
 //! authenticated: write nothing new by them.

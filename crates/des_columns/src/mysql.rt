@@ -19,9 +19,9 @@ use des::cipher::are_bytes;
 use des_fast::TdesEde3;
 use des_fast::many::Slice;
 
-/// Writes the values of texts of a column under a key of this number, 0 to 9 of the server's file or
-/// 127 of a key string, one after another. An empty text has the empty value; a text of n bytes has
-/// one of (n / 8 + 1) * 8 + 1.
+/// Writes the values of texts of a column under a key of this number, 0 to 9 of the server's file
+/// or 127 of a key string, one after another. An empty text has the empty value; a text of n bytes
+/// has one of (n / 8 + 1) * 8 + 1.
 pub fn encrypt_values<S: Slice>(
     key: &[u8; 24],
     number: u8,
@@ -39,12 +39,12 @@ pub fn encrypt_values<S: Slice>(
     write_values::<TdesEde3, S>(key, ValueForm::Mysql, number, mode, texts, lengths, values);
 }
 
-/// Reads values of a column under the key of a key string, or of one number in the server's file:
-/// `statuses` has `ERR_NOT_ENCRYPTED` if the server takes a value for no ciphertext, and gives it
-/// back as it is, and `ERR_PADDING` if the last byte is above 8, as mostly under a wrong key, and
-/// the server gives `NULL`. As on the server, the number in the first byte and the other bytes of the
-/// padding are not looked at, a last byte of 0 takes none off, and an empty value is an empty text.
-/// All else is as of `one_key::read_values`.
+/// Reads the values of a column under the key of a key string, or under one key of the server's
+/// file, as `one_key::read_values` does. A status is `ERR_NOT_ENCRYPTED` if the server takes the
+/// value for plaintext and returns it as it is, and `ERR_PADDING` if the last byte is above 8, as
+/// mostly under a wrong key, and the server returns `NULL`. As on the server, the key number in the
+/// first byte and the other bytes of the padding are ignored, a last byte of 0 removes nothing, and
+/// an empty value is an empty text.
 pub fn decrypt_values<S: Slice>(
     key: &[u8; 24],
     values: &[u8],

@@ -29,9 +29,9 @@ pub enum Algorithm {
 /// Why a password gives no key.
 #[derive(Clone, Copy, Debug, PartialEq, Eq)]
 pub enum PbeError {
-    /// There is no iteration.
+    /// The derivation fails: the number of iterations is 0.
     Derive(DeriveError),
-    /// The salt of `Md5TripleDes` has 8 bytes.
+    /// The salt for `Md5TripleDes` does not have 8 bytes.
     SaltLength,
 }
 

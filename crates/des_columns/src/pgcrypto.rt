@@ -116,8 +116,8 @@ pub fn filled<const N: usize>(bytes: &[u8]) -> [u8; N]
     answer
 }
 
-/// Reads the values of a column as `decrypt_iv` does, and with no vector as `decrypt`. `statuses` has
-/// `ERR_BLOCKS` if a value is not whole blocks, or is empty with padding, and `ERR_PADDING` if
+/// Reads the values of a column as `decrypt_iv` does, and with no vector as `decrypt`. `statuses`
+/// has `ERR_BLOCKS` if a value is not whole blocks, or is empty with padding, and `ERR_PADDING` if
 /// the padding is wrong, as mostly under a wrong key. All else is as of `one_key::read_values`.
 pub fn decrypt_values<S: Slice>(
     by: Scheme,
@@ -162,8 +162,8 @@ pub fn decrypt_values<S: Slice>(
     }
 }
 
-/// Writes the values of texts of a column as `encrypt_iv` does, and with no vector as `encrypt`, one
-/// after another. Without padding the texts are whole blocks, and so are their values; else a
+/// Writes the values of texts of a column as `encrypt_iv` does, and with no vector as `encrypt`,
+/// one after another. Without padding the texts are whole blocks, and so are their values; else a
 /// text of n bytes has a value of (n / 8 + 1) * 8.
 pub fn encrypt_values<S: Slice>(
     by: Scheme,

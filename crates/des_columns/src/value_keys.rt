@@ -12,12 +12,12 @@ use des_fast::many::{ManyBlocks, Slice};
 /// a block.
 pub(crate) trait ValueKeys {
     /// How many blocks of several values go together at most.
-    const MOST_BLOCKS: usize;
+    const MAX_BLOCKS: usize;
 
-    ghost MOST_BLOCKS: { ℕ };
+    ghost MAX_BLOCKS: { ℕ };
 
     // There are some, and the buffer of a column takes them.
-    ghost fit_buffer: { (1 ≤ MOST_BLOCKS) × (MOST_BLOCKS ≤ 1024) };
+    ghost fit_buffer: { (1 ≤ MAX_BLOCKS) × (MAX_BLOCKS ≤ 1024) };
 
     // Whether there is a key for a value.
     ghost has_key: { Self → List ℕ → Bool };
@@ -37,7 +37,7 @@ pub(crate) trait ValueKeys {
         lengths: &[usize],
         blocks: &mut [[u8; 8]],
     )
-        requires few { length blocks.old ≤ MOST_BLOCKS }
+        requires few { length blocks.old ≤ MAX_BLOCKS }
         requires blocks { blocks.old ≡ flat_map (blocks_of form) (pieces lengths.now values.now) }
         ensures { blocks.new
             ≡ flat_map (decrypted form (decryption self.now)) (pieces lengths.now values.now) };
@@ -56,9 +56,9 @@ pub(crate) struct OneKey<C> {
 impl<C: ManyBlocks + Drop> ValueKeys for OneKey<C> {
     ghost use Rattle.std.proofs.Common.{lit≤};
 
-    const MOST_BLOCKS: usize = 1024;
+    const MAX_BLOCKS: usize = 1024;
 
-    ghost MOST_BLOCKS = { 1024 };
+    ghost MAX_BLOCKS = { 1024 };
 
     ghost fit_buffer = { (lit≤ tt, lit≤ tt) };
 

@@ -1,5 +1,5 @@
-//! Columns, written under one key: the values of texts, one after another. Short ones are encrypted in
-//! step, a block of each at a time, as records of `des_fast` are; a longer one goes by itself.
+//! Columns, written under one key: the values of texts, one after another. Short ones are encrypted
+//! in step, a block of each at a time, as records of `des_fast` are; a longer one goes by itself.
 
 ghost use Rattle.std.specs.Prelude.{◌≡◌, ◌≤◌, ◌<◌, ◌+◌, ◌*◌, ◌/◌, ◌%◌, ◌^◌, ◌++◌, ◌↔◌, ◌∷◌, ℕ, List, IsTrue, length, map, replicate, sum, take};
 ghost use Rattle.std.specs.List.{All, sum_by};
@@ -11,11 +11,10 @@ ghost use Rattle.des_columns.specs.Forms.{mode_after};
 ghost use Rattle.des_columns.specs.Waiting.{AreInTurn};
 ghost use Rattle.des_columns.specs.Writings.{AreEnciphered, IsColumnWritten, IsTextSize, IsWriting, padded_by, size_in_blocks, value_size};
 
-use crate::column::add_up_to;
 use crate::form::{BlockMode, ValueForm};
 use crate::waiting::Waiting;
 use des::cbc::next_vector;
-use des_fast::many::{ManyBlocks, Slice, SpreadKeys, SpreadOnce};
+use des_fast::many::{ManyBlocks, Slice, SpreadKeys, SpreadOnce, add_up_to};
 
 // The blocks that are encrypted together, and the texts.
 const BLOCKS: usize = 1024;
@@ -81,8 +80,8 @@ struct Gathered {
     longest: usize,
 }
 
-// Writes the first texts with their padding into the buffer, as long as they fit, and how many blocks
-// each has into `sizes`. What was in the places of their values is written over.
+// Writes the first texts with their padding into the buffer, as long as they fit, and how many
+// blocks each has into `sizes`. What was in the places of their values is written over.
 fn gather(
     form: ValueForm,
     texts: &[u8],
@@ -248,8 +247,8 @@ impl<C: SpreadOnce + Drop> Writer<C> {
         bytes.copy_from_slice(blocks.as_flattened());
     }
 
-    // Encrypts texts in step, from the first on, as long as they fit the buffer, if this is worth it;
-    // unless some wait there. What was in the places of their values is written over.
+    // Encrypts texts in step, from the first on, as long as they fit the buffer, if this is worth
+    // it; unless some wait there. What was in the places of their values is written over.
     fn refill<S: Slice>(
         &self,
         keys: &SpreadKeys<S>,
@@ -319,9 +318,9 @@ impl<C: SpreadOnce + Drop> Writer<C> {
 }
 
 /// Writes the values of a column under one key, of texts of these lengths, one after another: each
-/// with the number of the key, if the form has one. Value k stands behind those before it. Texts that
-/// fit the buffer are encrypted in step, a block of each at a time. It is not inlined: else a call that
-/// takes several ciphers would take the stack of all.
+/// with the number of the key, if the form has one. Value k stands behind those before it. Texts
+/// that fit the buffer are encrypted in step, a block of each at a time. It is not inlined: else a
+/// call that takes several ciphers would take the stack of all.
 #[inline(never)]
 #[tactic(auto, using(std::proofs::lemmas::List::Sums::sum_by_more_le))]
 pub fn write_values<C: SpreadOnce + Drop, S: Slice>(

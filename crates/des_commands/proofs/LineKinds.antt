@@ -5,7 +5,7 @@ use Rattle.std.proofs.lemmas.List.Folds.{concat-append}
 use Rattle.std.proofs.KnownBytes.{Consumes-trans}
 use Rattle.std.specs.List.{concat}
 use Rattle.std.specs.Io.KnownBytes.{Consumes, IsAtEnd}
-use Rattle.des_arguments.specs.declared.command.lines.LineCoding.{LineCoding}
+use Rattle.des_requests.specs.declared.lines.LineCoding.{LineCoding}
 use Rattle.des_commands.specs.declared.lines.line_kind.LineKind.{LineKind}
 use Rattle.des_commands.specs.LineKinds.{IsOfKind, ReadsLine, ReadsLines}
 use Rattle.des_commands.specs.LineColumns.{AreOfKinds, IsColumnOf}

@@ -10,7 +10,7 @@ use Rattle.des_columns.specs.declared.status.TheConstants.{OK}
 use Rattle.des_commands.specs.declared.lines.LinesJob.{LinesJob}
 use Rattle.des_commands.specs.declared.lines.Tally.{Tally}
 use Rattle.des_commands.specs.declared.lines.columns.LineColumn.{LineColumn}
-use Rattle.des_arguments.specs.declared.command.lines.LineCoding.{LineCoding}
+use Rattle.des_requests.specs.declared.lines.LineCoding.{LineCoding}
 use Rattle.des_commands.specs.declared.lines.line_kind.LineKind.{LineKind}
 use Rattle.des_commands.specs.declared.lines.line_kind.LineKind.TheVariants.{Value}
 use Rattle.des_commands.specs.LineAnswers.{IsOutcome, Outcome}

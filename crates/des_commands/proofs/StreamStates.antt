@@ -3,10 +3,10 @@ use Rattle.std.proofs.Common.{◌≡◌, ℕ, ◌-◌, min, List, Option}
 use Rattle.des_io.specs.Streams.{Skips}
 use Rattle.des_io.specs.declared.mode.BlockMode.{BlockMode}
 use Rattle.des_modes.specs.declared.stream.Stream.{Stream}
-use Rattle.des_arguments.specs.declared.command.streams.BlockRange.{BlockRange}
-use Rattle.des_arguments.specs.declared.command.streams.Job.{Job}
-use Rattle.des_arguments.specs.declared.command.streams.StreamMode.{StreamMode}
-use Rattle.des_arguments.specs.StreamRequests.{from_of}
+use Rattle.des_requests.specs.declared.streams.BlockRange.{BlockRange}
+use Rattle.des_requests.specs.declared.streams.Job.{Job}
+use Rattle.des_requests.specs.declared.streams.StreamMode.{StreamMode}
+use Rattle.des_requests.specs.StreamRequests.{from_of}
 use Rattle.des_commands.specs.Jobs.{vector_of, Begins, Reaches}
 
 pub Reaches-skipped : (mode : StreamMode) (job : Job) (skipped vectors from : ℕ) (part : Option BlockRange)

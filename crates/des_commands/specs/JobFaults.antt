@@ -12,14 +12,14 @@ use Rattle.des_io.specs.declared.mode.BlockMode.{BlockMode}
 use Rattle.des_io.specs.declared.padding.Padding.{Padding}
 use Rattle.des_lines.specs.declared.fault.FaultKind.{FaultKind}
 use Rattle.des_lines.specs.declared.fault.FaultKind.TheVariants.{KeyLength, Memory}
-use Rattle.des_arguments.specs.StreamRequests.{key_size_of}
-use Rattle.des_arguments.specs.declared.command.streams.CipherMode.{CipherMode}
-use Rattle.des_arguments.specs.declared.command.streams.CipherMode.TheVariants.{Stream}
-use Rattle.des_arguments.specs.declared.command.streams.StreamMode.{StreamMode}
-use Rattle.des_arguments.specs.declared.command.streams.BlockRange.{BlockRange}
-use Rattle.des_arguments.specs.declared.command.streams.Job.{Job}
-use Rattle.des_arguments.specs.declared.command.streams.Work.{Work}
-use Rattle.des_arguments.specs.declared.command.streams.Work.TheVariants.{Encrypt, Decrypt}
+use Rattle.des_requests.specs.StreamRequests.{key_size_of}
+use Rattle.des_requests.specs.declared.streams.CipherMode.{CipherMode}
+use Rattle.des_requests.specs.declared.streams.CipherMode.TheVariants.{Stream}
+use Rattle.des_requests.specs.declared.streams.StreamMode.{StreamMode}
+use Rattle.des_requests.specs.declared.streams.BlockRange.{BlockRange}
+use Rattle.des_requests.specs.declared.streams.Job.{Job}
+use Rattle.des_requests.specs.declared.streams.Work.{Work}
+use Rattle.des_requests.specs.declared.streams.Work.TheVariants.{Encrypt, Decrypt}
 use Rattle.des_lines.specs.Faults.{IsOfStream}
 use Rattle.des_lines.specs.Written.{AppendsPrefix}
 use Rattle.des_commands.specs.Jobs.{AreOfKey, vector_of, Begins, bytes_at_most, Reaches}

@@ -16,17 +16,17 @@ use Rattle.des_io.specs.StreamCiphers.{Applies}
 use Rattle.des_io.specs.declared.mode.BlockMode.{BlockMode}
 use Rattle.des_io.specs.declared.mode.BlockMode.TheVariants.{Ecb, Cbc}
 use Rattle.des_io.specs.declared.padding.Padding.{Padding}
-use Rattle.des_arguments.specs.declared.command.streams.Cipher.{Cipher}
-use Rattle.des_arguments.specs.declared.command.streams.Cipher.TheVariants.{Des, TdesEde2, TdesEde3}
-use Rattle.des_arguments.specs.declared.command.streams.CipherMode.{CipherMode}
-use Rattle.des_arguments.specs.declared.command.streams.CipherMode.TheVariants.{Stream}
-use Rattle.des_arguments.specs.declared.command.streams.StreamMode.{StreamMode}
-use Rattle.des_arguments.specs.declared.command.streams.StreamMode.TheVariants.{Cfb, Cfb8, Ofb, Ctr}
-use Rattle.des_arguments.specs.declared.command.streams.BlockRange.{BlockRange}
-use Rattle.des_arguments.specs.declared.command.streams.Job.{Job}
-use Rattle.des_arguments.specs.declared.command.streams.Work.{Work}
-use Rattle.des_arguments.specs.declared.command.streams.Work.TheVariants.{Encrypt, Decrypt}
-use Rattle.des_arguments.specs.StreamRequests.{from_of, key_size_of}
+use Rattle.des_requests.specs.declared.streams.Cipher.{Cipher}
+use Rattle.des_requests.specs.declared.streams.Cipher.TheVariants.{Des, TdesEde2, TdesEde3}
+use Rattle.des_requests.specs.declared.streams.CipherMode.{CipherMode}
+use Rattle.des_requests.specs.declared.streams.CipherMode.TheVariants.{Stream}
+use Rattle.des_requests.specs.declared.streams.StreamMode.{StreamMode}
+use Rattle.des_requests.specs.declared.streams.StreamMode.TheVariants.{Cfb, Cfb8, Ofb, Ctr}
+use Rattle.des_requests.specs.declared.streams.BlockRange.{BlockRange}
+use Rattle.des_requests.specs.declared.streams.Job.{Job}
+use Rattle.des_requests.specs.declared.streams.Work.{Work}
+use Rattle.des_requests.specs.declared.streams.Work.TheVariants.{Encrypt, Decrypt}
+use Rattle.des_requests.specs.StreamRequests.{from_of, key_size_of}
 
 -- ---- ciphers
 

@@ -2,7 +2,7 @@
 use Rattle.std.specs.Prelude.{◌≡◌, ◌<◌, ◌≤◌, ℕ, ℤ, Bool, true, false, Option, Ok, List, [], ◌∷◌, ◌++◌, length, map, take, drop, sum, slice_index, slice_index_or, ⊤}
 use Rattle.std.specs.List.{concat}
 use Rattle.des_commands.specs.declared.lines.columns.LineColumn.{LineColumn}
-use Rattle.des_arguments.specs.declared.command.lines.LineCoding.{LineCoding}
+use Rattle.des_requests.specs.declared.lines.LineCoding.{LineCoding}
 use Rattle.des_commands.specs.declared.lines.line_kind.LineKind.{LineKind}
 use Rattle.des_commands.specs.declared.lines.line_kind.LineKind.TheVariants.{Value}
 use Rattle.des_commands.specs.LineAnswers.{IsOutcome, Outcome}

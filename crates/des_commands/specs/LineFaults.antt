@@ -17,9 +17,9 @@ name_of Padding = codes "Padding"
 name_of Unprintable = codes "Unprintable"
 
 abbrev pub sentence_of : LineFault → List ℕ
-sentence_of Digit = codes "a character is no hexadecimal digit"
+sentence_of Digit = codes "a character is not a hexadecimal digit"
 sentence_of DigitCount = codes "the number of hexadecimal digits is odd"
-sentence_of Base64 = codes "it is no Base64"
+sentence_of Base64 = codes "it is not Base64"
 sentence_of NotEncrypted = codes "the value is not encrypted"
 sentence_of KeyNumber = codes "the value names a key that is not given"
 sentence_of Length = codes "the value ends within a block of 8 bytes"

@@ -10,11 +10,11 @@ use Rattle.des_columns.specs.Jasypt.{Reads as ReadsJasypt}
 use Rattle.des_columns.specs.KeyFile.{keys_in}
 use Rattle.des_columns.specs.MysqlColumns.{Reads as ReadsMysql, ReadsByNumber}
 use Rattle.des_columns.specs.PgcryptoColumns.{Reads as ReadsPgcrypto}
-use Rattle.des_arguments.specs.declared.command.lines.LineSecret.{LineSecret}
-use Rattle.des_arguments.specs.declared.command.lines.LineSecret.TheVariants.{Password, Key}
-use Rattle.des_arguments.specs.declared.command.lines.LinesRequest.{LinesRequest}
-use Rattle.des_arguments.specs.declared.command.lines.ValueFormat.{ValueFormat}
-use Rattle.des_arguments.specs.declared.command.lines.ValueFormat.TheVariants.{Mysql, Pgcrypto, Jasypt}
+use Rattle.des_requests.specs.declared.lines.LineSecret.{LineSecret}
+use Rattle.des_requests.specs.declared.lines.LineSecret.TheVariants.{Password, Key}
+use Rattle.des_requests.specs.declared.lines.LinesRequest.{LinesRequest}
+use Rattle.des_requests.specs.declared.lines.ValueFormat.{ValueFormat}
+use Rattle.des_requests.specs.declared.lines.ValueFormat.TheVariants.{Mysql, Pgcrypto, Jasypt}
 use Rattle.des_commands.specs.declared.lines.LinesJob.{LinesJob}
 use Rattle.des_commands.specs.LineRuns.{Opening}
 

@@ -10,8 +10,8 @@ use Rattle.base64.specs.GeneralPurpose.{decode_of as base64_of}
 use Rattle.hex.specs.Hex.{decode_of as digits_decoded}
 use Rattle.des_commands.specs.declared.lines.line_fault.LineFault.{LineFault}
 use Rattle.des_commands.specs.declared.lines.line_fault.LineFault.TheVariants.{Digit, DigitCount, Base64 as NoBase64}
-use Rattle.des_arguments.specs.declared.command.lines.LineCoding.{LineCoding}
-use Rattle.des_arguments.specs.declared.command.lines.LineCoding.TheVariants.{Hexadecimal, Base64, Bytes}
+use Rattle.des_requests.specs.declared.lines.LineCoding.{LineCoding}
+use Rattle.des_requests.specs.declared.lines.LineCoding.TheVariants.{Hexadecimal, Base64, Bytes}
 use Rattle.des_commands.specs.declared.lines.line_kind.NullWord.{NullWord}
 use Rattle.des_commands.specs.declared.lines.line_kind.NullWord.TheVariants.{Upper, Lower, Escape}
 use Rattle.des_commands.specs.declared.lines.line_kind.LineKind.{LineKind}

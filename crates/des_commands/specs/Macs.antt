@@ -11,10 +11,10 @@ use Rattle.des_passwords.specs.HexStreams.{bytes_of}
 use Rattle.des_lines.specs.declared.fault.Reason.{Reason}
 use Rattle.des_lines.specs.declared.fault.FaultKind.{FaultKind}
 use Rattle.des_lines.specs.declared.fault.FaultKind.TheVariants.{KeyLength, Read}
-use Rattle.des_arguments.specs.declared.command.PaddingMethod.{PaddingMethod}
-use Rattle.des_arguments.specs.declared.command.PaddingMethod.TheVariants.{One, Two}
-use Rattle.des_arguments.specs.declared.command.Method.{Method}
-use Rattle.des_arguments.specs.declared.command.Method.TheVariants.{CbcMac, Retail, Cmac}
+use Rattle.des_requests.specs.declared.command.PaddingMethod.{PaddingMethod}
+use Rattle.des_requests.specs.declared.command.PaddingMethod.TheVariants.{One, Two}
+use Rattle.des_requests.specs.declared.command.Method.{Method}
+use Rattle.des_requests.specs.declared.command.Method.TheVariants.{CbcMac, Retail, Cmac}
 
 -- a message with its padding
 abbrev pub padded_by : PaddingMethod → List ℕ → List ℕ

@@ -9,8 +9,8 @@ use Rattle.des_lines.specs.declared.keys.Verdict.{Verdict}
 use Rattle.des_lines.specs.declared.keys.Verdict.TheVariants.{DoubleLength as TwoParts, Weak}
 use Rattle.des_commands.specs.declared.outputs.notices.Notice.{Notice}
 use Rattle.des_commands.specs.declared.outputs.notices.Notice.TheVariants.{Hexadecimal, Base64, WeakKey, DoubleLength, Limit, Permissions}
-use Rattle.des_arguments.specs.declared.command.streams.WeakKeys.{WeakKeys}
-use Rattle.des_arguments.specs.declared.command.streams.WeakKeys.TheVariants.{Refuse, Warn}
+use Rattle.des_requests.specs.declared.streams.WeakKeys.{WeakKeys}
+use Rattle.des_requests.specs.declared.streams.WeakKeys.TheVariants.{Refuse, Warn}
 use Rattle.des_lines.specs.Faults.{line_with}
 use Rattle.des_lines.specs.Keys.{IsVerdict}
 use Rattle.des_lines.specs.Written.{AppendsPrefix}
@@ -21,10 +21,10 @@ use Rattle.des_lines.specs.Written.{AppendsPrefix}
 abbrev pub notice_line : Notice → List ℕ → List ℕ
 notice_line Hexadecimal about =
     line_with (codes "Hexadecimal") about
-    (codes "the input is hexadecimal digits, and was taken as text: --hex reads it as bytes")
+    (codes "the input is hexadecimal digits, and was taken as it is: --hex decodes it")
 notice_line Base64 about =
     line_with (codes "Base64") about
-    (codes "the input is a text in Base64, and was taken as bytes: --base64 decodes it")
+    (codes "the input is a text in Base64, and was taken as it is: --base64 decodes it")
 notice_line WeakKey about = line_with (codes "WeakKey") about (codes "the key is weak, and is used")
 notice_line DoubleLength about =
     line_with (codes "DoubleLength") about
@@ -71,7 +71,7 @@ blocks_of Unpadded bytes = bytes / 8
 blocks_of Zeros bytes = div_ceil bytes 8
 blocks_of padding bytes = bytes / 8 + 1
 
--- the limit is told of where this number of bytes passes it, and then no more; what is left to be told, and
+-- the limit is reported once this number of bytes passes it, and then no more; what is left to report, and
 -- what was written: the line, or a prefix of it
 abbrev pub TellsLimit : Option Padding → ℕ → Option Padding → Option (List ℕ) → Option (List ℕ) → Type 0
 TellsLimit None bytes rest old new = (rest ≡ None) × (new ≡ old)

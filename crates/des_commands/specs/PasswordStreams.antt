@@ -8,7 +8,7 @@ use Rattle.des_lines.specs.declared.fault.FileFault.TheVariants.{NotSalted, Salt
 use Rattle.des_lines.specs.declared.fault.Reason.{Reason}
 use Rattle.des_lines.specs.declared.fault.FaultKind.{FaultKind}
 use Rattle.des_lines.specs.declared.fault.FaultKind.TheVariants.{Usage, Read, File, EmptyPassword}
-use Rattle.des_arguments.specs.declared.command.streams.Job.{Job}
+use Rattle.des_requests.specs.declared.streams.Job.{Job}
 use Rattle.des_commands.specs.declared.streams.passwords.PasswordJob.{PasswordJob}
 use Rattle.des_lines.specs.declared.keys.Verdict.{Verdict}
 use Rattle.des_commands.specs.declared.outputs.notices.Notice.{Notice}
@@ -16,7 +16,7 @@ use Rattle.des_lines.specs.Keys.{IsVerdict}
 use Rattle.des_commands.specs.Notices.{ruling_of, notice_line}
 use Rattle.des_lines.specs.Written.{AppendsPrefix}
 use Rattle.des_commands.specs.Jobs.{IsDone}
-use Rattle.des_arguments.specs.StreamRequests.{key_size_of, IsJobOf}
+use Rattle.des_requests.specs.StreamRequests.{key_size_of, IsJobOf}
 use Rattle.des_commands.specs.JobFaults.{IsUntouched, HasStopped}
 
 -- what encrypts is not empty

@@ -18,7 +18,7 @@ pub const NULL_DEVICE: &str = "/dev/null";
 const DESCRIPTORS: &str = "/proc/self/fd";
 
 // The symbolic links that are followed, as many as Linux follows.
-const LINKS_AT_MOST: u32 = 40;
+const MAX_LINKS: u32 = 40;
 
 // The bits of the mode of a folder where everyone may write, and remove only their own files.
 const SHARED: u32 = 0o1002;
@@ -52,8 +52,8 @@ pub enum Followed {
 }
 
 /// Occupies each of the descriptors 0 to 2 that is closed, so that no file opened later becomes a
-/// standard stream. The null device is opened for the opposite direction, so that reading and writing
-/// still fail. The error is that the system has no null device.
+/// standard stream. The null device is opened for the opposite direction, so that reading and
+/// writing still fail. The error is that the system has no null device.
 pub fn occupy_closed(rt: &HostRuntime) -> io::Result<()> {
     for _ in 0..3 {
         // A pipe needs no file. Its reader has the lowest closed descriptor.
@@ -107,8 +107,8 @@ pub fn folder_of(path: &str) -> &str {
     }
 }
 
-/// What is known of a file, or that there is none. The system may tell neither: that is an error, and
-/// never the answer that there is none.
+/// What is known of a file, or that there is none. The system may tell neither: that is an error,
+/// and never the answer that there is none.
 pub fn if_there(known: io::Result<Metadata>) -> io::Result<Option<Metadata>>
     ensures there { IfOk known (λ metadata. result ≡ Ok (Some metadata)) }
     ensures none { IfErr known (λ error. error_kind error ≡ ErrorKind.NotFound → result ≡ Ok None) }
@@ -151,12 +151,13 @@ fn is_of_descriptor(rt: &HostRuntime, path: &str, link: &Metadata) -> io::Result
     Ok(folder.is_some_and(|folder| folder.dev() == link.dev()))
 }
 
-/// Follows the symbolic links at the end of a path, up to a descriptor. The error is `InvalidFilename`
-/// if one leads to a name that is no text, that the links don't end, or the system's.
+/// Follows the symbolic links at the end of a path, up to a descriptor. The error is
+/// `InvalidFilename` if one leads to a name that is no text, that the links don't end, or the
+/// system's.
 pub fn follow(rt: &HostRuntime, path: &str) -> io::Result<Followed> {
     let mut name = String::from_str(rt.alloc(), path)?;
     let mut folders = Vec::new(rt.alloc());
-    for _ in 0..=LINKS_AT_MOST {
+    for _ in 0..=MAX_LINKS {
         if let Some(number) = descriptor_of(name.as_str()) {
             return Ok(Followed::Descriptor(number));
         }
@@ -183,8 +184,9 @@ fn value_of<'a>(text: &'a str, name: &str) -> Option<&'a str> {
         .map(|value| value.trim())
 }
 
-/// How a descriptor stands: std opens files by name alone, and a name has no position. The error is `NotFound` if it is closed, the system's, or
-/// `InvalidData` if its text has no position or no flags.
+/// The state of a descriptor, read from `/proc`: std opens files by name alone, and a name has no
+/// position. The error is `NotFound` if the descriptor is closed, `InvalidData` if its text has no
+/// position or no flags, or the system's.
 pub fn descriptor_state_of(rt: &HostRuntime, number: u64) -> io::Result<DescriptorState> {
     let path = format!(in rt.alloc(); "/proc/self/fdinfo/{number}")?;
     let text = fs::read_to_string(rt, path.as_str())?;

@@ -1,5 +1,5 @@
-//! What the program `cukvashe` does: DES and triple DES for files and pipes, MACs, and payment
-//! formats. The program itself is one call of `run`.
+//! What the program `cukvashe` does for a command: DES and triple DES for files and pipes, MACs,
+//! and payment formats. How the command was typed is not known here.
 #![tactic(auto)]
 
 mod descriptors;
@@ -11,4 +11,4 @@ mod private_keys;
 mod program;
 mod streams;
 
-pub use program::run;
+pub use program::{occupy_descriptors, run, tell_fault};

@@ -19,9 +19,9 @@ ghost use Rattle.des_commands.specs.LineKinds.{ReadsLines};
 use crate::inputs::files::read_fault;
 use answers::add_outcome;
 use columns::{LineColumn, Opener, open_column};
-use des_arguments::command::lines::LineCoding;
 use des_io::pieces::write_whole;
 use des_lines::fault::{FaultKind, Reason};
+use des_requests::lines::LineCoding;
 use line_fault::{LineFault, tell_line};
 use line_kind::{LineKind, add_value};
 use std::alloc::{AllocError, Global};
@@ -132,9 +132,9 @@ fn read_lines<R: BufRead>(
     Ok(true)
 }
 
-// Counts a line, and tells why it has no answer, if it has none. What can't be written on `err` is no
-// fault: no clause says that only a line that it failed to take is left out, since std has no word for
-// that.
+// Counts a line, and tells why it has no answer, if it has none. What can't be written on `err` is
+// no fault: no clause says that only a line that it failed to take is left out, since std has no
+// word for that.
 fn count_line<E: Write>(
     alloc: Global,
     job: &LinesJob,
@@ -199,8 +199,8 @@ fn answer_line<E: Write>(
     Ok(goes_on)
 }
 
-// Adds the answer of line `at` of a column, the first being 0, whose text begins at byte `from` of the
-// texts.
+// Adds the answer of line `at` of a column, the first being 0, whose text begins at byte `from` of
+// the texts.
 fn answer_at<E: Write>(
     alloc: Global,
     job: &LinesJob,
@@ -284,9 +284,9 @@ fn run_piece<O: Opener, R: BufRead, W: Write, E: Write>(
     Ok(more & goes_on)
 }
 
-/// Opens the value of each line that a reader gives, and writes its text, a line each. Blanks around
-/// a value don't count. A line with nothing else is answered by an empty one, and a word for what is
-/// no value by itself (`NullWord`).
+/// Opens the value of each line that a reader gives, and writes its text, a line each. Blanks
+/// around a value don't count. A line with nothing else is answered by an empty one, and a word for
+/// what is no value by itself (`NullWord`).
 ///
 /// A line whose value can't be read or opened, or whose text fits no line, is reported on `err` by
 /// its number. It is answered by an empty line if the job keeps going, and otherwise ends the run.

@@ -4,12 +4,12 @@ ghost use Rattle.std.specs.Prelude.{◌≡◌, ◌<◌, length, IfOk, IfErr};
 ghost use Rattle.des_commands.specs.Macs.{tag_over, tag_by, IsTagOfAll, FailsToAuthenticate, IsKeyOver, HasKeySize};
 
 use des::cipher::KeyedCipher;
-use des_arguments::command::Method;
-use des_arguments::command::PaddingMethod::{One, Two};
 use des_fast::{Des, TdesEde2, TdesEde3};
 use des_io::pieces::fill;
 use des_lines::fault::{FaultKind, Reason};
 use des_mac::{CbcMac, Cmac, Mac, Method1, Method2, RetailMac};
+use des_requests::command::Method;
+use des_requests::command::PaddingMethod::{One, Two};
 use std::io::Read;
 
 // The tag of all that a reader has, under a key of the bytes that the type takes.

@@ -18,8 +18,8 @@ const LINE: usize = 64;
 
 // ---- what is decrypted
 
-// The bytes of an element's length and contents: the number of those before the contents, and of the
-// contents, of an element that begins the bytes.
+// The bytes of an element's length and contents: the number of those before the contents, and of
+// the contents, of an element that begins the bytes.
 fn extent_of(bytes: &[u8]) -> Option<(usize, usize)>
     ensures value { result ≡ extent_by bytes.now }
     ensures bound { IfSome result (λ extent. extent.0 + extent.1 < 2 ^ 25) }
@@ -36,8 +36,8 @@ fn extent_of(bytes: &[u8]) -> Option<(usize, usize)>
     }
 }
 
-/// Whether all of the bytes are one sequence, as a private key is: an element with the tag 48 and as
-/// many bytes as its length says, in whichever form of BER the length is.
+/// Whether all of the bytes are one sequence, as a private key is: an element with the tag 48 and
+/// as many bytes as its length says, in whichever form of BER the length is.
 pub fn is_sequence(bytes: &[u8]) -> bool
     ensures { result ≡ is_sequence_of bytes.now }
 {
@@ -183,8 +183,8 @@ fn add_number(alloc: Global, text: String, number: u64) -> Result<String, AllocE
     }
 }
 
-/// The text of an object identifier (ITU-T X.690, 8.19): its numbers with points between, or its bytes
-/// in hexadecimal digits if they end within a number, or one has more than 56 bits.
+/// The text of an object identifier (ITU-T X.690, 8.19): its numbers with points between, or its
+/// bytes in hexadecimal digits if they end within a number, or one has more than 56 bits.
 pub fn object_identifier(alloc: Global, contents: &[u8]) -> Result<String, AllocError>
     ensures { IfOk result (λ text. string_bytes text ≡ object_identifier_text contents.now) }
 {

@@ -7,13 +7,12 @@ ghost use Rattle.std.specs.Prelude.{◌≡◌, ◌<◌, length, IfOk, IfErr};
 ghost use Rattle.des.specs.Relations.{AgreeOnBlocks};
 ghost use Rattle.des_modes.specs.States.{HasBegun};
 ghost use Rattle.des_io.specs.Streams.{passage_of};
-ghost use Rattle.des_arguments.specs.StreamRequests.{from_of};
+ghost use Rattle.des_requests.specs.StreamRequests.{from_of};
 ghost use Rattle.des_commands.specs.Jobs.{GoesOnFromBlock, IsNamed, DoesPadded, Does, IsDone};
 ghost use Rattle.des_commands.specs.Jobs.{vector_of, bytes_at_most, Begins, DoesStream};
 ghost use Rattle.des_commands.specs.JobFaults.{StopsPadded, StopsStream, Stops, HasStopped};
 
 use des::cipher::{KeyBytes, KeyedCipher, are_bytes};
-use des_arguments::command::streams::{BlockRange, Cipher, CipherMode, Job, StreamMode, Work};
 use des_fast::many::ManyBlocks;
 use des_fast::{Des, TdesEde2, TdesEde3};
 use des_io::pieces::write_whole;
@@ -25,6 +24,7 @@ use des_lines::fault::FaultKind;
 use des_modes::Direction;
 use des_modes::modes::OFB;
 use des_modes::stream::Stream;
+use des_requests::streams::{BlockRange, Cipher, CipherMode, Job, StreamMode, Work};
 use std::alloc::Global;
 use std::io::{Read, Write};
 
@@ -79,8 +79,8 @@ fn vector_in(mode: BlockMode) -> [u8; 8]
     }
 }
 
-// A stream at its beginning, or in it from a block on: by the vector of the stream, and the block before
-// the part.
+// A stream at its beginning, or in it from a block on: by the vector of the stream, and the block
+// before the part.
 fn stream_from(mode: StreamMode, vector: &[u8; 8], before: &[u8; 8], from: u64) -> Stream
     ensures begun { HasBegun result }
     ensures begins { Begins mode vector.now before.now from result }

@@ -1,8 +1,8 @@
 //! ECB and CBC over any context and any width: what blocks become, by the relation of the key that
 //! the context is made from. A call refuses words that do not end with the mark of a cipher's init,
-//! by `ERR_CONTEXT`, before it looks at anything else. `size` is the caller's number of bytes; a call
-//! refuses it unless it is 8 for each block. The cipher is made by the type that reads tables, for
-//! contexts without tables too: the calls of lists are told which it is, and read none then.
+//! by `ERR_CONTEXT`, before it looks at anything else. `size` is the caller's number of bytes; a
+//! call refuses it unless it is 8 for each block. The cipher is made by the type that reads tables,
+//! for contexts without tables too: the calls of lists are told which it is, and read none then.
 
 ghost use Rattle.std.specs.Prelude.{◌≡◌, ◌≢◌, ◌↔◌, ℕ, List, IsTrue};
 ghost use Rattle.des.specs.Blocks.{AnswersEach};

@@ -1,5 +1,5 @@
-//! The cipher of a context, made anew for each call. Which one it is, and whether it may read tables, is
-//! known only at run time: the number of words and the mark say so.
+//! The cipher of a context, made anew for each call. Which one it is, and whether it may read
+//! tables, is known only at run time: the number of words and the mark say so.
 
 ghost use Rattle.std.specs.Prelude.{◌≡◌, ◌↔◌, ◌≤◌, ◌<◌, ◌*◌, ℕ, List, length, map, IsSome, IfSome};
 ghost use Rattle.des.specs.Blocks.{part};
@@ -56,8 +56,8 @@ pub(crate) fn mark(algorithm: u32, no_tables: bool, words: usize) -> u64
     MARK + 0x10000 * algorithm as u64 + (if no_tables { 0x100 } else { 0 }) + (words / 16) as u64
 }
 
-/// How the calls of words that end with a mark of the algorithm go: by the cipher of this type, and
-/// whether they are to read no table. `None` if the words have no such mark.
+/// The type of cipher of a context, and whether its calls are to read no table. `None` if the words
+/// do not end with a mark of the algorithm.
 pub(crate) fn opened(algorithm: u32, context: &[u64]) -> Option<(CipherType, bool)>
     ensures marked { IsSome result ↔ HasMark algorithm context.now }
     ensures cipher_type { IfSome result (λ opened. (key : List ℕ) → IsContextOf context.now key

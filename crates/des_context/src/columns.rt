@@ -35,8 +35,8 @@ const _: () = prove!(
         && ERR_KEY_NUMBER == status::ERR_KEY_NUMBER
 );
 
-/// Reads values of MySQL and MariaDB under a key string, as `des_columns::mysql::decrypt_values` does.
-/// The status is `ERR_COUNTS` if the lengths do not fit, and then nothing is written, and
+/// Reads values of MySQL and MariaDB under a key string, as `des_columns::mysql::decrypt_values`
+/// does. The status is `ERR_COUNTS` if the lengths do not fit, and then nothing is written, and
 /// `ERR_VALUES` if the status of some value is not `OK`.
 pub fn mysql_decrypt_values<S: Slice>(
     password: &[u8],
@@ -209,10 +209,10 @@ pub fn pgcrypto_encrypt_values<S: Slice>(
     status
 }
 
-/// Writes the key of a password and a salt, and the vector behind it, by the algorithm of this name.
-/// The status is that of the first fault, and then the key is unchanged: `ERR_ALGORITHM`;
-/// `ERR_KEY_LENGTH` if there are not as many bytes; `ERR_ITERATIONS` if there is no iteration, or more
-/// than 2^32 - 1; `ERR_SALT_LENGTH` if Java's rule has a salt of other than 8 bytes.
+/// Writes the key of a password and a salt, and the vector behind it, by the algorithm of this
+/// name. The status is that of the first fault, and then the key is unchanged: `ERR_ALGORITHM`;
+/// `ERR_KEY_LENGTH` if there are not as many bytes; `ERR_ITERATIONS` if there is no iteration, or
+/// more than 2^32 - 1; `ERR_SALT_LENGTH` if Java's rule has a salt of other than 8 bytes.
 pub fn pbe_key(
     algorithm: &[u8],
     iterations: usize,

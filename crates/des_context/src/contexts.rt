@@ -1,8 +1,8 @@
-//! Contexts: what a caller keeps of a key between calls, as words. A context has sixteen words for
-//! each part of its key, the round keys, and one more, its mark: so 17 words are one of DES, 33 one
-//! of triple DES with two parts, 49 with three. It has no pointers and owns nothing, so a copy of its
-//! words is as good. Calls refuse words that do not end with their mark: those that no init made, or
-//! that of another type.
+//! Contexts: what a caller keeps of a key between calls, as words. A context has sixteen words of
+//! round keys for each part of its key, and then its mark: 17 words for DES, 33 for triple DES with
+//! two parts, 49 with three. It has no pointers and owns nothing, so its words may be copied. Calls
+//! refuse words that do not end with their mark: those that no init made, or the init of another
+//! type.
 
 ghost use Rattle.std.specs.Prelude.{◌≡◌, ◌≢◌, ◌↔◌, ◌≤◌, ◌<◌, ◌+◌, ◌*◌, ℕ, length};
 ghost use Rattle.des.specs.Blocks.{part};

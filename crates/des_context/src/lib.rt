@@ -1,6 +1,7 @@
 //! Contexts for callers in other languages: a cipher as plain words, in memory of the caller's own,
 //! and what the calls of the library for C do over them, over lists and over passwords, once for
-//! every cipher and every width. `des_c` exports these calls, and beside them those of other crates.
+//! every cipher and every width. `des_c` exports these calls, and beside them those of other
+//! crates.
 #![tactic(auto)]
 
 pub mod block_modes;

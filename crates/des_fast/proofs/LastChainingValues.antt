@@ -1,4 +1,4 @@
--- CbcUnder in step: a block more of each, and the chains of a group more.
+-- Chaining in step: a block more of each, and the chains of a group more.
 use Rattle.std.proofs.Common.{◌≡◌, ℕ, ◌+◌, ◌-◌, ◌<◌, ◌≤◌, List, [], length, take, drop, get_or, min, ap, sym, ◌∙◌, arith, inl, inr, add-one, length-take-le}
 use Rattle.std.proofs.lemmas.Bool.{cases_lt}
 use Rattle.std.proofs.lemmas.List.{length-drop, get_or-take, get_or-drop, get_or_append_left, get_or-append_right}

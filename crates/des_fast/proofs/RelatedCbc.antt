@@ -1,4 +1,4 @@
--- CbcUnder by a relation of blocks, of a cipher whose graph it is.
+-- CBC by a relation of blocks, of a cipher whose graph it is.
 use Rattle.std.proofs.Common.{◌≡◌, ℕ, List}
 use Rattle.std.specs.List.{All}
 use Rattle.des.specs.Blocks.{IsBlock}

@@ -4,30 +4,30 @@ use Rattle.std.proofs.lemmas.Bool.{cases_lt, and_parts, eqb-true, ltb-true, agre
 use Rattle.std.proofs.lemmas.List.{length-drop, length-map, get_or-map, get_or-take, get_or-drop, get_or_append_left, get_or-append_right}
 use Rattle.des.specs.Bits.{bit, select}
 use Rattle.des.specs.Tables.{permuted_choice_2}
-use Rattle.des_fast.specs.declared.slices.rounds.TheConstants.{PLACES}
+use Rattle.des_fast.specs.declared.slices.rounds.TheConstants.{PERMUTED_CHOICE_2}
 use Rattle.des_fast.specs.RoundKeySlices.{round_key_of, rotations, round_keys_by}
 
 -- a place of the code's table is that of the position of permuted choice 2
 pub record IsPlace (k : ℕ) : Type 0 where
   pub position : get_or permuted_choice_2 k 0 - 1 < 56
-  pub place : get_or PLACES k 0 ≡ (get_or permuted_choice_2 k 0 - 1) + (get_or permuted_choice_2 k 0 - 1) / 28 * 28
+  pub place : get_or PERMUTED_CHOICE_2 k 0 ≡ (get_or permuted_choice_2 k 0 - 1) + (get_or permuted_choice_2 k 0 - 1) / 28 * 28
 
 pub place-at : (k : ℕ) → k < 48 → IsPlace k
 place-at k below =
     let p : ℕ → ℕ = λ i. get_or permuted_choice_2 i 0 - 1 in
-    let tests = and_parts _ _ (agree_below_at (λ i. nat_lt (p i) 56 && (get_or PLACES i 0 == p i + p i / 28 * 28))
+    let tests = and_parts _ _ (agree_below_at (λ i. nat_lt (p i) 56 && (get_or PERMUTED_CHOICE_2 i 0 == p i + p i / 28 * 28))
     (λ i. true) 48 k refl below) in
     record { position = ltb-true _ _ tests.0; place = eqb-true _ _ tests.1 }
 
 -- it is within the 112 from any rotation on
-pub place_within : (n k size : ℕ) → n ≤ 28 → k < 48 → size ≡ 112 → n + get_or PLACES k 0 < size
+pub place_within : (n k size : ℕ) → n ≤ 28 → k < 48 → size ≡ 112 → n + get_or PERMUTED_CHOICE_2 k 0 < size
 place_within n k size around below is =
     let at = place-at k below in
     omega (arith, at.position, at.place)
 
 -- so a bit of a round key is that at its place
 pub get_or-round_key_of : (halves : List Bool) (n k : ℕ) → length halves ≡ 112 → n ≤ 28 → k < 48
-    → get_or (round_key_of halves n) k false ≡ get_or halves (n + get_or PLACES k 0) false
+    → get_or (round_key_of halves n) k false ≡ get_or halves (n + get_or PERMUTED_CHOICE_2 k 0) false
 unfolding select
 get_or-round_key_of halves n k size around below =
     let p : ℕ = get_or permuted_choice_2 k 0 - 1 in

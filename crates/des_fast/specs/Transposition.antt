@@ -49,8 +49,8 @@ interleaved t b = (b / 8 % 2, 128 * (b / 128) + 64 * t + 8 * (b % 128 / 16) + b 
 abbrev pub joined : ℕ → ℕ → ℕ × ℕ
 joined t b = (b / 64 % 2, 128 * (b / 128) + 64 * t + b % 64)
 
--- where bit b of row m comes from, where each of the first rows, as many as a half, so makes a pair with
--- the row that many rows on, and comes out side by side with it
+-- where bit b of row m comes from, if each row of the first half makes such a pair with the row at its
+-- place in the second half, and the two come out side by side
 abbrev pub pairwise : ℕ → (ℕ → ℕ → ℕ × ℕ) → ℕ → ℕ → ℕ × ℕ
 pairwise half step m b = (half * (step (m % 2) b).0 + m / 2, (step (m % 2) b).1)
 

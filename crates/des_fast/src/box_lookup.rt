@@ -25,9 +25,9 @@ pub trait BoxLookup {
 
 type FourBlocks = Beside<TwoBlocks, TwoBlocks>;
 
-/// By tables. The rounds of a block wait for its lookups, and those of others go on meanwhile: three
-/// blocks take one and a half times as long as one. More than four would not have their words in
-/// registers.
+/// By tables. The rounds of a block wait for its lookups, and those of others go on meanwhile:
+/// three blocks take one and a half times as long as one. More than four would not have their words
+/// in registers.
 #[derive(Clone, Copy)]
 pub struct Tables;
 

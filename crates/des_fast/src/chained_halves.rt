@@ -1,10 +1,10 @@
-//! CBC encryption, and the output blocks of OFB and CFB, with no permutation between two blocks (FIPS
-//! 81).
+//! CBC encryption, and the output blocks of OFB and CFB, with no permutation between two blocks
+//! (FIPS 81).
 //!
-//! The initial permutation of a xor is the xor of two initial permutations, and that of a ciphertext
-//! block gives back the halves that its rounds ended with, exchanged. So a block's rounds begin with
-//! these halves xored with those of its plaintext: they wait for the rounds before them, and for no
-//! permutation.
+//! The initial permutation of a xor is the xor of two initial permutations, and that of a
+//! ciphertext block gives back the halves that its rounds ended with, exchanged. So a block's
+//! rounds begin with these halves xored with those of its plaintext: they wait for the rounds
+//! before them, and for no permutation.
 
 ghost use Rattle.std.specs.Prelude.{◌≡◌};
 ghost use Rattle.std.specs.List.{All};

@@ -38,14 +38,15 @@ mod records;
 mod spread;
 
 pub use crate::slices::Slice;
-use crate::slices::{LARGEST_BATCH, PassSlices};
-pub use batches::MOST_NARROW;
+use crate::slices::{MAX_BATCH, PassSlices};
+pub use batches::MAX_NARROW;
 pub use chaining_values::BlockLists;
 use des::cbc;
 use des::cipher::{Relating, are_blocks};
 pub use each_key::KeyForEach;
 pub use lanes::LaneKeys;
 use lanes::process_lanes_part;
+pub use records::add_up_to;
 pub use spread::{SpreadKeys, SpreadOnce};
 use std::simd::prelude::*;
 
@@ -76,11 +77,12 @@ fn process<S: Slice>(blocks: &mut [[u8; 8]], passes: &[PassSlices<S>])
 
 /// A block cipher that treats many blocks of a list together. No call changes the cipher.
 ///
-/// A type writes the calls with `list` in their names, and `encrypt_one`. Those that encrypt or decrypt
-/// a list say what the relation of the key makes of it, too. The others rest on them, read no table,
-/// and say less. The calls of the five ciphers of this crate take no memory, but for batches keep the
-/// halves C and D of their keys on the stack, spread over slices: 1,800 bytes for each pass of DES over
-/// vectors of two words, 3,600 over vectors of four. An empty list stays empty, and takes no time.
+/// A type writes the calls with `list` in their names, and `encrypt_one`. Those that encrypt or
+/// decrypt a list say what the relation of the key makes of it, too. The others rest on them, read
+/// no table, and say less. The calls of the five ciphers of this crate take no memory, but for
+/// batches keep the halves C and D of their keys on the stack, spread over slices: 1,800 bytes for
+/// each pass of DES over vectors of two words, 3,600 over vectors of four. An empty list stays
+/// empty, and takes no time.
 pub trait ManyBlocks: Relating {
     /// Encrypts each block of 8 bytes in place, in order, as `encrypt_blocks` does, in batches of
     /// `S::BATCH` blocks and the few that are left over side by side.
@@ -112,11 +114,11 @@ pub trait ManyBlocks: Relating {
         ensures related { (key : List ℕ) → Self.is_made_from self.now key
             → CbcUnder (Self.relation key) iv.now blocks.old blocks.new };
 
-    /// Writes the output blocks of a feedback (FIPS 81, output and cipher feedback mode), block after
-    /// block: the first is the encryption of the initialization vector, and each other that of the
-    /// one before it xored with the plaintext block there, or, if the plaintext has ended, of the one
-    /// before it alone. Those of CFB of 64 bits are written along its plaintext, and those of OFB
-    /// along none.
+    /// Writes the output blocks of a feedback (FIPS 81, output and cipher feedback mode), block
+    /// after block: the first is the encryption of the initialization vector, and each other that
+    /// of the one before it xored with the plaintext block there, or, if the plaintext has ended,
+    /// of the one before it alone. Those of CFB of 64 bits are written along its plaintext, and
+    /// those of OFB along none.
     fn write_output_list(
         &self,
         no_tables: bool,
@@ -127,8 +129,8 @@ pub trait ManyBlocks: Relating {
         ensures { AreOutputs (Self.encrypted self.now) iv.now plaintext.now outputs.new };
 
     /// Decrypts in place a list of blocks of 8 bytes that CBC chained from the initialization
-    /// vector, as `decrypt_cbc` does, in batches of `S::BATCH` blocks and the few that are left over
-    /// side by side.
+    /// vector, as `decrypt_cbc` does, in batches of `S::BATCH` blocks and the few that are left
+    /// over side by side.
     fn decrypt_cbc_list_by<S: Slice>(&self, no_tables: bool, iv: &[u8; 8], blocks: &mut [[u8; 8]])
         ensures blocks { All IsBlock blocks.old }
         ensures cbc_decrypted { CbcDecrypts (Self.decrypted self.now) iv.now blocks.old blocks.new }

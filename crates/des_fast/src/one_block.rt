@@ -1,4 +1,5 @@
-//! One block: its initial and final permutation, by `des::utils`, and its word of groups, by tables.
+//! One block: its initial and final permutation, by `des::utils`, and its word of groups, by
+//! tables.
 
 ghost use Rattle.std.specs.Prelude.{◌≡◌, ◌<◌, ◌^◌};
 ghost use Rattle.des.specs.Bits.{bits_of};

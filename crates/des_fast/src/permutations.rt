@@ -1,6 +1,6 @@
-//! The initial and the final permutation of two blocks side by side. Each of their rows is a column:
-//! one bit of each of eight bytes, which a vector gives at once. For one block
-//! `one_block` has the same, by `des::utils`; `halves` tells the layout.
+//! The initial and the final permutation of two blocks side by side. Each of their rows is a
+//! column: one bit of each of eight bytes, which a vector gives at once. For one block `one_block`
+//! has the same, by `des::utils`; `halves` tells the layout.
 
 ghost use Rattle.std.specs.Prelude.{◌≡◌, ◌<◌, ◌+◌, ◌-◌, ◌*◌, ◌/◌, ◌%◌, ◌^◌, ◌++◌, ℕ, List, Bool, length, map, slice_index};
 ghost use Rattle.std.specs.Int.{w64, bit_at, to_le_bytes};
@@ -15,8 +15,8 @@ use std::simd::prelude::*;
 // The bytes of two blocks, one after the other.
 const BOTH: [usize; 16] = [0, 1, 2, 3, 4, 5, 6, 7, 8, 9, 10, 11, 12, 13, 14, 15];
 
-// The groups 7, 5, 3 and 1 of the words of two vectors, a group of the one and then of the other: those
-// of the first words, and then those of the second.
+// The groups 7, 5, 3 and 1 of the words of two vectors, a group of the one and then of the other:
+// those of the first words, and then those of the second.
 const ODD_GROUPS: [usize; 16] = [4, 20, 5, 21, 6, 22, 7, 23, 12, 28, 13, 29, 14, 30, 15, 31];
 
 // The groups 8, 6, 4 and 2.
@@ -93,7 +93,8 @@ fn rows(columns: [u64; 8]) -> u64x2
 }
 
 // The expansions of half blocks that stand twice in each word: as in `halves_of_block`, the groups
-// 1, 3, 5 and 7 are a half rotated right by three, the groups 2, 4, 6 and 8 one rotated left by one.
+// 1, 3, 5 and 7 are a half rotated right by three, the groups 2, 4, 6 and 8 one rotated left by
+// one.
 #[inline(always)]
 fn expanded(words: u64x2) -> u64x2
     ensures { InEachBlock 2 (λ b. (half : List Bool) → length half ≡ 32
@@ -128,8 +129,8 @@ pub(crate) fn blocks_of(left: u64x2, right: u64x2) -> ([u8; 8], [u8; 8])
     ensures first { result.0 ≡ last_block (half_of (lane 0 left), half_of (lane 0 right)) }
     ensures second { result.1 ≡ last_block (half_of (lane 1 left), half_of (lane 1 right)) }
 {
-    // The middle four bits of a group are the half's own. Those of the groups 1, 3, 5 and 7 come first
-    // in the bytes of the swapped halves, those of the groups 2, 4, 6 and 8 last.
+    // The middle four bits of a group are the half's own. Those of the groups 1, 3, 5 and 7 come
+    // first in the bytes of the swapped halves, those of the groups 2, 4, 6 and 8 last.
     let left: u8x16 = left.to_le_bytes();
     let right: u8x16 = right.to_le_bytes();
     let o = columns(right.shuffle(left, ODD_GROUPS));

@@ -29,8 +29,8 @@ pub fn to_words<W>(cipher: &Des<W>) -> [u64; 16]
     cipher.schedule.round_keys.map(word_of)
 }
 
-/// The cipher of part `number` of a key, from 1, by words that hold the round keys of its parts, one
-/// part after another. Bits beside the groups of a word are not used.
+/// The cipher of part `number` of a key, from 1, by words that hold the round keys of its parts,
+/// one part after another. Bits beside the groups of a word are not used.
 pub fn from_words<W>(words: &[u64], number: usize) -> Des<W>
     requires from { 1 ≤ number }
     requires to { 16 * number ≤ length words.now }

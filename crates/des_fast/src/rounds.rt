@@ -14,8 +14,8 @@ use crate::halves::RoundKey;
 
 /// A word of groups of each of some blocks.
 pub trait Groups: Copy {
-    /// Whether it is quicker to compute all changes of round keys before the rounds than each in its
-    /// round.
+    /// Whether it is quicker to compute all changes of round keys before the rounds than each in
+    /// its round.
     const CHANGES_AHEAD: bool;
 
     // The number of blocks.
@@ -24,7 +24,8 @@ pub trait Groups: Copy {
     // The word of block b, from 0.
     ghost word: { ℕ → Self → ℕ };
 
-    /// The number of blocks. The list has at least that many, so that sums of counts do not overflow.
+    /// The number of blocks. The list has at least that many, so that sums of counts do not
+    /// overflow.
     fn count(blocks: &[[u8; 8]]) -> usize
         requires { BLOCKS ≤ length blocks.now }
         ensures { result ≡ BLOCKS };
@@ -50,9 +51,9 @@ pub trait Groups: Copy {
     fn with_key(self, round_key: RoundKey) -> Self
         ensures { InEachBlock BLOCKS (λ b. word b result ≡ bit_xor (word b self) round_key.groups) };
 
-    /// The word of each block, xored with what S1 to S8, P and then E make of the 48 bits in the word
-    /// of that block in `others` (FIPS 46-3, cipher function). Lookup and xor are one call, so that
-    /// the lookups of only one block need registers at a time.
+    /// The word of each block, xored with what S1 to S8, P and then E make of the 48 bits in the
+    /// word of that block in `others` (FIPS 46-3, cipher function). Lookup and xor are one call, so
+    /// that the lookups of only one block need registers at a time.
     fn xor_substituted(self, others: Self) -> Self
         requires { InEachBlock BLOCKS (λ b. IsOfGroups (word b others)) }
         ensures { InEachBlock BLOCKS (λ b.
@@ -82,7 +83,8 @@ fn round_key_of(round_keys: &[RoundKey; 16], deciphers: bool, round: usize) -> R
     }
 }
 
-// The bits in which the round key of a round differs from that of two rounds later, counted modulo 16.
+// The bits in which the round key of a round differs from that of two rounds later, counted modulo
+// 16.
 #[inline(always)]
 fn key_change(round_keys: &[RoundKey; 16], deciphers: bool, round: usize) -> RoundKey
     requires { round < 16 }
@@ -92,8 +94,8 @@ fn key_change(round_keys: &[RoundKey; 16], deciphers: bool, round: usize) -> Rou
     round_key.xor(round_key_of(round_keys, deciphers, (round + 2) % 16))
 }
 
-// The changes of all rounds, each at the index of its round key. Computed by index and not by round,
-// since the compiler then takes two at a time.
+// The changes of all rounds, each at the index of its round key. Computed by index and not by
+// round, since the compiler then takes two at a time.
 #[inline(always)]
 fn key_changes(round_keys: &[RoundKey; 16], deciphers: bool) -> [RoundKey; 16]
     ensures { AreChanges deciphers round_keys.now result }
@@ -126,11 +128,11 @@ fn change_of(
     }
 }
 
-// Sixteen rounds in one direction (FIPS 46-3, enciphering). A half is kept with the round key of its
-// next lookup xored in, so that its groups are indexes as they stand. One xor changes that key for the
-// next one, while lookups are under way. After the last two keys come the first two, which the end takes
-// out. If no changes are computed ahead, the compiler drops `changes`. Inlined where the direction is
-// known, so that no round tests it.
+// Sixteen rounds in one direction (FIPS 46-3, enciphering). A half is kept with the round key of
+// its next lookup xored in, so that its groups are indexes as they stand. One xor changes that key
+// for the next one, while lookups are under way. After the last two keys come the first two, which
+// the end takes out. If no changes are computed ahead, the compiler drops `changes`. Inlined where
+// the direction is known, so that no round tests it.
 #[inline(always)]
 fn rounds<G: Groups>(left: G, right: G, round_keys: &[RoundKey; 16], deciphers: bool) -> (G, G)
     requires left { AreExpansions G.BLOCKS G.word left }

@@ -1,12 +1,12 @@
-//! The key schedule, all rounds at once (FIPS 46-3, key schedule): no table is read and nothing
-//! branches at a place that depends on the key.
+//! The key schedule, all rounds at once (FIPS 46-3, key schedule). No table index and no branch
+//! depends on the key.
 //!
-//! A bit of a round key is a bit of the half C or D, rotated. The rotations are by 1, 2, 4, .., 14
-//! and by 15, 17, .., 27 and 28 places: by an even number from 0 to 14, as 28 is 0, or by one from
-//! 15 to 29, as 29 is 1. So if each second bit of a half has been exchanged for that 14 places
-//! on, what a place of a round key is in all sixteen rounds stands in a row: its bit n is of the
-//! rotation by n if n is even, and of that by n + 14 if n is odd. These rows, transposed, are
-//! the round keys.
+//! A bit of a round key is a bit of the half C or D, rotated by 1, 2, 4, .., 14, 15, 17, .., 27 or
+//! 28 places. A half has 28 bits, so that 28 places are 0, and 1 place is 29: the rotations are the
+//! even numbers from 0 to 14, and the odd ones from 15 to 29. Once every second bit of a half is
+//! exchanged for the bit 14 places on, the values of one bit of the round keys in all rounds are a
+//! row of 16 neighbouring bits: bit n is that of the rotation by n if n is even, and by n + 14 if n
+//! is odd. These rows, transposed, are the round keys.
 
 ghost use Rattle.std.specs.Prelude.{◌≡◌, ◌≤◌, ◌<◌, [], ◌∷◌};
 ghost use Rattle.des.specs.Bits.{bits_of_word};

@@ -34,8 +34,8 @@ pub trait SideBySide {
     // The most blocks that go side by side in a list.
     ghost MOST: { ℕ };
 
-    /// How many of the blocks left in a list go next. No clause says how many are quickest: the result
-    /// is the same.
+    /// How many of the blocks left in a list go next. No clause says how many are quickest: the
+    /// result is the same.
     fn next_count(left: usize) -> usize
         requires { 1 ≤ left }
         ensures some { 1 ≤ result }
@@ -60,8 +60,8 @@ fn process_groups<G: Groups, A: BlockTransform>(blocks: &mut [[u8; 8]], passes: 
     G::write_blocks(blocks, left, right);
 }
 
-/// Takes blocks through passes, side by side. Not inlined: so each number of blocks has the registers
-/// to itself.
+/// Takes blocks through passes, side by side. Not inlined: so each number of blocks has the
+/// registers to itself.
 #[inline(never)]
 pub(crate) fn process_side_by_side<G: Groups, A: BlockTransform>(blocks: &mut [[u8; 8]], passes: &A)
     requires { length blocks.old ≡ G.BLOCKS }
@@ -70,8 +70,8 @@ pub(crate) fn process_side_by_side<G: Groups, A: BlockTransform>(blocks: &mut [[
     process_groups::<G, A>(blocks, passes);
 }
 
-/// Takes at most four blocks through passes as four side by side: places after the last block repeat
-/// it.
+/// Takes at most four blocks through passes as four side by side: places after the last block
+/// repeat it.
 pub(crate) fn process_padded<A: BlockTransform>(blocks: &mut [[u8; 8]], passes: &A)
     requires some { 1 ≤ length blocks.old }
     requires few { length blocks.old ≤ 4 }

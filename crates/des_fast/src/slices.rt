@@ -25,7 +25,7 @@ pub(crate) use passes::halves_through_passes;
 pub(crate) use rows::read_blocks;
 
 /// The number of blocks in the largest batch.
-pub(crate) const LARGEST_BATCH: usize = 256;
+pub(crate) const MAX_BATCH: usize = 256;
 
 /// One bit of each block of a batch. A vector of words has the bits of 64 blocks in each word.
 pub trait Slice: Copy {
@@ -90,7 +90,8 @@ pub trait Slice: Copy {
         ensures { (k : ℕ) → k < BATCH → k / words ≡ n → bits_of_lane place_bit result (k % words)
             ≡ bits_of_bytes (slice_index_or blocks.now k []) };
 
-    /// Writes blocks side by side, those after n such rows, a block of each word. All others are unchanged.
+    /// Writes blocks side by side, those after n such rows, a block of each word. All others are
+    /// unchanged.
     fn write_row(&self, blocks: &mut [[u8; 8]], n: usize)
         requires batch { length blocks.old ≡ BATCH }
         requires within { n < 64 }

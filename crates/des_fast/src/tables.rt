@@ -12,10 +12,10 @@ ghost use Rattle.des_fast.specs.Groups.{IsOfGroups, IsExpansion, bits_of_groups,
 ghost use Rattle.des_fast.specs.CombinedTables.{combined_tables};
 ghost use Rattle.des_fast.specs.SideBySide.{IsSubstitutedInto};
 
-/// For each box S1 to S8 and each group of six bits, read as a number whose highest bit is the first:
-/// what the box gives, put through P and E with zeros from the other boxes, as a word of groups (FIPS
-/// 46-3, S-boxes, and the tables P and E). `combined_tables` of `specs/CombinedTables.antt` computes
-/// them, as the clause `tables` of `substitute` says.
+/// For each box S1 to S8 and each group of six bits, read as a number whose highest bit is the
+/// first: what the box gives, put through P and E with zeros from the other boxes, as a word of
+/// groups (FIPS 46-3, S-boxes, and the tables P and E). `combined_tables` of
+/// `specs/CombinedTables.antt` computes them, as the clause `tables` of `substitute` says.
 #[rattlefmt::skip]
 pub(crate) static TABLES: [[u64; 64]; 8] = [
     // S1
@@ -172,8 +172,8 @@ pub(crate) static TABLES: [[u64; 64]; 8] = [
     ],
 ];
 
-/// S1 to S8 of the 48 bits in a word of groups, then P, and then E of that, as a word of groups (FIPS
-/// 46-3, cipher function).
+/// S1 to S8 of the 48 bits in a word of groups, then P, and then E of that, as a word of groups
+/// (FIPS 46-3, cipher function).
 #[inline]
 pub(crate) fn substitute(word: u64) -> u64
     requires { IsOfGroups word }
@@ -182,8 +182,9 @@ pub(crate) fn substitute(word: u64) -> u64
     ensures substituted { half_of result ≡ select permutation (substitute (bits_of_groups word)) }
 {
     let group = groups_of(word);
-    // Entries of different boxes share no bit, so `|` joins them as `^` does. The compiler turns a tree
-    // of one operation into a row, in which each waits for the one before it, and keeps a tree of two.
+    // Entries of different boxes share no bit, so `|` joins them as `^` does. The compiler turns a
+    // tree of one operation into a row, in which each waits for the one before it, and keeps a tree
+    // of two.
     let even = (TABLES[7][group[7]] | TABLES[5][group[5]])
         ^ (TABLES[3][group[3]] | TABLES[1][group[1]]);
     let odd = (TABLES[6][group[6]] | TABLES[4][group[4]])
@@ -191,9 +192,9 @@ pub(crate) fn substitute(word: u64) -> u64
     even ^ odd
 }
 
-/// A word, with what `substitute` makes of another xored in: quicker for blocks side by side, since it
-/// keeps fewer words, and slower for one, since the entries are joined in a row, in which each waits for
-/// the one before it.
+/// A word, with what `substitute` makes of another xored in: quicker for blocks side by side, since
+/// it keeps fewer words, and slower for one, since the entries are joined in a row, in which each
+/// waits for the one before it.
 #[inline]
 pub(crate) fn xor_substituted(left: u64, right: u64) -> u64
     requires { IsOfGroups right }
@@ -212,8 +213,8 @@ pub(crate) fn xor_substituted(left: u64, right: u64) -> u64
 
 // The groups of a word of groups, in their order. x86-64 takes either of the last two bytes of a
 // register in one instruction, and the first byte by one shift: so the word and two rotations of it
-// give all eight. The first byte of a rotation is taken too since otherwise the compiler would turn the
-// rotation into shifts and masks.
+// give all eight. The first byte of a rotation is taken too since otherwise the compiler would turn
+// the rotation into shifts and masks.
 #[inline]
 fn groups_of(word: u64) -> [usize; 8]
     requires { IsOfGroups word }

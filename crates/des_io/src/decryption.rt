@@ -47,8 +47,8 @@ fn write_piece<W: Write>(
     Ok(())
 }
 
-// Decrypts bytes that are whole blocks, and writes the block that was held back and what they
-// are deciphered, but for the last block, which is then held back.
+// Decrypts bytes that are whole blocks. Writes the block that was held back and then the plaintext,
+// except for its last block, which is held back in its place.
 fn decrypt_piece<W: Write, C: ManyBlocks>(
     cipher: &C,
     mode: &mut BlockMode,
@@ -92,8 +92,8 @@ fn left_after(left: Option<u64>, count: usize) -> Option<u64>
 }
 
 /// Decrypts what the reader gives, up to its end or to a limit in blocks, and writes it except for
-/// the last block, which it returns. The buffer has one block at least; what it holds afterwards,
-/// which can be plaintext, is not said. The writer is not flushed.
+/// the last block, which it returns. The buffer has at least one block; its contents afterwards are
+/// unspecified, and can be plaintext. The writer is not flushed.
 ///
 /// The error is `Read` or `Write` if the reader or the writer failed, and `Length` if what was
 /// read is not whole blocks. The writer then has a prefix of what was read, decrypted, without its
@@ -161,8 +161,8 @@ pub fn finish<W: Write>(
 }
 
 /// Decrypts what the reader gives, up to its end, and writes it without its padding, a buffer at a
-/// time; if that is `Zeros`, nothing is removed. The buffer has one block at least; what it holds
-/// afterwards, which can be plaintext, is not said. The writer is not flushed.
+/// time; if that is `Zeros`, nothing is removed. The buffer has at least one block; its contents
+/// afterwards are unspecified, and can be plaintext. The writer is not flushed.
 ///
 /// The error is `Read` or `Write` if the reader or the writer failed, `Length` if what was read
 /// is not whole blocks, and `Padding` if its padding is wrong. The writer then has a prefix of the

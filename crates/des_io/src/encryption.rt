@@ -31,8 +31,8 @@ fn encrypt_piece<W: Write, C: ManyBlocks>(
 }
 
 /// Encrypts what the reader gives, up to its end, with its padding, and writes it, a buffer at a
-/// time. The buffer has one block at least; what it holds afterwards, which can be plaintext, is not
-/// said. The writer is not flushed.
+/// time. The buffer has at least one block; its contents afterwards are unspecified, and can be
+/// plaintext. The writer is not flushed.
 ///
 /// The error is `Read` or `Write` if the reader or the writer failed, and `Length` if the
 /// padding is `Unpadded` and what was read is not whole blocks. The writer then has a prefix of the

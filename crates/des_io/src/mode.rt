@@ -20,8 +20,8 @@ pub enum BlockMode {
 }
 
 impl BlockMode {
-    /// Goes on to what follows ciphertext blocks.
-    pub fn pass(&mut self, blocks: &[[u8; 8]])
+    /// Skips ciphertext blocks: goes on to what follows them.
+    pub fn skip(&mut self, blocks: &[[u8; 8]])
         ensures blocks { All IsBlock blocks.now }
         ensures after { self.new ≡ mode_after self.old blocks.now }
     {

@@ -32,7 +32,8 @@ impl Padding {
     }
 }
 
-/// Writes the padding after the first `count` bytes, and returns their number with it.
+/// Writes the padding after the first `count` bytes of a buffer, and returns their number with it.
+/// The buffer is whole blocks of 8 bytes, and longer than `count`.
 pub fn pad(padding: Padding, bytes: &mut [u8], count: usize) -> usize
     requires capacity { count < length bytes.old }
     requires blocks { length bytes.old % 8 ≡ 0 }

@@ -15,7 +15,7 @@ use des_fast::many::ManyBlocks;
 use std::io::{Read, Write};
 
 /// Reads the `count` blocks before a part, and returns how the blocks of the part go on from them.
-/// The buffer has one block at least; what it holds afterwards is not said.
+/// The buffer has at least one block; its contents afterwards are unspecified.
 ///
 /// The error is `Start` if there are fewer blocks, and `Read` if the reader failed, which may
 /// then be anywhere in them.
@@ -45,7 +45,7 @@ pub fn skip_blocks<R: Read>(
             return Err(StreamError::Start);
         }
         let (blocks, _) = bytes[..n].as_chunks::<8>();
-        mode.pass(blocks);
+        mode.skip(blocks);
         left -= count as u64;
     }
     Err(StreamError::Read(without_end()))
@@ -65,14 +65,14 @@ fn is_at_end<R: Read>(reader: &mut R) -> Result<bool, StreamError>
 }
 
 /// Decrypts a part of `limit` blocks, or up to the end of the reader, and writes it. One byte more
-/// is read, if there is one. If the reader is then at its end, the padding is taken off, none
-/// if it is `Zeros`, and there must be a block. The buffer has one block at least; what it holds
-/// afterwards, which can be plaintext, is not said. The writer is not flushed.
+/// is read, if there is one. If the reader is then at its end, the padding is taken off, none if it
+/// is `Zeros`, and there must be a block. The buffer has at least one block; its contents
+/// afterwards are unspecified, and can be plaintext. The writer is not flushed.
 ///
-/// The error is `Start` if there is no block, whatever the padding, `Padding` if the padding is wrong, `Length` if
-/// what was read is not whole blocks, and `Read` or `Write` if the reader or the writer failed.
-/// The writer then has a prefix of the part, without its last block or its padding, or with that
-/// block if more follows the part. The reader may have gone further.
+/// The error is `Start` if there is no block, whatever the padding; `Padding` if the padding is
+/// wrong; `Length` if what was read is not whole blocks; and `Read` or `Write` if the reader or the
+/// writer failed. The writer then has a prefix of the part, without its last block or its padding,
+/// or with that block if more follows the part. The reader may have gone further.
 pub fn decrypt_part<R: Read, W: Write, C: ManyBlocks>(
     transformation: &Transformation<'_, C>,
     limit: Option<u64>,

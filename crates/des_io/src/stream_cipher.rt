@@ -1,5 +1,5 @@
-//! Modes that make a stream cipher of a block cipher: bytes from a reader to a writer, with no padding,
-//! and with nothing held back.
+//! Modes that make a stream cipher of a block cipher: bytes from a reader to a writer, with no
+//! padding, and with nothing held back.
 
 ghost use Rattle.std.specs.Prelude.{◌≡◌, ◌⊎◌, ◌<◌, length, IfOk, IfErr};
 ghost use Rattle.des_io.specs.Streams.{passage_of};
@@ -26,8 +26,8 @@ fn waits(mode: Mode, direction: Direction) -> bool {
     }
 }
 
-/// Encrypts or decrypts the bytes that come next in place: any number of them. If no block waits for
-/// another, no table is read at an index that depends on the key or on a block.
+/// Encrypts or decrypts the bytes that come next in place: any number of them. If no block waits
+/// for another, no table is read at an index that depends on the key or on a block.
 pub fn apply_piece<C: ManyBlocks>(
     cipher: &C,
     direction: Direction,
@@ -44,12 +44,12 @@ pub fn apply_piece<C: ManyBlocks>(
     stream.apply(direction, mode, &cipher, bytes);
 }
 
-/// Encrypts or decrypts by a stream what the reader gives, up to its end or to a limit in bytes, and writes
-/// it. Goes a buffer at a time, and returns the number of bytes. The buffer has one byte at least; what it
-/// holds afterwards, which can be plaintext, is not said. The writer is not flushed.
+/// Encrypts or decrypts by a stream what the reader gives, up to its end or to a limit in bytes,
+/// and writes it, a buffer at a time. Returns the number of bytes. The buffer has at least one
+/// byte; its contents afterwards are unspecified, and can be plaintext. The writer is not flushed.
 ///
-/// The error is `Read` or `Write`, if the reader or the writer failed. The writer then has a prefix of
-/// what was read, encrypted or decrypted, and the reader may have gone further.
+/// The error is `Read` or `Write`, if the reader or the writer failed. The writer then has a prefix
+/// of what was read, encrypted or decrypted, and the reader may have gone further.
 pub fn apply_stream<R: Read, W: Write, C: ManyBlocks>(
     cipher: &C,
     direction: Direction,

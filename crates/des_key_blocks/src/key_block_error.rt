@@ -26,7 +26,7 @@ pub enum KeyBlockError {
     /// What stands after the header and the optional blocks is not as long as encrypted key data
     /// and a MAC are.
     DataLength,
-    /// A character after the header and the optional blocks is no hexadecimal digit in upper case.
+    /// A character after the header and the optional blocks is not a hexadecimal digit in upper case.
     Digit,
     /// The MAC is not that of the block.
     Mac,

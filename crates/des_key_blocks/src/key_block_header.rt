@@ -12,7 +12,7 @@ ghost use Rattle.des_key_blocks.specs.KeyBlockHeaders.{says_length as says_lengt
 use crate::key_block_error::KeyBlockError;
 
 /// The most characters of a key block: its length has four digits.
-pub const MOST_CHARACTERS: usize = 9999;
+pub const MAX_CHARACTERS: usize = 9999;
 
 /// The version of a key block: how it is encrypted and authenticated.
 #[derive(Clone, Copy, Debug, PartialEq, Eq)]
@@ -353,9 +353,9 @@ pub fn are_alphanumeric(text: &[u8]) -> bool
 pub(crate) fn is_written(header: &Header) -> bool
     ensures { result ≡ is_written_of header.now }
 {
-    let marks = [header.algorithm.character(), header.mode.character()];
+    let characters = [header.algorithm.character(), header.mode.character()];
     are_alphanumeric(&header.usage.text())
-        && are_alphanumeric(&marks)
+        && are_alphanumeric(&characters)
         && are_alphanumeric(&header.key_version)
         && are_alphanumeric(&[header.exportability.character()])
 }
@@ -470,7 +470,7 @@ pub(crate) fn read_header(block: &[u8]) -> Result<(Header, usize, KeyContext), K
         × (read.2 ≡ context)) }
     ensures fault { result_err result ≡ header_fault block.now }
 {
-    if block.len() < 16 || block.len() > MOST_CHARACTERS || !says_length(block) {
+    if block.len() < 16 || block.len() > MAX_CHARACTERS || !says_length(block) {
         return Err(KeyBlockError::Length);
     }
     let version = match Version::of(block[0]) {

@@ -15,7 +15,7 @@ ghost use Rattle.des_key_blocks.specs.OptionalBlocks.{AreOptionalBlocks, blocks_
 use crate::hex::{read_hex, write_hex};
 use crate::key_block_error::KeyBlockError;
 use crate::key_block_header::{
-    Header, KeyContext, MOST_CHARACTERS, Version, header_text, is_written, read_header,
+    Header, KeyContext, MAX_CHARACTERS, Version, header_text, is_written, read_header,
 };
 use crate::optional_blocks::{
     OptionalBlock, filled_extent, first_block, size_of_blocks, write_blocks,
@@ -29,9 +29,9 @@ use std::marker::Model;
 // The characters of a header.
 const HEADER: usize = 16;
 
-// The most bytes of key data: a key's length, 24 bytes of key, and six of padding. So blocks of keys
-// of triple DES have one length, whatever the key's; a longer key of AES is refused.
-const MOST_DATA: usize = 32;
+// The most bytes of key data: a key's length, 24 bytes of key, and six of padding. So blocks of
+// keys of triple DES have one length, whatever the key's; a longer key of AES is refused.
+const MAX_DATA: usize = 32;
 
 /// A key out of a key block: 8, 16 or 24 bytes.
 #[derive(Drop)]
@@ -132,7 +132,7 @@ fn layout_of(block: &[u8]) -> Result<(Header, usize, KeyContext), KeyBlockError>
 }
 
 // Eight of the bytes, from a place.
-fn block_from(bytes: &[u8; MOST_DATA], from: usize) -> [u8; 8]
+fn block_from(bytes: &[u8; MAX_DATA], from: usize) -> [u8; 8]
     requires { from + 8 ≤ 32 }
     ensures { result ≡ take 8 (drop from bytes.now) }
 {
@@ -142,7 +142,7 @@ fn block_from(bytes: &[u8; MOST_DATA], from: usize) -> [u8; 8]
 }
 
 // The bytes as blocks.
-fn blocks_of(bytes: &[u8; MOST_DATA]) -> [[u8; 8]; 4]
+fn blocks_of(bytes: &[u8; MAX_DATA]) -> [[u8; 8]; 4]
     ensures { joined result ≡ bytes.now }
 {
     [
@@ -196,7 +196,7 @@ fn read_sealed(version: Version, text: &[u8]) -> Option<Sealed>
     let mac_bytes = mac_size(version);
     let count = (text.len() - 2 * mac_bytes) / 16;
     let (front, back) = text.split_at(16 * count);
-    let mut bytes = [0; MOST_DATA];
+    let mut bytes = [0; MAX_DATA];
     if !read_hex(front, &mut bytes[..8 * count]) {
         return None;
     }
@@ -368,13 +368,13 @@ pub fn optional_block(
 }
 
 // Key data: the key's length in bits, the key and the padding, and zeros to 32 bytes.
-fn data_of(key: &[u8], padding: &[u8]) -> [u8; MOST_DATA]
+fn data_of(key: &[u8], padding: &[u8]) -> [u8; MAX_DATA]
     requires key { length key.now ≤ 24 }
     requires padding { 2 + length key.now + length padding.now ≤ 32 }
     ensures { take (2 + length key.now + length padding.now) result
         ≡ key_data key.now padding.now }
 {
-    let mut bytes = [0; MOST_DATA];
+    let mut bytes = [0; MAX_DATA];
     let (bits, rest) = bytes.split_at_mut(2);
     bits.copy_from_slice(&(8 * key.len() as u16).to_be_bytes());
     let (front, rest) = rest.split_at_mut(key.len());
@@ -414,7 +414,7 @@ fn check_parts(
     if !is_key(key) {
         return Err(KeyBlockError::KeyLength);
     }
-    if padding.len() > MOST_DATA - 2 - key.len() || (2 + key.len() + padding.len()) % 8 != 0 {
+    if padding.len() > MAX_DATA - 2 - key.len() || (2 + key.len() + padding.len()) % 8 != 0 {
         return Err(KeyBlockError::PaddingLength);
     }
     Ok(())
@@ -522,7 +522,7 @@ pub fn wrap(
     let (size, count) = filled_extent(optional)?;
     let front = HEADER + size;
     let whole = front + 2 * (2 + key.len() + padding.len() + mac_size(header.version));
-    if whole > text.len() || whole > MOST_CHARACTERS {
+    if whole > text.len() || whole > MAX_CHARACTERS {
         return Err(KeyBlockError::Length);
     }
     let (block, _) = text.split_at_mut(whole);

@@ -11,10 +11,10 @@ ghost use Rattle.des_key_blocks.specs.Hex.{hex_number as hex_number_of};
 
 use crate::hex::{hex_digit, hex_number};
 use crate::key_block_error::KeyBlockError;
-use crate::key_block_header::{MOST_CHARACTERS, are_alphanumeric};
+use crate::key_block_header::{MAX_CHARACTERS, are_alphanumeric};
 
 /// The most optional blocks of a key block.
-pub const MOST_BLOCKS: usize = 99;
+pub const MAX_BLOCKS: usize = 99;
 
 /// An optional block: its name, two characters, and its content, ASCII characters.
 #[derive(Clone, Copy)]
@@ -25,8 +25,8 @@ pub struct OptionalBlock<'a> {
     pub content: &'a [u8],
 }
 
-// How many characters stand before the content of a block, and how many the block has, if two
-// zeros say that a length of four digits follows: after how long it is, in bytes or in digits. Writers
+// How many characters stand before the content of a block, and how many the block has, if two zeros
+// say that a length of four digits follows: after how long it is, in bytes or in digits. Writers
 // differ in that; here 02 is written, and both are read.
 fn long_extent(text: &[u8]) -> Option<(usize, usize)>
     requires there { 4 ≤ length text.now }
@@ -113,7 +113,7 @@ pub(crate) fn size_of_blocks(text: &[u8], count: usize) -> Option<usize>
 // Reads optional blocks to the front of `blocks`, and returns their number.
 fn read_blocks<'a>(
     text: &'a [u8],
-    blocks: &mut [OptionalBlock<'a>; MOST_BLOCKS],
+    blocks: &mut [OptionalBlock<'a>; MAX_BLOCKS],
 ) -> Result<usize, KeyBlockError>
     ensures few { IfOk result (λ count. count ≤ 99) }
     ensures read { IfOk result (λ count. AreOptionalBlocks
@@ -126,7 +126,7 @@ fn read_blocks<'a>(
     let mut count = 0;
     let mut at = 0;
     while at < text.len() {
-        if count == MOST_BLOCKS {
+        if count == MAX_BLOCKS {
             return Err(KeyBlockError::OptionalBlock);
         }
         let Some((block, size)) = first_block(&text[at..]) else {
@@ -140,11 +140,11 @@ fn read_blocks<'a>(
 }
 
 /// Reads optional blocks that stand one after another, as in a key block, to the front of `blocks`,
-/// and returns their number; those after them are unchanged. A text that is not such, or holds more than
-/// 99, is an error, `OptionalBlock`, and then all of `blocks` is unchanged.
+/// and returns their number; those after them are unchanged. A text that is not such, or holds more
+/// than 99, is an error, `OptionalBlock`, and then all of `blocks` is unchanged.
 pub fn read_optional_blocks<'a>(
     text: &'a [u8],
-    blocks: &mut [OptionalBlock<'a>; MOST_BLOCKS],
+    blocks: &mut [OptionalBlock<'a>; MAX_BLOCKS],
 ) -> Result<usize, KeyBlockError>
     ensures few { IfOk result (λ count. count ≤ 99) }
     ensures read { IfOk result (λ count. AreOptionalBlocks
@@ -202,8 +202,8 @@ fn is_filling(block: &OptionalBlock<'_>) -> bool
     block.name[0] == b'P' && block.name[1] == b'B'
 }
 
-// The number of blocks that may not be the filling block `PB`: all, or all but the last if the blocks
-// have a multiple of eight characters.
+// The number of blocks that may not be the filling block `PB`: all, or all but the last if the
+// blocks have a multiple of eight characters.
 fn unfilling(count: usize, size: usize) -> usize
     ensures { result ≡ (if size % 8 == 0 then count - 1 else count) }
 {
@@ -251,11 +251,11 @@ fn size_of_all(blocks: &[OptionalBlock<'_>]) -> Option<usize>
 {
     let mut size = 0;
     for block in blocks {
-        if block.content.len() > MOST_CHARACTERS {
+        if block.content.len() > MAX_CHARACTERS {
             return None;
         }
         size += size_of(block.content);
-        if size > MOST_CHARACTERS {
+        if size > MAX_CHARACTERS {
             return None;
         }
     }
@@ -283,7 +283,7 @@ pub(crate) fn filled_extent(blocks: &[OptionalBlock<'_>]) -> Result<(usize, usiz
     ensures alone { IfOk result (λ _. size_of_contents
         (map (λ block. (block.name, block.content.now)) blocks.now) ≤ 9999) }
 {
-    if blocks.len() > MOST_BLOCKS || !are_written(blocks) {
+    if blocks.len() > MAX_BLOCKS || !are_written(blocks) {
         return Err(KeyBlockError::OptionalBlock);
     }
     let size = match size_of_all(blocks) {
@@ -296,7 +296,7 @@ pub(crate) fn filled_extent(blocks: &[OptionalBlock<'_>]) -> Result<(usize, usiz
     if size % 8 == 0 {
         return Ok((size, blocks.len()));
     }
-    if blocks.len() == MOST_BLOCKS {
+    if blocks.len() == MAX_BLOCKS {
         return Err(KeyBlockError::OptionalBlock);
     }
     Ok((size + 4 + zeros_after(size), blocks.len() + 1))

@@ -1,10 +1,10 @@
 //! The triple DES key wrap of CMS (RFC 3217, 3), over any block cipher: a key of whole blocks of 8
 //! bytes is wrapped together with its checksum by SHA-1, and becomes two blocks longer.
 //!
-//! RFC 3217 wraps keys of triple DES, which have three blocks; libraries take other numbers of blocks
-//! too. The key is wrapped as it is. RFC 3217 sets odd parity before a key is wrapped, as
-//! `des::weak_key::with_odd_parity` does, and refuses an unwrapped key that lacks it: one that this call
-//! would change.
+//! RFC 3217 wraps keys of triple DES, which have three blocks; libraries take other numbers of
+//! blocks too. The key is wrapped as it is. RFC 3217 sets odd parity before a key is wrapped, as
+//! `des::weak_key::with_odd_parity` does, and refuses an unwrapped key that lacks it: one that this
+//! call would change.
 
 ghost use Rattle.std.specs.Prelude.{◌≡◌, ◌≤◌, ◌+◌, ◌++◌, ℕ, List, [], ◌∷◌, length, drop, replicate, IsOk, OnOk, OnErr};
 ghost use Rattle.std.specs.List.{All};
@@ -52,8 +52,8 @@ fn write_checked(checked: &mut [[u8; 8]], key: &[[u8; 8]])
     last.copy_from_slice(&[checksum(key)]);
 }
 
-// Encrypts the blocks from the second on, writes the initialization vector in place of the first, and
-// encrypts all bytes in reverse order.
+// Encrypts the blocks from the second on, writes the initialization vector in place of the first,
+// and encrypts all bytes in reverse order.
 fn enclose<C: BlockCipherEncrypt>(cipher: &C, iv: &[u8; 8], blocks: &mut [[u8; 8]])
     requires { 1 ≤ length blocks.old }
     ensures { Encloses (TakesBlock (C.encrypted cipher.now)) iv.now (drop 1 blocks.old) blocks.new }
@@ -82,8 +82,8 @@ fn decrypt<C: BlockCipher>(cipher: &C, iv: &[u8; 8], blocks: &mut [[u8; 8]], las
     are_bytes(last);
 }
 
-// Undoes `enclose`: writes the key, and returns the initialization vector and the block after the key,
-// which is to be its checksum.
+// Undoes `enclose`: writes the key, and returns the initialization vector and the block after the
+// key, which is to be its checksum.
 fn open<C: BlockCipher>(cipher: &C, enclosed: &[[u8; 8]], key: &mut [[u8; 8]]) -> ([u8; 8], [u8; 8])
     requires { length enclosed.now ≡ length key.old + 2 }
     ensures vector { IsBlock result.0 }
@@ -105,8 +105,8 @@ fn open<C: BlockCipher>(cipher: &C, enclosed: &[[u8; 8]], key: &mut [[u8; 8]]) -
     (last, first)
 }
 
-/// Wraps a key into a list that is two blocks longer. The initialization vector must be random: eight
-/// bytes that nobody can predict.
+/// Wraps a key into a list that is two blocks longer. The initialization vector must be random:
+/// eight bytes that nobody can predict.
 pub fn wrap<C: BlockCipherEncrypt>(
     cipher: &C,
     iv: &[u8; 8],
@@ -122,8 +122,8 @@ pub fn wrap<C: BlockCipherEncrypt>(
 }
 
 /// Unwraps a key, which is two blocks shorter than `wrapped`. If `wrapped` wraps no key under this
-/// cipher, the answer is `UnwrapError`, and `key` is zeros. The checksum is compared whole, wherever the
-/// first difference is.
+/// cipher, the answer is `UnwrapError`, and `key` is zeros. The checksum is compared whole,
+/// wherever the first difference is.
 pub fn unwrap<C: BlockCipher>(
     cipher: &C,
     wrapped: &[[u8; 8]],

@@ -1,5 +1,5 @@
-//! The key wraps of triple DES, over any lawful cipher: that of CMS (RFC 3217), and TKW (NIST SP 800-38F,
-//! 7).
+//! The key wraps of triple DES, over any lawful cipher: that of CMS (RFC 3217), and TKW (NIST SP
+//! 800-38F, 7).
 #![tactic(auto)]
 
 pub mod cms_key_wrap;

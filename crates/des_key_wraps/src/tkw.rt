@@ -1,5 +1,5 @@
-//! The key wrap TKW of triple DES (NIST SP 800-38F, 7), over any block cipher: a key of 2 to 2^28 - 1
-//! semiblocks of 4 bytes becomes a list of one semiblock more. It needs no initialization vector.
+//! The key wrap TKW of triple DES (NIST SP 800-38F, 7), over any block cipher: a key of 2 to 2^28 -
+//! 1 semiblocks of 4 bytes becomes a list of one semiblock more. It needs no initialization vector.
 
 ghost use Rattle.std.specs.Prelude.{◌≡◌, ◌<◌, ◌≤◌, ◌+◌, ◌*◌, ◌-◌, ◌^◌, ◌++◌, ℕ, List, [], ◌∷◌, length, take, drop, replicate, IsOk, OnOk, OnErr};
 ghost use Rattle.std.specs.List.{All};
@@ -112,9 +112,9 @@ pub fn wrap<C: BlockCipherEncrypt>(cipher: &C, key: &[[u8; 4]], wrapped: &mut [[
     wrapped[0] = first;
 }
 
-/// Unwraps a key into a list of one semiblock less. If `wrapped` wraps no key under this cipher, the
-/// answer is `UnwrapError`, and the list is zeros. The check value is compared whole, wherever the first
-/// difference is.
+/// Unwraps a key into a list of one semiblock less. If `wrapped` wraps no key under this cipher,
+/// the answer is `UnwrapError`, and the list is zeros. The check value is compared whole, wherever
+/// the first difference is.
 pub fn unwrap<C: BlockCipher>(
     cipher: &C,
     wrapped: &[[u8; 4]],

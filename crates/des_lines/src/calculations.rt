@@ -12,7 +12,7 @@ use crate::fault::{Fault, FaultKind};
 use crate::lines::{WEAK, lines_of};
 use crate::names::{about_of, account_name};
 use crate::report::{show, tell};
-use crate::requests::{Calculation, CalculationRequest, Inputs, LONGEST_INPUT, PinCalculation};
+use crate::requests::{Calculation, CalculationRequest, Inputs, MAX_INPUT, PinCalculation};
 use crate::sentences::Sentences;
 use crate::tags::{WRONG, status_of};
 use std::alloc::Global;
@@ -27,7 +27,7 @@ fn lacks_check_digit(account: &[u8]) -> bool
 
 // The line, unless the account number is refused.
 fn line_by(alloc: Global, request: &CalculationRequest, inputs: Inputs) -> Lines
-    requires { length inputs.text.now ≤ LONGEST_INPUT }
+    requires { length inputs.text.now ≤ MAX_INPUT }
     ensures fault { FailsAsAsked request.now inputs.entry result }
     ensures line { IfOk result (λ line. IsLine request.now.calculation inputs.entry line.items) }
 {
@@ -43,7 +43,7 @@ fn outcome_of<'a>(
     request: &CalculationRequest<'a>,
     inputs: Inputs,
 ) -> Result<Vec<u8>, Fault<'a>>
-    requires { length inputs.text.now ≤ LONGEST_INPUT }
+    requires { length inputs.text.now ≤ MAX_INPUT }
     ensures { IsOutcome request.now inputs.entry result }
 {
     match line_by(alloc, request, inputs) {
@@ -55,8 +55,8 @@ fn outcome_of<'a>(
     }
 }
 
-// Writes the line of a wrong check digit to `err`, unless it is refused. A line that can't be written
-// is no fault.
+// Writes the line of a wrong check digit to `err`, unless it is refused. A line that can't be
+// written is no fault.
 fn tell_check_digit<S: Sentences, E: Write>(
     request: &CalculationRequest,
     account: &[u8],
@@ -92,9 +92,9 @@ fn is_no(calculation: Calculation, outcome: &Result<Vec<u8>, Fault>) -> bool
 }
 
 /// Writes the line of a calculation to `out`, by what was read for it, or the line of its fault to
-/// `err`. A notice on a wrong check digit is written to `err` first, unless that is a fault. Returns the
-/// status that the program ends with: 0 if the whole line was written, and 1 if that says no;
-/// 4 if it was not, or that of the fault.
+/// `err`. A notice on a wrong check digit is written to `err` first, unless that is a fault.
+/// Returns the status that the program ends with: 0 if the whole line was written, and 1 if that
+/// says no; 4 if it was not, or that of the fault.
 pub fn run<S: Sentences, W: Write, E: Write>(
     alloc: Global,
     request: &CalculationRequest,
@@ -102,7 +102,7 @@ pub fn run<S: Sentences, W: Write, E: Write>(
     out: &mut W,
     err: &mut E,
 ) -> u8
-    requires { length inputs.text.now ≤ LONGEST_INPUT }
+    requires { length inputs.text.now ≤ MAX_INPUT }
     ensures { IsRun S.says W.contents E.contents request.now inputs.entry result
         out.old out.new err.old err.new }
 {

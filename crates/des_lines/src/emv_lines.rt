@@ -10,7 +10,7 @@ ghost use Rattle.des_lines.specs.EmvLines.{card_key_by, cryptogram_of, cryptogra
 use crate::digits::{Lines, bytes_in, decode, hex_answer};
 use crate::fault::FaultKind;
 use crate::keys::pair_of;
-use crate::requests::{CardKeyOption, EmvCalculation, Inputs, LONGEST_INPUT};
+use crate::requests::{CardKeyOption, EmvCalculation, Inputs, MAX_INPUT};
 use des_payment::emv;
 use des_payment::emv_error::EmvError;
 use std::alloc::Global;
@@ -19,7 +19,7 @@ use std::alloc::Global;
 ///
 /// Every fault but `Memory` is found before any memory is asked for.
 pub fn emv_line(alloc: Global, calculation: EmvCalculation, inputs: Inputs) -> Lines
-    requires { length inputs.text.now ≤ LONGEST_INPUT }
+    requires { length inputs.text.now ≤ MAX_INPUT }
     ensures fault { FailsAsEmv calculation.entry inputs.entry result }
     ensures line { IfOk result (λ line. IsEmvLine calculation.entry inputs.entry line.items) }
 {
@@ -81,7 +81,7 @@ fn card_key(
 
 // The line of the cryptogram of the data that digits write.
 fn cryptogram_line(alloc: Global, inputs: Inputs) -> Lines
-    requires { length inputs.text.now ≤ LONGEST_INPUT }
+    requires { length inputs.text.now ≤ MAX_INPUT }
     ensures fault { FailsBy (cryptogram_fault inputs.entry) result }
     ensures line { IfOk result (λ line. line.items ≡ hex_line_of (cryptogram_of inputs.entry)) }
 {
@@ -90,7 +90,7 @@ fn cryptogram_line(alloc: Global, inputs: Inputs) -> Lines
     if digits.is_empty() || digits.len() % 2 != 0 {
         return Err(FaultKind::CryptogramData);
     }
-    let mut buffer = [0u8; LONGEST_INPUT / 2];
+    let mut buffer = [0u8; MAX_INPUT / 2];
     let bytes = &mut buffer[..digits.len() / 2];
     decode(digits, bytes, FaultKind::CryptogramData)?;
     hex_answer(alloc, &emv::application_cryptogram(&session, bytes))

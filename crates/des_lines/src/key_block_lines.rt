@@ -1,5 +1,5 @@
-//! The lines of calculations with key blocks: the fields of a header, what a block holds, and a block
-//! that is made.
+//! The lines of calculations with key blocks: the fields of a header, what a block holds, and a
+//! block that is made.
 
 ghost use Rattle.std.specs.Prelude.{◌≡◌, ◌≤◌, ◌⊎◌, ◌++◌, List, ℕ, length, None, IsTrue, IfOk, OnOk};
 ghost use Rattle.std.specs.String.{string_bytes};
@@ -14,21 +14,22 @@ ghost use Rattle.des_lines.specs.KeyBlockLines.{FailsAsKeyBlock, AnswersKeyBlock
 use crate::digits::{Lines, hex_answer, hex_line, text_answer};
 use crate::fault::{FaultKind, Field};
 use crate::keys::AnyKey;
-use crate::requests::{Inputs, KeyBlockCalculation, RANDOM, Wrapping};
+use crate::requests::{Inputs, KeyBlockCalculation, MAX_RANDOM_BYTES, Wrapping};
 use des_key_blocks::key_block_error::KeyBlockError;
 use des_key_blocks::key_block_header::{
-    Algorithm, Exportability, Header, KeyContext, MOST_CHARACTERS, ModeOfUse, Usage,
+    Algorithm, Exportability, Header, KeyContext, MAX_CHARACTERS, ModeOfUse, Usage,
     are_alphanumeric,
 };
 use des_key_blocks::key_blocks::{self, key_context, optional_block, wrap};
 use des_key_blocks::optional_blocks::{
-    MOST_BLOCKS, OptionalBlock, is_printable, read_optional_blocks,
+    MAX_BLOCKS, OptionalBlock, is_printable, read_optional_blocks,
 };
 use des_payment::key_check_value;
 use std::alloc::{AllocError, Global};
 
-/// The lines of a calculation with a key block. The key protects blocks; the input is a block, or the
-/// digits of the key that is wrapped. A block that is made is padded by the first of the random bytes.
+/// The lines of a calculation with a key block. The key protects blocks; the input is a block, or
+/// the digits of the key that is wrapped. A block that is made is padded by the first of the random
+/// bytes.
 ///
 /// Every fault but `Memory` is found before any memory is asked for.
 pub fn key_block_lines(alloc: Global, calculation: KeyBlockCalculation, inputs: Inputs) -> Lines
@@ -134,7 +135,7 @@ fn add_optional_blocks(lines: &mut Vec<u8>, block: &[u8]) -> Result<(), FaultKin
         → FailsBy None result × OnOk result (lines.new.items
         ≡ lines.old.items ++ optional_lines blocks) }
 {
-    for place in 0..MOST_BLOCKS {
+    for place in 0..MAX_BLOCKS {
         match optional_block(block, place)? {
             Some(found) => add_optional(lines, found)?,
             None => return Ok(()),
@@ -256,7 +257,7 @@ fn block_line(
     header: &Header,
     optional: &[u8],
     key: &[u8],
-    random: &[u8; RANDOM],
+    random: &[u8; MAX_RANDOM_BYTES],
 ) -> Lines
     requires least { 8 ≤ length key.now }
     requires most { length key.now ≤ 24 }
@@ -268,10 +269,10 @@ fn block_line(
         name: [0; 2],
         content: &[],
     };
-    let mut blocks = [nothing; MOST_BLOCKS];
+    let mut blocks = [nothing; MAX_BLOCKS];
     let count = read_optional_blocks(optional, &mut blocks)?;
     let padding = &random[..30 - key.len()];
-    let mut text = [0u8; MOST_CHARACTERS];
+    let mut text = [0u8; MAX_CHARACTERS];
     let size = wrap(
         protection,
         header,

@@ -1,6 +1,6 @@
-//! The lines that `cukvashe` writes: the answers of calculations by what was read, as check values, PIN
-//! blocks, card values and key blocks, and those of all faults. Nothing here reads arguments or opens
-//! files: `des_commands` does.
+//! The lines that `cukvashe` writes: the answers of calculations by what was read, as check values,
+//! PIN blocks, card values and key blocks, and those of all faults. Nothing here reads arguments or
+//! opens files: `des_commands` does.
 #![tactic(auto)]
 
 pub mod calculations;

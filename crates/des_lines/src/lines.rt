@@ -15,7 +15,7 @@ use crate::fault::FaultKind;
 use crate::key_block_lines::key_block_lines;
 use crate::keys::{AnyKey, is_weak, key_of_digits, pair_of};
 use crate::pin_lines::pin_line;
-use crate::requests::{Calculation, Inputs, LONGEST_INPUT, Purpose};
+use crate::requests::{Calculation, Inputs, MAX_INPUT, Purpose};
 use des_payment::translation::Format;
 use des_payment::{Pin, combine, cvv, dukpt, key_check_value, pin_blocks, set_odd_parity};
 use std::alloc::Global;
@@ -29,7 +29,7 @@ const NOT_WEAK: &str = "not weak\n";
 ///
 /// Every fault but `Memory` is found before any memory is asked for.
 pub fn lines_of(alloc: Global, calculation: Calculation, inputs: Inputs) -> Lines
-    requires { length inputs.text.now ≤ LONGEST_INPUT }
+    requires { length inputs.text.now ≤ MAX_INPUT }
     ensures fault { FailsAs calculation.entry inputs.entry result }
     ensures line { IfOk result (λ line. IsLine calculation.entry inputs.entry line.items) }
 {
@@ -150,20 +150,20 @@ fn components_line<const N: usize>(alloc: Global, digits: &[u8]) -> Lines
     requires size { (N ≡ 8) ⊎ (N ≡ 16) ⊎ (N ≡ 24) }
     requires whole { length digits.now % (2 * N) ≡ 0 }
     requires two { 4 * N ≤ length digits.now }
-    requires longest { length digits.now ≤ LONGEST_INPUT }
+    requires longest { length digits.now ≤ MAX_INPUT }
     ensures fault { FailsOrRefuses (text_fault FaultKind.KeyText digits.now)
         (IsRefused (key_of_components N (bytes_of_text digits.now))) result }
     ensures line { IfOk result (λ line.
         line.items ≡ hex_line_of (key_of_components N (bytes_of_text digits.now))) }
 {
-    let mut buffer = [0u8; LONGEST_INPUT / 2];
+    let mut buffer = [0u8; MAX_INPUT / 2];
     let bytes = &mut buffer[..digits.len() / 2];
     decode(digits, bytes, FaultKind::KeyText)?;
     combined_line::<N>(alloc, bytes)
 }
 
 fn combine_line(alloc: Global, count: u8, digits: &[u8]) -> Lines
-    requires { length digits.now ≤ LONGEST_INPUT }
+    requires { length digits.now ≤ MAX_INPUT }
     ensures fault { FailsOrRefuses (components_fault count digits.now)
         (IsRefused (key_of_count count digits.now)) result }
     ensures line { IfOk result (λ line. line.items ≡ hex_line_of (key_of_count count digits.now)) }

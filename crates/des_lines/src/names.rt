@@ -1,5 +1,5 @@
-//! What the faults of a calculation are about: an option, a place in the command line, or the name of
-//! what is read. None of these is a secret.
+//! What the faults of a calculation are about: an option, a place in the command line, or the name
+//! of what is read. None of these is a secret.
 
 ghost use Rattle.std.specs.Prelude.{IsTrue};
 ghost use Rattle.des_lines.specs.Names.{is_place, IsSubject};
@@ -45,8 +45,8 @@ pub fn key_name<'a>(request: &CalculationRequest<'a>) -> &'a str
     }
 }
 
-/// What a fault of the key of an outgoing block is about, or of the key that is wrapped, which is the
-/// input.
+/// What a fault of the key of an outgoing block is about, or of the key that is wrapped, which is
+/// the input.
 pub fn to_key_name<'a>(request: &CalculationRequest<'a>) -> &'a str
     ensures { IsSubject request.now result.now }
 {
@@ -89,8 +89,8 @@ fn about_of_emv<'a>(error: EmvError, request: &CalculationRequest<'a>) -> &'a st
     }
 }
 
-// What a fault of a key block is about: the key that protects it; of one that is made, the key that it
-// holds or an option, and of one that is read the block.
+// What a fault of a key block is about: the key that protects it; of one that is made, the key that
+// it holds or an option, and of one that is read the block.
 fn about_of_key_block<'a>(error: KeyBlockError, request: &CalculationRequest<'a>) -> &'a str
     ensures { IsSubject request.now result.now }
 {

@@ -1,5 +1,5 @@
-//! The lines of calculations with PINs and keys: PIN blocks under another key, PIN verification values,
-//! natural PINs and offsets.
+//! The lines of calculations with PINs and keys: PIN blocks under another key, PIN verification
+//! values, natural PINs and offsets.
 
 ghost use Rattle.std.specs.Prelude.{◌≡◌, IfOk};
 ghost use Rattle.std.specs.Result.{result_err};

@@ -12,14 +12,15 @@ use des_io::StreamError;
 use des_io::pieces::write_whole;
 use std::io::{self, Write};
 
-// As much as a pipe takes at once, so that lines of programs that write beside each other stay whole.
-const LINE_AT_MOST: usize = 4096;
+// As much as a pipe takes at once, so that lines of programs that write beside each other stay
+// whole.
+const MAX_LINE: usize = 4096;
 
 // A line that is gathered to be written at once. It allocates nothing, since a lack of memory is
 // reported by a line too.
 #[derive(Drop)]
 struct Line {
-    bytes: [u8; LINE_AT_MOST],
+    bytes: [u8; MAX_LINE],
     length: usize,
 }
 
@@ -28,7 +29,7 @@ impl Line {
     fn gathered(&self) -> &[u8]
         ensures { result.now ≡ take self.now.length self.now.bytes }
     {
-        &self.bytes[..self.length.min(LINE_AT_MOST)]
+        &self.bytes[..self.length.min(MAX_LINE)]
     }
 }
 
@@ -37,8 +38,8 @@ impl Write for Line {
     ghost contents = { λ line. Some (take line.length line.bytes) };
 
     fn write(&mut self, buf: &[u8]) -> io::Result<usize> {
-        let start = self.length.min(LINE_AT_MOST);
-        let count = buf.len().min(LINE_AT_MOST - start);
+        let start = self.length.min(MAX_LINE);
+        let count = buf.len().min(MAX_LINE - start);
         self.bytes[start..start + count].copy_from_slice(&buf[..count]);
         self.length = start + count;
         Ok(count)
@@ -68,8 +69,8 @@ fn separator(about: &str) -> &'static str
     if about.is_empty() { "" } else { ": " }
 }
 
-// Whether a terminal may act on a character and not show it: a control character, or one that turns the
-// direction of a line.
+// Whether a terminal may act on a character and not show it: a control character, or one that turns
+// the direction of a line.
 fn is_unseen(character: char) -> bool
     ensures { result ≡ is_unseen_of character }
 {
@@ -125,10 +126,10 @@ fn write_parts<W: Write>(
     write_texts(out, &[separator(about), words, "\n"])
 }
 
-/// Writes a line of a fault or a notice: its name, what it is about, if that is not empty, and
-/// its words. Name and words are of the program's own text, so neither can be a secret. Of what it is
-/// about, characters that a terminal may act on are shown as question marks. One write takes the whole line, unless
-/// it is longer than `LINE_AT_MOST`.
+/// Writes the line of a fault or a notice: its name, what it is about, if that is not empty, and a
+/// sentence. Name and sentence are constants, so neither can be a secret. In what the line is
+/// about, characters that a terminal may act on are replaced by question marks. The line goes out
+/// in one write, unless it is longer than `MAX_LINE`.
 pub fn write_line<E: Write>(
     name: &'static str,
     about: &str,
@@ -141,7 +142,7 @@ pub fn write_line<E: Write>(
         (line_with name.now about.now words.now)) }
 {
     let mut line = Line {
-        bytes: [0; LINE_AT_MOST],
+        bytes: [0; MAX_LINE],
         length: 0,
     };
     match write_parts(&mut line, name, about, words) {
@@ -162,7 +163,8 @@ pub fn report<S: Sentences, E: Write>(fault: Fault, err: &mut E) -> Result<(), S
     write_line(words.name, fault.about, words.sentence, err)
 }
 
-/// Writes the line of a fault, and returns its status. A line that can't be written changes no status.
+/// Writes the line of a fault, and returns its status. A line that can't be written changes no
+/// status.
 pub fn tell<S: Sentences, E: Write>(fault: Fault, err: &mut E) -> u8
     ensures { IsTold S.says E.contents fault.entry.kind fault.entry.about.now result err.old err.new }
 {
@@ -170,10 +172,10 @@ pub fn tell<S: Sentences, E: Write>(fault: Fault, err: &mut E) -> u8
     fault.kind.status()
 }
 
-/// Writes a result to `out`, or the line of a fault to `err`, and returns the status that the program
-/// ends with: 0 if the whole result was written, that of the fault `Write` if it was not, and
-/// that of the fault. No clause says that `Write` is told only if `out` failed, since std has no
-/// word for that; runs of the program show it.
+/// Writes a result to `out`, or the line of a fault to `err`, and returns the status that the
+/// program ends with: 0 if the whole result was written, that of the fault `Write` if it was not,
+/// and that of the fault. No clause says that `Write` is told only if `out` failed, since std has
+/// no word for that; runs of the program show it.
 pub fn show<S: Sentences, W: Write, E: Write>(
     outcome: &Result<Vec<u8>, Fault>,
     out: &mut W,

@@ -6,10 +6,10 @@ use des_payment::dukpt::MessageDirection;
 use des_payment::translation::Format;
 
 /// The bytes of the longest input: a key block, white space among them.
-pub const LONGEST_INPUT: usize = 16384;
+pub const MAX_INPUT: usize = 16384;
 
 /// The random bytes that a key block takes at most: its padding with the key has 30 bytes.
-pub const RANDOM: usize = 22;
+pub const MAX_RANDOM_BYTES: usize = 22;
 
 /// Where an account number is.
 #[derive(Clone, Copy)]
@@ -48,11 +48,11 @@ pub struct Inputs<'a> {
     /// The digits of the key of an outgoing block.
     pub to_key: &'a [u8],
     /// The random bytes of a key block that is made.
-    pub random: &'a [u8; RANDOM],
+    pub random: &'a [u8; MAX_RANDOM_BYTES],
 }
 
-/// What is computed from short inputs. A key, components, a PIN, a block or data are in the input, as
-/// digits.
+/// What is computed from short inputs. A key, components, a PIN, a block or data are in the input,
+/// as digits.
 #[derive(Clone, Copy)]
 pub enum Calculation<'a> {
     /// The first `bytes` bytes of a key's check value.
@@ -119,8 +119,8 @@ pub struct NaturalPins<'a> {
     pub takes_any_table: bool,
 }
 
-/// A calculation with a PIN and a key. The input is the PIN, but for `Translate`, `TranslateFormat1` and
-/// `Natural`.
+/// A calculation with a PIN and a key. The input is the PIN, but for `Translate`,
+/// `TranslateFormat1` and `Natural`.
 #[derive(Clone, Copy)]
 pub enum PinCalculation<'a> {
     /// The encrypted block of the same PIN under the outgoing key. The input is the block.

@@ -1,5 +1,5 @@
-//! The words of each fault: its name, and what is said of it. No clause promises a wording: runs of the
-//! program compare each that a command line reaches.
+//! The words of each fault: its name, and what is said of it. No clause promises a wording: runs of
+//! the program compare each that a command line reaches.
 
 ghost use Rattle.std.specs.Prelude.{ℕ, List, ⊤};
 ghost use Rattle.des_lines.specs.declared.fault.FaultKind.{FaultKind};
@@ -17,9 +17,9 @@ pub struct Words {
     pub sentence: &'static str,
 }
 
-/// The words of faults. What writes the line of a fault takes this as a type parameter, and is proved
-/// for any. So the words depend on the kind of the fault alone, and the line has besides them only what
-/// the fault is about: nothing else that the caller knows, as a key or a PIN.
+/// The words of faults. What writes the line of a fault takes this as a type parameter, and is
+/// proved for any. So the words depend on the kind of the fault alone, and the line has besides
+/// them only what the fault is about: nothing else that the caller knows, as a key or a PIN.
 pub trait Sentences {
     /// Which name and which sentence a fault may have.
     ghost says: { FaultKind → List ℕ → List ℕ → Type 0 };
@@ -47,12 +47,13 @@ fn sentence_of(kind: FaultKind) -> &'static str {
         FaultKind::Usage(misuse) => misuse_words(misuse),
         FaultKind::Source(reason) | FaultKind::Read(reason) | FaultKind::Write(reason) =>
             reason_words(reason),
-        FaultKind::Variable => "no such environment variable is exported, or its value is no text",
+        FaultKind::Variable =>
+            "no such environment variable is exported, or its value is not valid UTF-8",
         FaultKind::InputLength => "the input is too long",
         FaultKind::KeyLength(size) => key_words(size),
         FaultKind::ToKeyLength => key_words(None),
         FaultKind::KeyText | FaultKind::ToKeyText => {
-            "the key has a character that is no hexadecimal digit"
+            "the key has a character that is not a hexadecimal digit"
         }
         FaultKind::WeakKey => {
             "the key is weak, or has equal parts (see --weak-keys of encrypt and decrypt)"
@@ -69,15 +70,15 @@ fn sentence_of(kind: FaultKind) -> &'static str {
         FaultKind::IssuerData => "at most 16 hexadecimal digits are needed, two for each byte",
         FaultKind::CryptogramData => "hexadecimal digits are needed, two for each byte",
         FaultKind::BlockLength => "a block of 16 hexadecimal digits is needed",
-        FaultKind::BlockText => "the block has a character that is no hexadecimal digit",
+        FaultKind::BlockText => "the block has a character that is not a hexadecimal digit",
         FaultKind::SerialLength =>
             "a key serial number has 20 hexadecimal digits: put FFFF before one of 16",
         FaultKind::SerialText =>
-            "the key serial number has a character that is no hexadecimal digit",
+            "the key serial number has a character that is not a hexadecimal digit",
         FaultKind::SerialCounter =>
             "the key serial number's counter is 0, or has more than ten one bits",
         FaultKind::FillLength => "ten digits are needed",
-        FaultKind::FillText => "a character is no hexadecimal digit",
+        FaultKind::FillText => "a character is not a hexadecimal digit",
         FaultKind::CheckDigit => "the account number's last digit is not its check digit",
         FaultKind::Pin(error) => pin_words(error),
         FaultKind::Cvv(error) => cvv_words(error),
@@ -102,14 +103,14 @@ fn reason_words(reason: Reason) -> &'static str {
         Reason::NotFound => "there is no such file, folder or descriptor",
         Reason::Permission => "permission denied",
         Reason::IsFolder => "it is a folder",
-        Reason::NotFolder => "a part of the path is no folder",
-        Reason::Loop => "its symbolic links go in a circle",
-        Reason::Name => "the file system takes no such name",
+        Reason::NotFolder => "a part of the path is not a folder",
+        Reason::Loop => "its symbolic links form a loop",
+        Reason::Name => "the file system does not allow this name",
         Reason::Exists => "the name is taken",
         Reason::Full => "no space is left",
         Reason::TooLarge => "the file would be too large",
         Reason::ReadOnly => "the file system is read-only",
-        Reason::Closed => "nobody reads it any more",
+        Reason::Closed => "its reader has closed it",
         Reason::IsInput => "it is the input too",
         Reason::IsSecret => "it is the file of the key or the password",
         Reason::Reopened => "it leads to a regular file: give the file's path",
@@ -171,7 +172,7 @@ fn misuse_words(misuse: Misuse) -> &'static str {
             "decryption needs --derive: md5 (OpenSSL before 1.1.0), sha256 (since then), pbkdf2-sha256:COUNT (-pbkdf2; COUNT is 10000 without -iter), sha1 or pbkdf2-sha1:COUNT",
         Misuse::DerivationToEncrypt => "encryption takes pbkdf2-sha256:COUNT alone",
         Misuse::Count => "more than 10000000 iterations need --any-count",
-        Misuse::NoText => "an argument is no text",
+        Misuse::NoText => "an argument is not valid UTF-8",
         Misuse::Codings => "give one of --base64 and --hex",
     }
 }
@@ -185,12 +186,12 @@ fn file_words(fault: FileFault) -> &'static str {
             "the input begins as Base64 of Salted__: it is under a password, with a salt (see --password-file and --base64)",
         FileFault::NotSalted => "the input does not begin with Salted__ (see --no-salt)",
         FileFault::SaltCut => "the input ends within the salt",
-        FileFault::Base64 => "it is no Base64",
-        FileFault::HexText => "a character is no hexadecimal digit",
+        FileFault::Base64 => "it is not Base64",
+        FileFault::HexText => "a character is not a hexadecimal digit",
         FileFault::HexLength => "the number of hexadecimal digits is odd",
         FileFault::Begin =>
             "no line begins an encrypted private key (BEGIN PRIVATE KEY is not encrypted)",
-        FileFault::End => "no line ends the key as it begins",
+        FileFault::End => "no END line matches the BEGIN line",
         FileFault::NotEncrypted => "the key is not encrypted",
         FileFault::NoDekInfo => "no DEK-Info follows Proc-Type",
         FileFault::Cipher => "the cipher is neither DES-EDE3-CBC nor, of DEK-Info, DES-CBC",
@@ -204,7 +205,7 @@ fn file_words(fault: FileFault) -> &'static str {
         FileFault::KeyDerivation => "the key is not derived by PBKDF2",
         FileFault::Iterations => "there are no iterations, or more than 10000000 (see --any-count)",
         FileFault::KeySize => "the key of the cipher does not have 24 bytes",
-        FileFault::Prf => "PBKDF2 is neither with HMAC-SHA-1 nor with HMAC-SHA-256",
+        FileFault::Prf => "PBKDF2 uses neither HMAC-SHA-1 nor HMAC-SHA-256",
         FileFault::Unpadded => "wrong password or --derive, or a damaged file",
         FileFault::KeyPadding | FileFault::Password => "wrong password",
     }
@@ -225,9 +226,9 @@ fn pin_words(error: PinError) -> &'static str {
     match error {
         PinError::Format => "the block is of another format",
         PinError::PinLength => "a PIN has 4 to 12 digits",
-        PinError::PinDigit => "the PIN has a character that is no digit",
+        PinError::PinDigit => "the PIN has a character that is not a digit",
         PinError::AccountLength => "an account number of 8 to 19 digits is needed",
-        PinError::AccountDigit => "the account number has a character that is no digit",
+        PinError::AccountDigit => "the account number has a character that is not a digit",
         PinError::Fill => "the fill digits of format 3 are a to f",
     }
 }
@@ -236,11 +237,11 @@ fn pin_words(error: PinError) -> &'static str {
 fn cvv_words(error: CvvError) -> &'static str {
     match error {
         CvvError::AccountLength => "an account number of 12 to 19 digits is needed",
-        CvvError::AccountDigit => "the account number has a character that is no digit",
+        CvvError::AccountDigit => "the account number has a character that is not a digit",
         CvvError::ExpiryLength => "an expiry date has 4 digits",
-        CvvError::ExpiryDigit => "the expiry date has a character that is no digit",
+        CvvError::ExpiryDigit => "the expiry date has a character that is not a digit",
         CvvError::ServiceLength => "a service code has 3 digits",
-        CvvError::ServiceDigit => "the service code has a character that is no digit",
+        CvvError::ServiceDigit => "the service code has a character that is not a digit",
     }
 }
 
@@ -251,9 +252,9 @@ fn translation_words(error: TranslationError) -> &'static str {
         TranslationError::KeyLength => key_words(None),
         TranslationError::Formats => "there is no such translation",
         TranslationError::AccountLength => "an account number of 8 to 19 digits is needed",
-        TranslationError::AccountDigit => "the account number has a character that is no digit",
+        TranslationError::AccountDigit => "the account number has a character that is not a digit",
         TranslationError::Fill => "the fill digits of format 3 are a to f",
-        TranslationError::Block => "decrypted, the block is none of a PIN in its format",
+        TranslationError::Block => "decrypted, the block is not a PIN block of its format",
     }
 }
 
@@ -261,13 +262,13 @@ fn translation_words(error: TranslationError) -> &'static str {
 fn verification_words(error: VerificationError) -> &'static str {
     match error {
         VerificationError::AccountLength => "an account number of 12 to 19 digits is needed",
-        VerificationError::AccountDigit => "the account number has a character that is no digit",
+        VerificationError::AccountDigit => "the account number has a character that is not a digit",
         VerificationError::KeyIndex => "an index from 1 to 6 is needed",
         VerificationError::KeyLength => key_words(None),
         VerificationError::PinLength => "a PIN has 4 to 12 digits",
         VerificationError::TableLength => "a decimalization table has 16 digits",
         VerificationError::TableDigit =>
-            "the decimalization table has a character that is no digit",
+            "the decimalization table has a character that is not a digit",
         VerificationError::TableVariety =>
             "the decimalization table has fewer than eight different digits",
         VerificationError::WrongPin => "wrong PIN",
@@ -278,9 +279,9 @@ fn verification_words(error: VerificationError) -> &'static str {
 fn emv_words(error: EmvError) -> &'static str {
     match error {
         EmvError::AccountLength => "an account number of 8 to 19 digits is needed",
-        EmvError::AccountDigit => "the account number has a character that is no digit",
+        EmvError::AccountDigit => "the account number has a character that is not a digit",
         EmvError::SequenceLength => "a sequence number has 2 digits",
-        EmvError::SequenceDigit => "the sequence number has a character that is no digit",
+        EmvError::SequenceDigit => "the sequence number has a character that is not a digit",
         EmvError::DataLength => "at most 16 hexadecimal digits are needed, two for each byte",
     }
 }

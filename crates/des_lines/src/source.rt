@@ -83,7 +83,8 @@ pub fn shown<'a>(path: &'a str) -> &'a str
 }
 
 impl<'a> Source<'a> {
-    /// What a fault of this source names: the file's path, unless it may be a secret, or the option.
+    /// What a fault of this source names: the file's path, unless it may be a secret, or the
+    /// option.
     pub fn name(self) -> &'a str
         ensures { result.now ≡ name_of_source self.entry }
     {

@@ -5,7 +5,8 @@ ghost use Rattle.des.specs.Blocks.{IsKey};
 
 use des::cipher::{KeyBytes, KeyedCipher};
 
-/// A function for the proof alone: the bytes of a key are one, as many as the key size, each below 256.
+/// A function for the proof alone: the bytes of a key are one, as many as the key size, each below
+/// 256.
 pub fn are_key_bytes<K: KeyBytes>(key: &K)
     ensures { IsKey K.LEN (K.bytes_of key.now) }
 {

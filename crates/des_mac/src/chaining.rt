@@ -109,7 +109,7 @@ impl<C: KeyedCipher + Drop> Chaining<C> {
         }
     }
 
-    // Holds bytes that fit into the block after those that are held.
+    // Appends to the pending bytes others that fit into their block.
     fn hold(&mut self, bytes: &[u8])
         requires { self.old.count + length bytes.now ≤ 8 }
         ensures cipher { self.new.cipher ≡ self.old.cipher }
@@ -145,7 +145,8 @@ impl<C: KeyedCipher + Drop> Chaining<C> {
         self.hold(last);
     }
 
-    // The tag of CBC-MAC of the message with its padding; the state then stands for none.
+    // The CBC-MAC tag of the message with its padding. The state is then no longer that of a
+    // message.
     pub(crate) fn close(&mut self, padding: &[u8]) -> [u8; 8]
         ensures cipher { self.new.cipher ≡ self.old.cipher }
         ensures tag { (key m : List ℕ)

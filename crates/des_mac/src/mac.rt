@@ -24,7 +24,8 @@ impl fmt::Display for MacError {
 
 impl Error for MacError {}
 
-/// Whether two lists of bytes, equally long, are one. Each byte is looked at, wherever they differ.
+/// Whether two lists of bytes of one length are equal. Every byte is examined, wherever they
+/// differ.
 pub fn are_equal(bytes: &[u8], others: &[u8]) -> bool
     requires { length bytes.now ≡ length others.now }
     ensures { IsTrue result ↔ (bytes.now ≡ others.now) }

@@ -244,7 +244,7 @@ pub fn retail_macs_each_by<S: Slice, C: KeyForEach + Drop, P: Padding>(
 
 /// Which tags are those of their messages: `right` says of each whether it is the one at its place
 /// in `macs`, the tags that were made. Every byte is looked at, wherever two differ; nothing is
-/// claimed on time. If the three lists are not as long, the answer is `NotEqualError`, and
+/// claimed on time. If the three lists differ in length, the result is `NotEqualError`, and
 /// `right` is unchanged.
 pub fn verify_each(
     tags: &[[u8; 8]],

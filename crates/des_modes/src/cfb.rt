@@ -1,5 +1,5 @@
-//! Cipher feedback over any block cipher (FIPS 81, cipher feedback mode; NIST SP 800-38A, 6.3), with
-//! segments of one to eight bytes: eight for the feedback of 64 bits, one for that of 8.
+//! Cipher feedback over any block cipher (FIPS 81, cipher feedback mode; NIST SP 800-38A, 6.3),
+//! with segments of one to eight bytes: eight for the feedback of 64 bits, one for that of 8.
 
 ghost use Rattle.std.specs.Prelude.{◌≡◌, ◌<◌, ◌≤◌, ◌+◌, ◌-◌, ◌*◌, ◌/◌, ◌%◌, ℕ, List, [], ◌++◌, length, take, drop, slice_index_or, nat_eq, if◌then◌else◌, bit_xor};
 ghost use Rattle.des_modes.specs.Cfb.{cfb_stream, input_block};
@@ -10,7 +10,7 @@ ghost use Rattle.des_modes.specs.declared.modes.Mode.TheVariants.{CipherFeedback
 
 use crate::direction::Direction;
 use crate::feedback::{Feedback, block_at};
-use crate::parts::{TOGETHER, TakesParts};
+use crate::parts::{BLOCKS_AT_A_TIME, TakesParts};
 use crate::place::Place;
 use crate::xored::{xor_block_from, xor_blocks_from, xor_segments};
 use des::cipher::{BlockCipherEncrypt, are_blocks};
@@ -111,9 +111,9 @@ fn within_segment(end: usize, segment: usize) -> usize
     if end == segment { 0 } else { end }
 }
 
-/// Cipher feedback in segments of some bytes. The register of a place is the shift register, which holds
-/// the last eight bytes of the initialization vector and the ciphertext; `output` is the output block of a
-/// segment that has begun.
+/// Cipher feedback in segments of some bytes. The register of a place is the shift register, which
+/// holds the last eight bytes of the initialization vector and the ciphertext; `output` is the
+/// output block of a segment that has begun.
 #[derive(Drop)]
 pub(crate) struct CfbMode {
     pub(crate) segment: usize,
@@ -183,8 +183,8 @@ impl CfbMode {
         }
     }
 
-    // Encrypts segments of eight bytes together, of which the last may be cut short. Not inlined, so that
-    // a text of one block clears no buffer for many.
+    // Encrypts segments of eight bytes together, of which the last may be cut short. Not inlined,
+    // so that a text of one block clears no buffer for many.
     #[inline(never)]
     fn encrypt_segments<C: Feedback>(&self, place: &mut Place, cipher: &C, bytes: &mut [u8])
         requires wide { self.now.segment ≡ 8 }
@@ -198,7 +198,7 @@ impl CfbMode {
             Encrypt place.old place.new bytes.old bytes.new }
     {
         let count = bytes.len();
-        let mut outputs = [[0; 8]; TOGETHER];
+        let mut outputs = [[0; 8]; BLOCKS_AT_A_TIME];
         let part = &mut outputs[..count_of(count, 8)];
         let (plaintext, _) = bytes.as_chunks::<8>();
         cipher.write_outputs(&place.register, plaintext, part);
@@ -209,7 +209,8 @@ impl CfbMode {
         place.output = block_at(part, count / 8);
     }
 
-    // Decrypts segments together, of which the last may be cut short. Not inlined, as `encrypt_segments`.
+    // Decrypts segments together, of which the last may be cut short. Not inlined, as
+    // `encrypt_segments`.
     #[inline(never)]
     fn decrypt_segments<C: BlockCipherEncrypt>(
         &self,
@@ -226,10 +227,10 @@ impl CfbMode {
             Decrypt place.old place.new bytes.old bytes.new }
     {
         let count = bytes.len();
-        let mut joined = [0; 8 + 8 * TOGETHER];
+        let mut joined = [0; 8 + 8 * BLOCKS_AT_A_TIME];
         let inputs = &mut joined[..8 + count];
         write_joined(inputs, &place.register, bytes);
-        let mut blocks = [[0; 8]; TOGETHER];
+        let mut blocks = [[0; 8]; BLOCKS_AT_A_TIME];
         let part = &mut blocks[..count_of(count, self.segment)];
         write_outputs(cipher, part, inputs, self.segment);
         xor_segments(bytes, part, self.segment);
@@ -244,8 +245,8 @@ impl<C: Feedback> TakesParts<C> for CfbMode {
 
     ghost key_stream = { λ cfb encryption iv c. cfb_stream cfb.segment encryption iv c };
 
-    // What is left of a segment that has begun; otherwise 256 segments, but only one to encrypt if it has
-    // fewer than eight bytes.
+    // What is left of a segment that has begun; otherwise 256 segments, but only one to encrypt if
+    // it has fewer than eight bytes.
     ghost limit = { λ cfb direction used.
         if nat_eq used 0 then
         (plaintext direction (if nat_eq cfb.segment 8 then 2048 else cfb.segment)
@@ -257,7 +258,7 @@ impl<C: Feedback> TakesParts<C> for CfbMode {
         }
         match direction {
             Direction::Encrypt if self.segment < 8 => self.segment,
-            _ => self.segment * TOGETHER,
+            _ => self.segment * BLOCKS_AT_A_TIME,
         }
     }
 

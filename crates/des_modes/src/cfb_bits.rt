@@ -1,5 +1,6 @@
-//! Cipher feedback of one bit over any block cipher (FIPS 81, cipher feedback mode; NIST SP 800-38A,
-//! 6.3): CFB-1. Lengths are in bits. The first bit is the most significant of the first byte.
+//! Cipher feedback of one bit over any block cipher (FIPS 81, cipher feedback mode; NIST SP
+//! 800-38A, 6.3): CFB-1. Lengths are in bits. The first bit is the most significant of the first
+//! byte.
 
 ghost use Rattle.std.specs.Prelude.{◌≡◌, ◌<◌, ◌≤◌, ◌*◌, ◌++◌, ℕ, Bool, List, [], ◌∷◌, length, drop, slice_set};
 ghost use Rattle.des.specs.Bits.{bits_of_bytes, xor};
@@ -54,8 +55,8 @@ fn advance(register: &mut [u8; 8], bit: bool)
 }
 
 /// Encrypts or decrypts the next bits of a stream in place, the first `bits` bits of the bytes. The
-/// others stay as they are. The register holds the last 64 bits of the initialization vector and the
-/// ciphertext.
+/// others stay as they are. The register holds the last 64 bits of the initialization vector and
+/// the ciphertext.
 pub(crate) fn apply<C: BlockCipherEncrypt>(
     register: &mut [u8; 8],
     direction: Direction,

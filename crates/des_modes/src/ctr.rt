@@ -8,7 +8,7 @@ ghost use Rattle.des_modes.specs.declared.modes.Mode.TheVariants.{Counter};
 
 use crate::direction::Direction;
 use crate::feedback::Feedback;
-use crate::parts::{TOGETHER, TakesParts};
+use crate::parts::{BLOCKS_AT_A_TIME, TakesParts};
 use crate::place::Place;
 use crate::xored::{xor_block_from, xor_blocks_from};
 use des::cipher::BlockCipherEncrypt;
@@ -34,7 +34,8 @@ fn write_outputs<C: BlockCipherEncrypt>(cipher: &C, blocks: &mut [[u8; 8]], coun
     cipher.encrypt_blocks(blocks);
 }
 
-// Encrypts or decrypts bytes of one block by the output block of its counter, from its byte `used` on.
+// Encrypts or decrypts bytes of one block by the output block of its counter, from its byte `used`
+// on.
 fn apply_output<C: BlockCipherEncrypt>(cipher: &C, counter: u64, used: usize, bytes: &mut [u8])
     requires { used + length bytes.old ≤ 8 }
     ensures { (i : ℕ) → i < length bytes.old → slice_index bytes.new i
@@ -46,8 +47,8 @@ fn apply_output<C: BlockCipherEncrypt>(cipher: &C, counter: u64, used: usize, by
     xor_block_from(bytes, &output, used);
 }
 
-// Encrypts or decrypts bytes by the output blocks of a counter and of those that follow it, from byte
-// `used` of the first on. Not inlined, so that a text of one block clears no buffer for many.
+// Encrypts or decrypts bytes by the output blocks of a counter and of those that follow it, from
+// byte `used` of the first on. Not inlined, so that a text of one block clears no buffer for many.
 #[inline(never)]
 fn apply_many<C: BlockCipherEncrypt>(cipher: &C, counter: u64, used: usize, bytes: &mut [u8])
     requires { used + length bytes.old ≤ 2048 }
@@ -56,7 +57,7 @@ fn apply_many<C: BlockCipherEncrypt>(cipher: &C, counter: u64, used: usize, byte
         (slice_index (C.encrypted cipher.now (to_be_bytes w64 ((counter + (used + i) / 8) % 2 ^ 64)))
         ((used + i) % 8)) }
 {
-    let mut blocks = [[0; 8]; TOGETHER];
+    let mut blocks = [[0; 8]; BLOCKS_AT_A_TIME];
     let part = &mut blocks[..(used + bytes.len()).div_ceil(8)];
     write_outputs(cipher, part, counter);
     xor_blocks_from(bytes, part, used);
@@ -77,7 +78,8 @@ fn apply_outputs<C: BlockCipherEncrypt>(cipher: &C, counter: u64, used: usize, b
     }
 }
 
-/// The counter mode. The register of a place holds the counter of the block that the next byte is in.
+/// The counter mode. The register of a place holds the counter of the block that the next byte is
+/// in.
 pub(crate) struct CtrMode;
 
 impl<C: Feedback> TakesParts<C> for CtrMode {
@@ -88,7 +90,7 @@ impl<C: Feedback> TakesParts<C> for CtrMode {
     ghost limit = { λ ctr direction used. 2048 - used };
 
     fn most(&self, _direction: Direction, place: &Place) -> usize {
-        8 * TOGETHER - place.used
+        8 * BLOCKS_AT_A_TIME - place.used
     }
 
     fn apply_part(&self, _direction: Direction, place: &mut Place, cipher: &C, bytes: &mut [u8]) {

@@ -1,5 +1,5 @@
-//! Ciphers that make the output blocks of a feedback: those of OFB and of CFB of 64 bits, each of which
-//! waits for the one before it.
+//! Ciphers that make the output blocks of a feedback: those of OFB and of CFB of 64 bits, each of
+//! which waits for the one before it.
 
 ghost use Rattle.std.specs.Prelude.{◌≡◌, slice_index_or, replicate};
 ghost use Rattle.des_fast.specs.ChainingValues.{AreOutputs};
@@ -22,8 +22,8 @@ pub(crate) fn block_at(blocks: &[[u8; 8]], place: usize) -> [u8; 8]
 /// A cipher that makes the output blocks of a feedback, block after block or in a way of its own.
 pub trait Feedback: BlockCipherEncrypt {
     /// Writes output blocks of 8 bytes (FIPS 81, output and cipher feedback mode): the first is the
-    /// encryption of `iv`, and each other that of the one before it xored with the plaintext block there,
-    /// or, if the plaintext has ended, of the one before it alone.
+    /// encryption of `iv`, and each other that of the one before it xored with the plaintext block
+    /// there, or, if the plaintext has ended, of the one before it alone.
     fn write_outputs(&self, iv: &[u8; 8], plaintext: &[[u8; 8]], outputs: &mut [[u8; 8]])
         ensures { AreOutputs (Self.encrypted self.now) iv.now plaintext.now outputs.new }
     {

@@ -17,8 +17,8 @@ pub struct ByLists<'a, C, S> {
 }
 
 impl<'a, C: ManyBlocks, S: Slice> ByLists<'a, C, S> {
-    /// The cipher, by its calls for lists. If `no_tables` is true, no table is read at an index that
-    /// depends on the key or on a block.
+    /// The cipher, by its calls for lists. If `no_tables` is true, no table is read at an index
+    /// that depends on the key or on a block.
     pub fn new(cipher: &'a C, no_tables: bool) -> ByLists<'a, C, S>
         ensures cipher { result.cipher.now ≡ cipher.now }
         ensures no_tables { result.no_tables ≡ no_tables }

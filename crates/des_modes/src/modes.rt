@@ -9,8 +9,8 @@ pub const CTR: u32 = 31;
 /// The number of output feedback.
 pub const OFB: u32 = 32;
 
-/// The number of cipher feedback of one bit. 41 to 48 are those with segments of 1 to 8 bytes: 41 is
-/// that of 8 bits, 48 that of 64.
+/// The number of cipher feedback of one bit. 41 to 48 are those with segments of 1 to 8 bytes: 41
+/// is that of 8 bits, 48 that of 64.
 pub const CFB1: u32 = 40;
 
 /// A mode that makes a stream cipher of a block cipher.

@@ -1,5 +1,5 @@
-//! Output feedback of 64 bits over any block cipher (FIPS 81, output feedback mode; NIST SP 800-38A,
-//! 6.4).
+//! Output feedback of 64 bits over any block cipher (FIPS 81, output feedback mode; NIST SP
+//! 800-38A, 6.4).
 
 ghost use Rattle.std.specs.Prelude.{◌≡◌, ◌<◌, ◌≤◌, ◌+◌, ◌-◌, ◌/◌, ℕ, List, length, nat_eq, if◌then◌else◌, bit_xor};
 ghost use Rattle.des_modes.specs.Ofb.{ofb_stream, output_block};
@@ -10,7 +10,7 @@ ghost use Rattle.des_modes.specs.declared.modes.Mode.TheVariants.{OutputFeedback
 
 use crate::direction::Direction;
 use crate::feedback::Feedback;
-use crate::parts::{TOGETHER, TakesParts};
+use crate::parts::{BLOCKS_AT_A_TIME, TakesParts};
 use crate::place::Place;
 use crate::xored::{xor_block_from, xor_blocks_from};
 use des::cipher::{BlockCipherEncrypt, are_blocks};
@@ -29,8 +29,8 @@ fn current<C: BlockCipherEncrypt>(place: &Place, cipher: &C) -> [u8; 8]
     block
 }
 
-// Encrypts or decrypts bytes from the beginning of an output block on. Not inlined, so that a text of
-// one block clears no buffer for many.
+// Encrypts or decrypts bytes from the beginning of an output block on. Not inlined, so that a text
+// of one block clears no buffer for many.
 #[inline(never)]
 fn apply_chained<C: Feedback>(place: &mut Place, cipher: &C, bytes: &mut [u8])
     requires between { place.old.used ≡ 0 }
@@ -42,7 +42,7 @@ fn apply_chained<C: Feedback>(place: &mut Place, cipher: &C, bytes: &mut [u8])
         (λ c. ofb_stream (C.encrypted cipher.now) iv)
         direction place.old place.new bytes.old bytes.new }
 {
-    let mut outputs = [[0; 8]; TOGETHER];
+    let mut outputs = [[0; 8]; BLOCKS_AT_A_TIME];
     let part = &mut outputs[..bytes.len().div_ceil(8)];
     cipher.write_outputs(&place.register, &[], part);
     are_blocks(part);
@@ -51,8 +51,8 @@ fn apply_chained<C: Feedback>(place: &mut Place, cipher: &C, bytes: &mut [u8])
     place.used = bytes.len() % 8;
 }
 
-/// Output feedback. The register of a place holds the last output block; `used` is 0 again when all its
-/// bytes are used.
+/// Output feedback. The register of a place holds the last output block; `used` is 0 again when all
+/// its bytes are used.
 pub(crate) struct OfbMode;
 
 impl<C: Feedback> TakesParts<C> for OfbMode {
@@ -64,7 +64,7 @@ impl<C: Feedback> TakesParts<C> for OfbMode {
 
     fn most(&self, _direction: Direction, place: &Place) -> usize {
         if place.used == 0 {
-            8 * TOGETHER
+            8 * BLOCKS_AT_A_TIME
         } else {
             8 - place.used
         }

@@ -11,7 +11,7 @@ use crate::feedback::Feedback;
 use crate::place::Place;
 
 /// The most blocks that go through the cipher in one call, which share its cost.
-pub(crate) const TOGETHER: usize = 256;
+pub(crate) const BLOCKS_AT_A_TIME: usize = 256;
 
 /// A mode that goes on from place to place, by a limited number of bytes at a time.
 pub(crate) trait TakesParts<C: Feedback> {

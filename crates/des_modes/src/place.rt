@@ -2,9 +2,9 @@
 
 ghost use Rattle.std.specs.Prelude.{◌≡◌};
 
-/// Where a stream goes on. `register` is the counter block in CTR, the last output block in OFB, and the
-/// shift register in CFB; `output` is the output block of a segment of CFB that has begun; `used` is how
-/// many bytes of the output block are used.
+/// Where a stream goes on. `register` is the counter block in CTR, the last output block in OFB,
+/// and the shift register in CFB; `output` is the output block of a segment of CFB that has begun;
+/// `used` is how many bytes of the output block are used.
 #[repr(C)]
 #[derive(Clone, Copy)]
 pub struct Place {

@@ -76,8 +76,8 @@ pub struct Stream {
 }
 
 impl Stream {
-    /// The beginning of a stream in the mode that has this number, from an initialization vector, or for
-    /// the counter mode the first counter block. `None` if no mode has it.
+    /// The beginning of a stream in the mode that has this number, from an initialization vector,
+    /// or for the counter mode the first counter block. `None` if no mode has it.
     pub fn new(number: u32, iv: &[u8; 8]) -> Option<Stream>
         ensures none { IfNone result (¬ (IsMode number)) }
         ensures some { IfSome result (λ stream. IsMode number × ((encryption : List ℕ → List ℕ)
@@ -92,8 +92,8 @@ impl Stream {
         })
     }
 
-    /// The place `blocks` blocks after the beginning of the counter mode's stream whose first counter
-    /// block is `counter`. To decrypt a part, no other bytes are needed.
+    /// The place `blocks` blocks after the beginning of the counter mode's stream whose first
+    /// counter block is `counter`. To decrypt a part, no other bytes are needed.
     pub fn ctr_at(counter: &[u8; 8], blocks: u64) -> Stream
         ensures begun { HasBegun result }
         ensures place { (encryption : List ℕ → List ℕ) (p c : List ℕ) → length p ≡ 8 * blocks
@@ -109,9 +109,9 @@ impl Stream {
         }
     }
 
-    /// The place in a stream of cipher feedback before a segment of `segment` bytes: `before` is the
-    /// last eight bytes of the initialization vector followed by the ciphertext before it. To decrypt a
-    /// part, no others are needed.
+    /// The place in a stream of cipher feedback before a segment of `segment` bytes: `before` is
+    /// the last eight bytes of the initialization vector followed by the ciphertext before it. To
+    /// decrypt a part, no others are needed.
     pub fn cfb_at(before: &[u8; 8], segment: usize) -> Stream
         requires some { 1 ≤ segment }
         requires short { segment ≤ 8 }
@@ -153,7 +153,8 @@ impl Stream {
     }
 
     /// The feedback register: the counter block, the last output block, or the last 64 bits of the
-    /// initialization vector followed by the ciphertext. In OFB it holds key stream, which is a secret.
+    /// initialization vector followed by the ciphertext. In OFB it holds key stream, which is a
+    /// secret.
     pub fn register(&self) -> [u8; 8]
         ensures { result ≡ self.now.place.register }
     {
@@ -200,8 +201,8 @@ impl Stream {
         are_bytes(bytes);
     }
 
-    /// Encrypts or decrypts the first `bits` bits in place, which come next in a stream of CFB1. The
-    /// others stay.
+    /// Encrypts or decrypts the first `bits` bits in place, which come next in a stream of CFB1.
+    /// The others stay.
     pub fn apply_bits<C: BlockCipherEncrypt>(
         &mut self,
         direction: Direction,

@@ -14,8 +14,8 @@ pub fn xor_from(bytes: &mut [u8], key_stream: &[u8], from: usize)
     }
 }
 
-/// Each byte of the data becomes its xor with a byte of the block, from its byte `from` on. A whole block
-/// takes no loop: there its length is known.
+/// Each byte of the data becomes its xor with a byte of the block, from its byte `from` on. A whole
+/// block takes no loop: there its length is known.
 #[inline]
 pub(crate) fn xor_block_from(bytes: &mut [u8], block: &[u8; 8], from: usize)
     requires { from + length bytes.old ≤ 8 }

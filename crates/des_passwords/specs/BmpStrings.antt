@@ -1,4 +1,4 @@
--- What is left of a password as a BMPString, if it is read unit by unit.
+-- What is left of a password as a BMPString, as it is read unit by unit.
 use Rattle.std.specs.Prelude.{ℕ, List, [], ◌∷◌, ◌++◌, Option, Some, None}
 use Rattle.std.specs.Str.{chars}
 use Rattle.des_passwords.specs.Pkcs12.{units_of}

@@ -1,5 +1,5 @@
 -- Hexadecimal digits of either case, with white space between, as a stream gives them, a character after another: the bytes
--- that they write, and the line of the first character that is no digit.
+-- that they write, and the line of the first character that is not a digit.
 use Rattle.std.specs.Prelude.{ℕ, ◌+◌, ◌*◌, ◌%◌, ◌-◌, ◌^◌, min, ◌==◌, ◌&&◌, ◌||◌, Bool, false, not, if◌then◌else◌, List, filter, length, Option, Some, None, is_some, option_map, option_and_then, Result, Ok, Err}
 use Rattle.std.specs.Result.{result_ok}
 use Rattle.base64.specs.Read.{Outlook}
@@ -33,7 +33,7 @@ after_digit position (Some value) = record position { first = first_after positi
 abbrev pub line_after : (line space : ℕ) → ℕ
 line_after line space = if space == 10 then min (line + 1) (2 ^ 64 - 1) else line
 
--- where a text is after a character more: nothing is read after one that is no digit
+-- where a text is after a character more: nothing is read after one that is not a digit
 unfoldable pub after : Position → ℕ → Position
 after position character =
     if is_some position.fault then position

@@ -39,11 +39,11 @@ GivesInMemory view (Err e) read = (fault_of e ≡ OutOfMemory) ⊎ (read ≡ Err
 
 abbrev pub text_of : PemError → List ℕ
 text_of errors.Begin = codes "no line begins an encrypted private key"
-text_of errors.End = codes "no line ends the key as it begins"
+text_of errors.End = codes "no END line matches the BEGIN line"
 text_of errors.NotEncrypted = codes "the key is not encrypted"
 text_of errors.NoDekInfo = codes "no DEK-Info follows Proc-Type"
 text_of (errors.Cipher name) = codes "the cipher is neither DES-CBC nor DES-EDE3-CBC"
 text_of errors.Vector = codes "the vector does not have sixteen hexadecimal digits"
 text_of errors.EmptyLine = codes "no empty line follows DEK-Info"
-text_of (errors.Base64 line) = codes "line " ++ decimal line ++ codes " is no Base64"
+text_of (errors.Base64 line) = codes "line " ++ decimal line ++ codes " is not Base64"
 text_of errors.OutOfMemory = codes "out of memory"

@@ -12,8 +12,8 @@ use std::alloc::{AllocError, Global};
 // Why lines are not read as Base64.
 #[derive(Clone, Copy)]
 pub(crate) enum Base64Error {
-    // The number, from 1, of the line with a character that can't stand there, or of the last line if
-    // characters are missing.
+    // The number, from 1, of the line with a character that can't stand there, or of the last line
+    // if characters are missing.
     Line(usize),
     OutOfMemory,
 }

@@ -147,10 +147,11 @@ impl<R: Read> Read for Characters<R> {
     }
 }
 
-/// A reader of the bytes that another reader gives as Base64 in lines of any length, as `base64` and
-/// `openssl enc -a` write it, in little memory. A line ends with LF or CRLF; blanks at its ends are
-/// passed over, and so is a line with nothing else. A group of four characters may go on in the next
-/// line. What is no Base64 is an error of the kind `InvalidData`, and then `line_of_fault` tells where.
+/// A reader of the bytes that another reader gives as Base64 in lines of any length, as `base64`
+/// and `openssl enc -a` write it, in little memory. A line ends with LF or CRLF; blanks at its ends
+/// are passed over, and so is a line with nothing else. A group of four characters may go on in the
+/// next line. What is not Base64 is an error of the kind `InvalidData`, and then `line_of_fault`
+/// tells where.
 #[derive(Drop)]
 pub struct Base64Reader<'e, R: Read> {
     decoder: DecoderReader<'e, Characters<R>>,
@@ -158,8 +159,8 @@ pub struct Base64Reader<'e, R: Read> {
 }
 
 impl<'e, R: Read> Base64Reader<'e, R> {
-    /// A reader of what a reader gives from here on. `engine` is `STANDARD`: `line_of_fault` knows its
-    /// symbols.
+    /// A reader of what a reader gives from here on. `engine` is `STANDARD`: `line_of_fault` knows
+    /// its symbols.
     pub fn new(reader: R, engine: &'e GeneralPurpose) -> Base64Reader<'e, R>
         ensures bytes { bytes_remaining R.remaining result
             ≡ option_and_then (bytes_of engine.now) (R.remaining reader) }
@@ -178,9 +179,9 @@ impl<'e, R: Read> Base64Reader<'e, R> {
 }
 
 impl<'e, R: Read + Drop> Base64Reader<'e, R> {
-    /// Ends the reader. Returns the number of the line at fault, counted from 1, if what was read is
-    /// no Base64: that of the first character that can't stand where it does, or of the last one,
-    /// if characters are missing or bits are left over.
+    /// Ends the reader. Returns the number of the line at fault, counted from 1, if what was read
+    /// is not Base64: that of the first character that can't stand where it does, or of the last
+    /// one, if characters are missing or bits are left over.
     pub fn line_of_fault(self) -> Option<u64>
         ensures { IsSome result ↔ (self.entry.is_malformed ≡ true) }
     {
@@ -199,7 +200,7 @@ impl<'e, R: Read> Read for Base64Reader<'e, R> {
         ensures bound { ReadsAtMost result buf.new }
         ensures bytes { ReadConsumes (bytes_remaining R.remaining self.old)
             (bytes_remaining R.remaining self.new) result buf.new }
-        // A text that is no Base64 never comes to a clean end.
+        // A text that is not Base64 never comes to a clean end.
         ensures invalid { IsInvalid (outlook_on R.remaining self.old)
             → IsInvalid (outlook_on R.remaining self.new) × (result ≡ Ok 0 → length buf.new ≡ 0) }
         ensures marked { MarksFault self.old.is_malformed result self.new.is_malformed }

@@ -20,7 +20,7 @@ use sha1::Sha1;
 use sha2::Sha256;
 
 /// The most iterations that `read_encrypted_key` takes.
-pub const MOST_ITERATIONS: u32 = 10_000_000;
+pub const MAX_ITERATIONS: u32 = 10_000_000;
 
 // 1.2.840.113549.1.5.3 and .10, and 1.2.840.113549.1.12.1.3 and .4.
 const PBE_MD5_DES: [u8; 9] = [0x2a, 0x86, 0x48, 0x86, 0xf7, 0x0d, 0x01, 0x05, 0x03];
@@ -395,9 +395,9 @@ fn encrypted_key_of(most: u32, bytes: &[u8]) -> Result<EncryptedKey<'_>, KeyFile
     })
 }
 
-/// Reads an encrypted private key from its DER, which blanks alone may follow, if its iterations
-/// are at most these and its contents have fewer than 2^16 bytes. The error is the first that is met: the outer
-/// elements are read before those within them, and the cipher before how its key is derived.
+/// Reads an encrypted private key from its DER, which only white space may follow, if it has at
+/// most `most_iterations` iterations and its contents fewer than 2^16 bytes. The error is the first
+/// that is met: outer elements are read before those within them, the cipher before the derivation.
 pub fn read_encrypted_key_of_many(
     bytes: &[u8],
     most_iterations: u32,
@@ -415,8 +415,8 @@ pub fn read_encrypted_key_of_many(
     encrypted_key_of(most_iterations, bytes)
 }
 
-/// Reads an encrypted private key from its DER, which blanks alone may follow. `Iterations` if it has more
-/// than ten million: `read_encrypted_key_of_many` takes as many as you say.
+/// Reads an encrypted private key from its DER, which blanks alone may follow. `Iterations` if it
+/// has more than ten million: `read_encrypted_key_of_many` takes as many as you say.
 pub fn read_encrypted_key(bytes: &[u8]) -> Result<EncryptedKey<'_>, KeyFileError<'_>>
     // What is read is spelled so.
     ensures found { IfOk result (λ key.
@@ -427,5 +427,5 @@ pub fn read_encrypted_key(bytes: &[u8]) -> Result<EncryptedKey<'_>, KeyFileError
     // Which error it is.
     ensures exact { Gives seen result (encrypted_key_of 10000000 bytes.now) }
 {
-    read_encrypted_key_of_many(bytes, MOST_ITERATIONS)
+    read_encrypted_key_of_many(bytes, MAX_ITERATIONS)
 }

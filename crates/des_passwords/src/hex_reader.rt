@@ -14,7 +14,7 @@ use std::io::{self, ErrorKind, Read};
 /// Why a text is not read as hexadecimal digits.
 #[derive(Clone, Copy)]
 pub enum HexFault {
-    /// The line of this number, counted from 1, has a character that is no digit.
+    /// The line of this number, counted from 1, has a character that is not a digit.
     Line(u64),
     /// The last digit has no second one.
     Odd,
@@ -27,7 +27,7 @@ struct Position {
     line: u64,
     // The value of a digit that is the first of its byte.
     first: Option<u8>,
-    // The line of the first character that is no digit.
+    // The line of the first character that is not a digit.
     fault: Option<u64>,
 }
 
@@ -84,7 +84,7 @@ impl Position {
         self.fault.is_none() && self.first.is_none()
     }
 
-    // Whether a read that gave this stands if no text of digits ends, or goes on.
+    // Whether a read that gave this ended the text where it is malformed, or within a byte.
     fn ends_short(self, given: &io::Result<usize>, buf: &[u8]) -> bool
         ensures { result ≡ ends_short self given.now buf.now }
     {
@@ -121,7 +121,7 @@ impl Decoding for Position {
         }
     }
 
-    // Nothing is read after a character that is no digit.
+    // Nothing is read after a character that is not a digit.
     #[tactic(auto, unfolding(crate::specs::HexStreams::after))]
     fn after(self, byte: u8) -> Position {
         if self.fault.is_some() {

@@ -1,5 +1,5 @@
-//! A reader that finds out whether a text is nothing but hexadecimal digits, as somebody gives it who
-//! means the bytes that they write.
+//! A reader that finds out whether a text is only hexadecimal digits: then its author probably
+//! meant the bytes that they encode.
 
 ghost use Rattle.std.specs.Prelude.{◌≡◌};
 ghost use Rattle.des_passwords.specs.HexTexts.{is_digit_or_end as is_digit_or_end_of, is_other, digits_in, seen_after, is_hexadecimal as is_hexadecimal_of, unseen};

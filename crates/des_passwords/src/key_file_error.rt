@@ -19,7 +19,7 @@ pub enum KeyFileError<'a> {
     Iterations,
     /// The key does not have 24 bytes.
     KeyLength,
-    /// PBKDF2 is neither with HMAC-SHA-1 nor with HMAC-SHA-256.
+    /// PBKDF2 uses neither HMAC-SHA-1 nor HMAC-SHA-256.
     Prf(&'a [u8]),
     /// The cipher is not DES-EDE3-CBC.
     Cipher(&'a [u8]),
@@ -40,9 +40,9 @@ impl fmt::Display for KeyFileError<'_> {
                 "the algorithm is neither PBES2 nor one of DES or triple DES by PKCS #5 or PKCS #12"
             }
             KeyFileError::KeyDerivation(_) => "the key is not derived by PBKDF2",
-            KeyFileError::Iterations => "the iterations are none, or more than are allowed",
+            KeyFileError::Iterations => "there are no iterations, or more than are allowed",
             KeyFileError::KeyLength => "the key does not have 24 bytes",
-            KeyFileError::Prf(_) => "PBKDF2 is neither with HMAC-SHA-1 nor with HMAC-SHA-256",
+            KeyFileError::Prf(_) => "PBKDF2 uses neither HMAC-SHA-1 nor HMAC-SHA-256",
             KeyFileError::Cipher(_) => "the cipher is not DES-EDE3-CBC",
         })
     }

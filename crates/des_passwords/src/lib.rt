@@ -1,8 +1,8 @@
-//! Keys from passwords: HMAC (RFC 2104), PBKDF1 and PBKDF2 (RFC 8018, section 5), the method of PKCS #12
-//! (RFC 7292, appendix B), and `bytes_to_key`, as OpenSSL's `EVP_BytesToKey` makes keys, over MD5, SHA-1
-//! and SHA-256. Files that others wrote under passwords: those of `openssl enc` (`salted`,
-//! `derivation`), and encrypted private keys (`encrypted_keys`, `pem`). Readers of bytes that are
-//! written as text: Base64 in lines (`base64_reader`), hexadecimal digits (`hex_reader`).
+//! Keys from passwords: HMAC (RFC 2104), PBKDF1 and PBKDF2 (RFC 8018, section 5), the method of
+//! PKCS #12 (RFC 7292, appendix B), and `bytes_to_key`, as OpenSSL's `EVP_BytesToKey` makes keys,
+//! over MD5, SHA-1 and SHA-256. Files that others wrote under passwords: those of `openssl enc`
+//! (`salted`, `derivation`), and encrypted private keys (`encrypted_keys`, `pem`). Readers of bytes
+//! that are written as text: Base64 in lines (`base64_reader`), hexadecimal digits (`hex_reader`).
 //!
 //! These read what others wrote. MD5 and SHA-1 are broken as hashes, and `bytes_to_key` with one
 //! iteration makes a password quick to guess: write nothing new by them.

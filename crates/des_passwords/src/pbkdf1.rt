@@ -24,8 +24,8 @@ fn write_last<H: HashFunction>(password: &[u8], salt: &[u8], iterations: u32, la
 }
 
 /// The key and the vector of `pbeWithMD5AndDES-CBC` or `pbeWithSHA1AndDES-CBC`, by the hash
-/// function: 8 bytes each. `NoIteration` if `iterations` is 0. The salt of the standard has 8 bytes;
-/// any length is taken.
+/// function: 8 bytes each. `NoIteration` if `iterations` is 0. The salt of the standard has 8
+/// bytes; any length is taken.
 pub fn key_and_vector<H: HashFunction>(
     password: &[u8],
     salt: &[u8],

@@ -10,12 +10,12 @@ use crate::xored::xor;
 use std::error::Error;
 use std::fmt;
 
-/// The number of iterations is 0, or the key is longer than there are blocks for it.
+/// Why no key is derived.
 #[derive(Clone, Copy, Debug, PartialEq, Eq)]
 pub enum DeriveError {
-    /// There has to be one iteration at least.
+    /// The number of iterations is 0.
     NoIteration,
-    /// A key has at most 2^32 - 1 digests.
+    /// The key is longer than 2^32 - 1 digests, the most that PBKDF2 gives.
     KeyLength,
 }
 
@@ -48,7 +48,8 @@ fn step<H: HashFunction>(prf: &Hmac<H>, bytes: &mut [u8])
     mac.write_tag(bytes);
 }
 
-// Writes T, a block of the key: the xor of U_1, U_2 and so on. `last` is the buffer of one U at a time.
+// Writes T, a block of the key: the xor of U_1, U_2 and so on. `last` is the buffer of one U at a
+// time.
 fn write_block<H: HashFunction>(
     prf: &Hmac<H>,
     salt: &[u8],

@@ -36,7 +36,7 @@ pub enum PemError<'a> {
     Vector,
     /// No empty line follows `DEK-Info`.
     EmptyLine,
-    /// The line of this number in the text, counted from 1, has a character that is no Base64
+    /// The line of this number in the text, counted from 1, has a character that is not Base64
     /// there, or the last one, if characters are missing.
     Base64(usize),
     /// Memory ran out.
@@ -52,7 +52,7 @@ impl fmt::Display for PemError<'_> {
     fn fmt<W: fmt::Write>(&self, f: &mut fmt::Formatter<W>) -> fmt::Result {
         match self {
             PemError::Begin => f.write_str("no line begins an encrypted private key"),
-            PemError::End => f.write_str("no line ends the key as it begins"),
+            PemError::End => f.write_str("no END line matches the BEGIN line"),
             PemError::NotEncrypted => f.write_str("the key is not encrypted"),
             PemError::NoDekInfo => f.write_str("no DEK-Info follows Proc-Type"),
             PemError::Cipher(_) => { f.write_str("the cipher is neither DES-CBC nor DES-EDE3-CBC") }
@@ -60,7 +60,7 @@ impl fmt::Display for PemError<'_> {
                 f.write_str("the vector does not have sixteen hexadecimal digits")
             }
             PemError::EmptyLine => f.write_str("no empty line follows DEK-Info"),
-            PemError::Base64(line) => write!(f, "line {line} is no Base64"),
+            PemError::Base64(line) => write!(f, "line {line} is not Base64"),
             PemError::OutOfMemory => f.write_str("out of memory"),
         }
     }
@@ -445,8 +445,8 @@ fn unmarked(text: &[u8]) -> &[u8]
 
 /// Reads the first private key in PEM that a text holds: PKCS #8 (`ENCRYPTED PRIVATE KEY`) or what
 /// OpenSSL calls traditional, with `Proc-Type` and `DEK-Info`. A line ends with LF or CRLF, and
-/// blanks may stand at its end. A byte order mark is passed over, as are blanks around the value of a
-/// header, and what stands before the key's first line and after its last. The error is the first
+/// blanks may stand at its end. A byte order mark is passed over, as are blanks around the value of
+/// a header, and what stands before the key's first line and after its last. The error is the first
 /// fault: that no line ends the key comes before what is wrong between.
 #[tactic(auto, unfolding(crate::specs::Pem::pem_of))]
 pub fn read_pem(alloc: Global, text: &[u8]) -> Result<PemKey, PemError<'_>>

@@ -13,14 +13,14 @@ use crate::pbkdf2::DeriveError;
 use crate::repeated::repeat;
 use sha1::Sha1;
 
-// A text of which copies come one after another, block by block.
+// A text that is repeated without end, and read block by block.
 trait Blocks {
     ghost text: { Self → List ℕ };
 
     // What is left of a copy.
     ghost left: { Self → List ℕ };
 
-    // In how few blocks the text is.
+    // The number of blocks that hold the text once, the last one perhaps only in part.
     fn count(&self) -> usize
         ensures { result ≡ (length (text self.now) + 63) / 64 };
 

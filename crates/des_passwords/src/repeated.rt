@@ -16,7 +16,7 @@ fn hash_again<H: HashFunction>(bytes: &mut [u8])
     hash.write_digest(bytes);
 }
 
-// From a message's digest the one for which the hash function is taken so often in all.
+// Replaces the digest of a message by the result of `iterations` applications of the hash function.
 pub(crate) fn repeat<H: HashFunction>(iterations: u32, digest: &mut [u8])
     requires digest { length digest.old ≡ H.SIZE }
     requires iterations { 0 < iterations }

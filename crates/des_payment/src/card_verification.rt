@@ -103,8 +103,8 @@ fn value_of(block: &[u8; 8]) -> [u8; 3]
 ///
 /// The data are joined and filled with zeros to 32 digits, two blocks. The first is enciphered
 /// under the first part of the key and xored with the second, and triple DES in the EDE form
-/// follows, under both parts. Of the ciphertext's sixteen digits those from 0 to 9 are taken in order,
-/// and then the others in order, less ten; the first three are the value.
+/// follows, under both parts. Of the ciphertext's sixteen digits those from 0 to 9 are taken in
+/// order, and then the others in order, less ten; the first three are the value.
 pub fn cvv(
     key: &[u8; 16],
     account: &[u8],

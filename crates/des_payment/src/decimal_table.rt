@@ -75,8 +75,8 @@ impl DecimalTable {
         Ok(DecimalTable { digits })
     }
 
-    /// The table of sixteen ASCII digits, those that stand for 0 to 15 in this order. Its faults are
-    /// `TableLength`, `TableDigit`, and `TableVariety` if there are fewer than eight different
+    /// The table of sixteen ASCII digits, those that stand for 0 to 15 in this order. Its faults
+    /// are `TableLength`, `TableDigit`, and `TableVariety` if there are fewer than eight different
     /// ones: with few, many PINs are right, and a chosen table lets a PIN be found out.
     pub fn new(text: &[u8]) -> Result<DecimalTable, VerificationError>
         ensures fault { result_err result ≡ table_fault 8 text.now }

@@ -6,8 +6,8 @@ ghost use Rattle.des_payment.specs.CardVerification.{is_decimal, decimals_first}
 
 use crate::masks::write_at;
 
-// The first digits, where those below ten come first, and then the others, less ten. A digit that is
-// passed over is written too, if the next one takes its place.
+// The first N digits in this order: those below ten, and then the others, less ten. Each digit is
+// written, and one that is not taken is overwritten by the next, so that no branch depends on it.
 pub(crate) fn first_decimals<const N: usize>(digits: &[u8]) -> [u8; N]
     requires few { N ≤ length digits.now }
     requires digits { All (λ digit. digit < 16) digits.now }

@@ -34,7 +34,7 @@ pub(crate) const COUNTERS: u64 = 0x200000;
 pub(crate) const COUNTER_BITS: u32 = 21;
 
 // The most one bits that the counter of a transaction has.
-pub(crate) const MOST_ONES: u32 = 10;
+pub(crate) const MAX_ONES: u32 = 10;
 
 // The key of two halves.
 pub(crate) fn joined(left: &[u8; 8], right: &[u8; 8]) -> [u8; 16]
@@ -175,7 +175,7 @@ pub fn is_usable(serial: &[u8; 10]) -> bool
     ensures { IsTrue result ↔ IsOfTransaction serial.now }
 {
     let counter = last_bytes(serial) % COUNTERS;
-    counter != 0 && counter.count_ones() <= MOST_ONES
+    counter != 0 && counter.count_ones() <= MAX_ONES
 }
 
 /// The next key serial number: that whose counter is the least one above, of 21 bits, with at most
@@ -191,7 +191,7 @@ pub fn next_serial(serial: &[u8; 10]) -> Option<[u8; 10]>
     let last = last_bytes(serial);
     let counter = last % COUNTERS;
     for next in counter + 1..COUNTERS {
-        if next.count_ones() <= MOST_ONES {
+        if next.count_ones() <= MAX_ONES {
             return Some(with_last_bytes(serial, last - counter + next));
         }
     }

@@ -89,7 +89,8 @@ fn card_block(account: &[u8], sequence: &[u8]) -> [u8; 8]
     block_of(&digits)
 }
 
-// The hash of both numbers as bytes, two digits a byte, after a `0` if they have an odd number of digits.
+// The hash of both numbers as bytes, two digits a byte, after a `0` if they have an odd number of
+// digits.
 fn hash_of(account: &[u8], sequence: &[u8]) -> [u8; 20]
     requires account { IsNumber 8 19 account.now }
     requires sequence { IsNumber 2 2 sequence.now }

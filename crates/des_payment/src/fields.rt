@@ -49,7 +49,7 @@ pub(crate) fn account_field(account: &[u8]) -> Result<[u8; 16], PinError>
     Ok(field)
 }
 
-// Whether the first digits, as many as are counted, are digits of a PIN. Each digit is looked at.
+// Whether the first `count` digits are decimal. Every digit is examined.
 fn are_decimal(count: usize, digits: &[u8]) -> bool
     ensures { result ≡ list_all (λ digit. nat_lt digit 10) (take count digits.now) }
 {
@@ -60,8 +60,8 @@ fn are_decimal(count: usize, digits: &[u8]) -> bool
     all
 }
 
-// Whether the digits after the first, as many as are counted, are fill digits of a format that has
-// those from a least one to 15. Each digit is looked at.
+// Whether the digits after the first `count` are fill digits, from `least` to 15. Every digit is
+// examined.
 fn are_fill_after(count: usize, least: u8, digits: &[u8]) -> bool
     ensures { result ≡ list_all (is_fill least) (drop count digits.now) }
 {
@@ -79,7 +79,7 @@ pub(crate) fn are_fill(least: u8, digits: &[u8]) -> bool
     are_fill_after(0, least, digits)
 }
 
-// Which tests sixteen digits pass that are to be a PIN field.
+// The results of the tests whether sixteen digits are a PIN field.
 #[derive(Clone, Copy)]
 struct Tests {
     is_format: bool,

@@ -1,12 +1,13 @@
-//! The first digits of a PIN, and others or zeros after them. How many they are decides nothing that is
-//! done: digits are moved to their places as one number, by shifts. (Of a choice for each digit the
-//! compiler makes jumps, even if it is one by a mask.)
+//! The first digits of a PIN, followed by other digits or by zeros. No branch depends on how many
+//! there are: the digits are moved as one number, by shifts. (Selecting digit by digit, even with a
+//! mask, the compiler emits jumps.)
 
 ghost use Rattle.std.specs.Prelude.{◌≡◌, ℕ, ◌-◌, ◌*◌, ◌%◌, ◌^◌, ◌<◌, ◌≤◌, ◌++◌, nat_lt, if◌then◌else◌, length, take, slice_index};
 ghost use Rattle.std.specs.List.{All};
 ghost use Rattle.des_payment.specs.Digits.{digit_in};
 
-// Digits of four bits as one number, the first the highest. Of each byte it takes the lowest four bits.
+// Digits of four bits as one number, the first the highest. Of each byte it takes the lowest four
+// bits.
 fn number_of(digits: &[u8]) -> u64
     requires { length digits.now ≤ 12 }
     ensures small { result < 2 ^ (4 * length digits.now) }
@@ -20,8 +21,8 @@ fn number_of(digits: &[u8]) -> u64
     number
 }
 
-// The first of them, as many as are counted, as one number. It is not inlined: of the shifts of two numbers
-// side by side the compiler makes one of a vector, which a tool reports as a use of the count.
+// The first `count` digits as one number. Not inlined: the compiler joins two such shifts into one
+// of a vector, which the search for secret indexes reports as a use of the count.
 #[inline(never)]
 fn first_of(count: usize, digits: &[u8]) -> u64
     requires some { count ≤ length digits.now }

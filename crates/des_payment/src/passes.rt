@@ -1,5 +1,5 @@
-//! One block under DES, and under triple DES with two parts of a key, with no table at an index that
-//! depends on either; and lists of as many keys as blocks.
+//! One block under DES, and under triple DES with two parts of a key, with no table at an index
+//! that depends on either; and lists of as many keys as blocks.
 
 ghost use Rattle.std.specs.Prelude.{◌≡◌, ◌≤◌, map, length, IsTrue};
 ghost use Rattle.std.specs.Simd.Lanes.{zip2};

@@ -60,8 +60,8 @@ pub fn decode_format_1(block: &[u8; 8]) -> Result<Pin, PinError>
     read_pin(1, 0, &digits_of(block))
 }
 
-/// The block of format 2 of a PIN, for a card: the PIN's digits are filled with 15. It goes to the card
-/// as it is, and a host does not encrypt it as a block.
+/// The block of format 2 of a PIN, for a card: the PIN's digits are filled with 15. It goes to the
+/// card as it is, and a host does not encrypt it as a block.
 pub fn encode_format_2(pin: &Pin) -> [u8; 8]
     ensures { IsTheOne (IsFormat2 pin.now) result }
 {

@@ -36,14 +36,14 @@ fn pvv_block(account: &[u8], index: u8, pin: &Pin) -> [u8; 8]
     block_of(&text)
 }
 
-/// The PIN verification value (PVV), four ASCII digits, of a PIN and an account number, a text of 12
-/// to 19 digits with the check digit, under a key pair of 16 bytes with an index from 1 to 6.
+/// The PIN verification value (PVV), four ASCII digits, of a PIN and an account number, a text of
+/// 12 to 19 digits with the check digit, under a key pair of 16 bytes with an index from 1 to 6.
 /// `AccountLength`, `AccountDigit` and `KeyIndex` are its faults.
 ///
 /// The eleven rightmost digits of the account number without its check digit, the index and the
 /// first four digits of the PIN are a block, which is encrypted by triple DES in the EDE form. Of
-/// the ciphertext's sixteen digits those from 0 to 9 are taken in order, and then the others in order,
-/// less ten; the first four are the value.
+/// the ciphertext's sixteen digits those from 0 to 9 are taken in order, and then the others in
+/// order, less ten; the first four are the value.
 pub fn pvv(
     key: &[u8; 16],
     account: &[u8],
@@ -119,10 +119,10 @@ fn natural_digits(key: &[u8], table: &DecimalTable, validation: &[u8; 8]) -> [u8
     decimals_of(table, &encrypted_by(key, validation))
 }
 
-/// The natural PIN of 4 to 12 digits of validation data, sixteen digits of four bits in eight bytes:
-/// they are encrypted under a key of 8, 16 or 24 bytes, by DES or triple DES in the EDE form, each
-/// digit of the ciphertext becomes that of the table, and the first `count` are the natural PIN. Its
-/// faults are `KeyLength` and `PinLength`.
+/// The natural PIN of 4 to 12 digits of validation data, sixteen digits of four bits in eight
+/// bytes: they are encrypted under a key of 8, 16 or 24 bytes, by DES or triple DES in the EDE
+/// form, each digit of the ciphertext becomes that of the table, and the first `count` are the
+/// natural PIN. Its faults are `KeyLength` and `PinLength`.
 pub fn natural_pin(
     key: &[u8],
     table: &DecimalTable,
@@ -187,9 +187,9 @@ pub fn pin_offset(
     Ok(offset_between(&natural, pin))
 }
 
-/// Accepts the PIN that is the sum of an offset and the natural PIN of as many digits, digit by digit,
-/// modulo ten, and no other: `KeyLength`, and then `WrongPin` if it is another, or has another
-/// length. Every digit is looked at, wherever the two differ.
+/// Accepts the PIN that is the sum of an offset and the natural PIN of as many digits, digit by
+/// digit, modulo ten, and no other: `KeyLength`, and then `WrongPin` if it is another, or has
+/// another length. Every digit is looked at, wherever the two differ.
 pub fn verify_offset(
     key: &[u8],
     table: &DecimalTable,

@@ -12,7 +12,7 @@ ghost use Rattle.des_payment.specs.Dukpt.{last_bytes as last_bytes_of, counter_o
 ghost use Rattle.des_payment.specs.Dukpt.{transaction_key as transaction_key_of, IsUsable, IsNextCounter};
 ghost use Rattle.des_payment.specs.Terminals.{key_of, HasFutureKeys, place_of, register_after};
 
-use crate::dukpt::{COUNTERS, MOST_ONES, last_bytes, next_key, next_serial, with_last_bytes};
+use crate::dukpt::{COUNTERS, MAX_ONES, last_bytes, next_key, next_serial, with_last_bytes};
 use des::cipher::are_bytes;
 
 // The future keys, one for each bit of the counter.
@@ -74,7 +74,7 @@ fn take_key(keys: &mut [[u8; 16]; REGISTERS], last: u64) -> [u8; 16]
     let place = lowest_one(counter);
     let key = keys[place];
     keys[place] = [0; 16];
-    if counter.count_ones() < MOST_ONES {
+    if counter.count_ones() < MAX_ONES {
         write_below(keys, place, last, &key);
     }
     key

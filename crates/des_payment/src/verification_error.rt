@@ -6,8 +6,8 @@ ghost use Rattle.des_payment.specs.PinVerification.{name_of};
 use std::error::Error;
 use std::fmt;
 
-/// Why there is no PIN verification value, natural PIN, offset or decimalization table, or why a PIN is
-/// not accepted. The first of them is reported, in this order.
+/// Why there is no PIN verification value, natural PIN, offset or decimalization table, or why a
+/// PIN is not accepted. The first of them is reported, in this order.
 #[derive(Clone, Copy, Debug, PartialEq, Eq)]
 pub enum VerificationError {
     /// The account number does not have 12 to 19 digits.

@@ -1,5 +1,5 @@
-//! Not part of the product: two ciphers that keep the laws of `des` and hide nothing, generic callers
-//! that rest on the laws alone, and the tests of `des` over several of its modules.
+//! Not part of the product: two ciphers that keep the laws of `des` and hide nothing, generic
+//! callers that rest on the laws alone, and the tests of `des` over several of its modules.
 #![tactic(auto)]
 
 pub mod chaining;

@@ -6,8 +6,8 @@ ghost use Rattle.des.specs.Blocks.{AnswersEach};
 
 use des::cipher::BlockCipher;
 
-/// Encrypts the blocks into `ciphertext`, and decrypts these into `back`, which so becomes the blocks
-/// again. The three lists have one length, which may be zero.
+/// Encrypts the blocks into `ciphertext`, and decrypts these into `back`, which so becomes the
+/// blocks again. The three lists have one length, which may be zero.
 pub fn there_and_back<C: BlockCipher>(
     cipher: &C,
     blocks: &[[u8; 8]],

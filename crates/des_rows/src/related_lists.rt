@@ -59,8 +59,8 @@ pub fn decrypt_related_b2b<C: Relating>(
     cipher.decrypt_blocks_b2b(input, output)
 }
 
-/// Encrypts each block of a list in place under the key of these bytes. A key of another length than
-/// the cipher's is `InvalidLength`, and the list is unchanged.
+/// Encrypts each block of a list in place under the key of these bytes. A key of another length
+/// than the cipher's is `InvalidLength`, and the list is unchanged.
 pub fn encrypt_under<C: Relating + Drop>(
     key: &[u8],
     blocks: &mut [[u8; 8]],

@@ -1,11 +1,12 @@
-//! Blocks and lists from one buffer to another: what the clauses of the calls that leave their input,
-//! and the laws of `BlockCipher`, give to a caller.
+//! Blocks and lists from one buffer to another: what the clauses of the calls that leave their
+//! input, and the laws of `BlockCipher`, give to a caller.
 
 ghost use Rattle.std.specs.Prelude.{◌≡◌, ◌↔◌, length, map, IsTrue, IsFalse};
 
 use des::cipher::{BlockCipher, BlockCipherDecrypt, BlockCipherEncrypt};
 
-/// Encrypts a block into `encrypted_block`, and decrypts this into `back`, which so becomes the block again.
+/// Encrypts a block into `encrypted_block`, and decrypts this into `back`, which so becomes the
+/// block again.
 pub fn block_there_and_back<C: BlockCipher>(
     cipher: &C,
     block: &[u8; 8],

@@ -9,9 +9,9 @@ ghost use Rattle.des.specs.Relations.{IsTheOne, IsBijection, IsGraphOf};
 use des::cipher::{BlockCipherDecrypt, BlockCipherEncrypt, KeyInit, Relating};
 use des::tdes::{Ede2, Ede3, Eee2, Eee3, SingleDes};
 
-/// A cipher whose own calls for one block say what the relation of the key gives. Generic code reads
-/// the clauses of a trait alone: these are the clauses of each cipher's `new`, `encrypt_block` and
-/// `decrypt_block`, by its relation.
+/// A cipher whose own calls for one block say what the relation of the key gives. Generic code
+/// reads the clauses of a trait alone: these are the clauses of each cipher's `new`,
+/// `encrypt_block` and `decrypt_block`, by its relation.
 pub trait RelatesBlocks: Relating {
     /// The cipher of a key, by `new`.
     fn of_key(key: &Self::Key) -> Self

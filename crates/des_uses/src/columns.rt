@@ -46,8 +46,8 @@ pub fn mysql_texts_again<S: Slice>(
     mysql::decrypt_values::<S>(key, values, value_lengths, again, again_lengths, statuses)
 }
 
-/// Writes the values of texts of a column of pgcrypto by the scheme of a name, and reads them by the
-/// same scheme, key and vector: every text comes back. `false` if no scheme has the name.
+/// Writes the values of texts of a column of pgcrypto by the scheme of a name, and reads them by
+/// the same scheme, key and vector: every text comes back. `false` if no scheme has the name.
 pub fn pgcrypto_texts_again<S: Slice>(
     name: &[u8],
     key: &[u8],
@@ -90,8 +90,8 @@ pub fn pgcrypto_texts_again<S: Slice>(
     )
 }
 
-/// Writes texts as strings of Jasypt under a password, each from a salt of its own, and reads them under
-/// the same password: every text comes back. `Derive` if there is no iteration.
+/// Writes texts as strings of Jasypt under a password, each from a salt of its own, and reads them
+/// under the same password: every text comes back. `Derive` if there is no iteration.
 pub fn jasypt_texts_again(
     by: Algorithm,
     iterations: u32,

@@ -6,8 +6,8 @@ ghost use Rattle.std.specs.Prelude.{◌≡◌, ◌↔◌, ◌<◌, ℕ, [], leng
 use des::cipher::NotEqualError;
 use des_fast::many::{KeyForEach, Slice};
 
-/// Encrypts in place each block of a list under the key at its place. Lists that are not as long
-/// are `NotEqualError`, and the blocks are unchanged.
+/// Encrypts in place each block of a list under the key at its place. If the lists differ in
+/// length, the result is `NotEqualError`, and the blocks are unchanged.
 pub fn encrypt_under_keys<S: Slice, C: KeyForEach>(
     keys: &[C::Key],
     blocks: &mut [[u8; 8]],

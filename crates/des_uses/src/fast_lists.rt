@@ -30,9 +30,9 @@ pub fn decrypt_list_by_fast_des(key: &[u8; 8], blocks: &mut [[u8; 8]])
     cipher.decrypt_many(blocks);
 }
 
-/// Decrypts in place a list that CBC under a key encrypted from the initialization vector: DES under
-/// the key takes each new block xor the block of the list before it, or for the first the vector,
-/// to the block of the list.
+/// Decrypts in place a list that CBC under a key encrypted from the initialization vector: DES
+/// under the key takes each new block xor the block of the list before it, or for the first the
+/// vector, to the block of the list.
 pub fn decrypt_cbc_by_fast_des(key: &[u8; 8], iv: &[u8; 8], blocks: &mut [[u8; 8]])
     ensures { CbcUnder (λ x y. Enciphers key.now x y) iv.now blocks.new blocks.old }
 {

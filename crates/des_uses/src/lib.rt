@@ -1,7 +1,6 @@
 //! What stands above the ciphers of `des` and `des_fast`, the MACs, the modes, key wraps, streams,
-//! columns and the payment formats: callers that rest on their contracts and laws alone, and a single
-//! DES of one's own.
-//! Nothing here is part of the product.
+//! columns and the payment formats: callers that rest on their contracts and laws alone, and a
+//! single DES of one's own. Nothing here is part of the product.
 #![tactic(auto)]
 
 pub mod both_libraries;

@@ -8,10 +8,10 @@ ghost use Rattle.des.specs.Relations.{TakesBlock};
 use des::cipher::{InvalidLength, KeyedCipher};
 use des_fast::many::ManyBlocks;
 
-/// Decrypts in place the blocks of a record, many at a time, which CBC under a cipher encrypted from
-/// the initialization vector: the key's encryption takes each new block xor the block of the record
-/// before it, or for the first the vector, to the block of the record. A key that does not have
-/// `KEY_SIZE` bytes is `InvalidLength`, and the record is unchanged.
+/// Decrypts in place the blocks of a record, many at a time, which CBC under a cipher encrypted
+/// from the initialization vector: the key's encryption takes each new block xor the block of the
+/// record before it, or for the first the vector, to the block of the record. A key that does not
+/// have `KEY_SIZE` bytes is `InvalidLength`, and the record is unchanged.
 pub fn read_long_record<C: KeyedCipher + ManyBlocks + Drop>(
     key: &[u8],
     iv: &[u8; 8],

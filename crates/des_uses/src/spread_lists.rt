@@ -1,5 +1,6 @@
 //! Lists under keys that are spread over slices once: what a caller of `spread_keys` can promise,
-//! of any cipher with it and at any width, by the laws of the traits. The lists may have any length.
+//! of any cipher with it and at any width, by the laws of the traits. The lists may have any
+//! length.
 
 ghost use Rattle.std.specs.Prelude.{◌≡◌, ◌↔◌, length, map, IsOk, OnOk, OnErr};
 ghost use Rattle.des.specs.Cbc.{CbcUnder};

@@ -1,6 +1,6 @@
 //! Records of any lengths under keys that are spread over slices once: what a caller of
-//! `encrypt_cbc_records` can promise, of any cipher that spreads its keys and at any width, by the laws
-//! of the traits.
+//! `encrypt_cbc_records` can promise, of any cipher that spreads its keys and at any width, by the
+//! laws of the traits.
 
 ghost use Rattle.std.specs.Prelude.{◌≡◌, ◌↔◌, ◌<◌, ℕ, length, sum, slice_index_or, IsOk, OnOk, OnErr, []};
 ghost use Rattle.des.specs.Cbc.{Cbc, next_vector};

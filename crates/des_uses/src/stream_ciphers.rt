@@ -1,5 +1,5 @@
-//! Texts in CTR, OFB and CFB, over any cipher, in pieces and back: what the clauses of `Stream` give to a
-//! caller.
+//! Texts in CTR, OFB and CFB, over any cipher, in pieces and back: what the clauses of `Stream`
+//! give to a caller.
 
 ghost use Rattle.std.specs.Prelude.{◌≡◌, ◌↔◌, ◌*◌, ◌≤◌, ◌++◌, ℕ, List, IsTrue, IsFalse, length};
 ghost use Rattle.des.specs.Blocks.{AreBytes};
@@ -10,8 +10,8 @@ use des::cipher::are_bytes;
 use des_modes::stream::Stream;
 use des_modes::{Direction, Feedback};
 
-/// Encrypts a text that comes in two pieces, in the mode of a number: together they become what the text
-/// becomes as one. `false` if no mode has the number; nothing is changed then.
+/// Encrypts a text that comes in two pieces, in the mode of a number: together they become what the
+/// text becomes as one. `false` if no mode has the number; nothing is changed then.
 pub fn encrypt_in_two_pieces<C: Feedback>(
     cipher: &C,
     number: u32,
@@ -33,8 +33,8 @@ pub fn encrypt_in_two_pieces<C: Feedback>(
     true
 }
 
-/// Encrypts a text in two pieces, the first of `count` bytes, and decrypts what they became as one: the
-/// text comes back. `false` if no mode has the number.
+/// Encrypts a text in two pieces, the first of `count` bytes, and decrypts what they became as one:
+/// the text comes back. `false` if no mode has the number.
 pub fn text_again<C: Feedback>(
     cipher: &C,
     number: u32,
@@ -65,8 +65,8 @@ pub fn text_again<C: Feedback>(
     true
 }
 
-/// Decrypts a part of what the counter mode made of a text, with no other part of it: `block` is the
-/// first counter block, and `blocks` blocks stand before the part.
+/// Decrypts a part of what the counter mode made of a text, with no other part of it: `block` is
+/// the first counter block, and `blocks` blocks stand before the part.
 pub fn decrypt_part_of_ctr<C: Feedback>(cipher: &C, block: &[u8; 8], blocks: u64, part: &mut [u8])
     ensures { (before text encrypted : List ℕ) → length before ≡ 8 * blocks → AreBytes encrypted
         → Ctr (C.encrypted cipher.now) block.now before encrypted

@@ -1,6 +1,6 @@
-//! Callers of the streams of `des_io`, over any cipher, reader and writer, with a buffer of their own:
-//! what CBC and PKCS#7 make of what is read, a part of a list of blocks in CBC, and two parts that
-//! joined are the whole.
+//! Callers of the streams of `des_io`, over any cipher, reader and writer, with a buffer of their
+//! own: what CBC and PKCS#7 make of what is read, a part of a list of blocks in CBC, and two parts
+//! that joined are the whole.
 
 ghost use Rattle.std.specs.Prelude.{◌≡◌, ◌≢◌, ◌*◌, ◌≤◌, ℕ, List, length, IfOk, IfErr};
 ghost use Rattle.std.specs.Prelude.{Some, None};

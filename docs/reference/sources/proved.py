@@ -6,14 +6,15 @@ from .rattle import Crate, base, split_impl
 from .text import Refused, first_sentence, listed, table
 
 LIBRARIES = ["des", "des_fast", "des_mac", "des_modes", "des_key_wraps", "des_payment", "des_key_blocks", "des_io", "des_passwords", "des_columns"]
-CRATES = [*LIBRARIES, "des_context", "des_c", "des_lines", "des_arguments", "des_commands", "des_tool"]
+CRATES = [*LIBRARIES, "des_context", "des_c", "des_lines", "des_requests", "des_arguments", "des_commands", "des_tool"]
 
 # Crates whose modules no caller names, and what they have instead.
 CLOSED = {
     "des_c": "The exports, which C calls.",
     "des_lines": "The lines of `cukvashe`. `des_commands` alone calls these.",
-    "des_arguments": "What the words of a command line of `cukvashe` ask for. `des_commands` alone calls these.",
-    "des_commands": "What `cukvashe` does. Other crates call `run` alone.",
+    "des_requests": "What `cukvashe` may be asked for. `des_arguments` and `des_commands` alone call these.",
+    "des_arguments": "What the words of a command line of `cukvashe` ask for. The program alone calls these.",
+    "des_commands": "What `cukvashe` does. The program calls `run` and two calls beside it.",
     "des_tool": "What the program `des_tool` does.",
 }
 

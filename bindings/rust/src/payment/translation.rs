@@ -63,7 +63,7 @@ pub enum TranslationError {
     AccountDigit,
     /// A fill digit is none of 10 to 15.
     Fill,
-    /// Decrypted, the block is none of a PIN in its format.
+    /// Decrypted, the block is not a PIN block of its format.
     Block,
 }
 

@@ -157,8 +157,8 @@ pub fn parse<'a>(alloc: Global, command_line: &'a [&'a str]) -> Result<ArgMatche
     command(alloc, command_line)?.try_get_matches_from(command_line)
 }
 
-/// The name of an option, a command or a group that a word is, as it is known here; nothing of another
-/// word.
+/// The name of an option, a command or a group that a word is, as it is known here; nothing of
+/// another word.
 pub fn known_name(word: &str) -> &'static str {
     for group in groups() {
         if group.name == word {

@@ -2,7 +2,7 @@
 
 use super::argument_values::{place_of, text_of};
 use super::misuse::misuse;
-use super::requests::{Requested, by_input, by_key, with_key};
+use super::requests::{Requested, by_key, with_key};
 use super::sources::{input_at, one_of};
 use clap::ArgMatches;
 use des_key_blocks::key_block_header::Version;
@@ -28,8 +28,8 @@ fn version_of(word: Option<&str>) -> Version {
     }
 }
 
-// Refuses small letters in the fields of a header, where no standard has any: `p0` would be another usage
-// than `P0`.
+// Refuses small letters in the fields of a header, where no standard has any: `p0` would be another
+// usage than `P0`.
 fn refuse_small<'a>(matches: &ArgMatches<'a>) -> Result<(), Fault<'a>> {
     for name in ["usage", "algorithm", "mode", "exportability"] {
         let text = text_of(matches, name).unwrap_or("");

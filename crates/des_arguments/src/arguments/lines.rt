@@ -4,18 +4,18 @@ ghost use Rattle.std.specs.Prelude.{◌≡◌, ◌⊎◌, ◌≤◌, ◌<◌, fa
 ghost use Rattle.des_lines.specs.declared.fault.FaultKind.TheVariants.{Usage};
 ghost use Rattle.des_lines.specs.declared.fault.Misuse.TheVariants.{Arguments, ArgumentValue};
 ghost use Rattle.des_arguments.specs.LineArguments.{algorithm_by, iterations_by, FailsAsFormat, FailsAsJasypt, FailsAsLinesRequest, FailsAsOther, IsFormat, IsJasypt, IsLinesRequest, IsOfOption, IsOther};
-ghost use Rattle.des_arguments.specs.LineFormats.{coding_of as coding_by, takes_secret as takes_secret_of};
+ghost use Rattle.des_requests.specs.LineFormats.{coding_of as coding_by, takes_secret as takes_secret_of};
 
 use super::argument_values::{is_set, number_of, place_of, text_of};
 use super::misuse::misuse;
 use super::passwords::PASSWORD;
-use super::sources::{KEY, file_of, input_of, names_one, one_of, output_of, read_once};
-use crate::command::lines::{LineCoding, LineSecret, LinesRequest, ValueFormat};
+use super::sources::{KEY, names_one, one_of, output_of, read_once};
 use clap::ArgMatches;
 use des_columns::pbe::Algorithm;
 use des_columns::pgcrypto::Scheme;
 use des_lines::fault::{Fault, Misuse};
-use des_passwords::encrypted_keys::MOST_ITERATIONS;
+use des_passwords::encrypted_keys::MAX_ITERATIONS;
+use des_requests::lines::{LineCoding, LineSecret, LinesRequest, ValueFormat};
 
 // What Jasypt takes unless it is told otherwise.
 const ALGORITHM: &str = "PBEWithMD5AndDES";
@@ -47,7 +47,7 @@ fn iterations_of<'a>(arguments: &LineArguments) -> Result<u32, Fault<'a>>
         × (fault.kind ≡ Usage ArgumentValue)) }
 {
     let count = arguments.iterations.unwrap_or(ITERATIONS);
-    if count == 0 || count > MOST_ITERATIONS as u64 {
+    if count == 0 || count > MAX_ITERATIONS as u64 {
         return Err(misuse(Misuse::ArgumentValue, "--iterations"));
     }
     Ok(count as u32)

@@ -8,13 +8,13 @@ ghost use Rattle.des_lines.specs.Faults.{FailsOnlyBy};
 use super::argument_values::{is_given, is_set, text_of};
 use super::misuse::{misuse, refuse};
 use super::sources::{KEY, input_at, names_one, one_of, output_of, read_once};
-use crate::command::streams::{Password, Secret};
-use crate::command::{KeyForm, PrivateKeyRequest};
 use clap::ArgMatches;
 use des_lines::fault::{Fault, FaultKind, Misuse};
 use des_lines::source::Source;
 use des_passwords::Derivation;
-use des_passwords::encrypted_keys::MOST_ITERATIONS;
+use des_passwords::encrypted_keys::MAX_ITERATIONS;
+use des_requests::command::{KeyForm, PrivateKeyRequest};
+use des_requests::streams::{Password, Secret};
 
 // What encryption takes: `--derive` names another count.
 const ITERATIONS: u32 = 600000;
@@ -97,7 +97,7 @@ fn check_derivation(
         Err(FaultKind::Usage(Misuse::DerivationToEncrypt))
     } else if count == 0 {
         Err(FaultKind::Usage(Misuse::Derivation))
-    } else if count > MOST_ITERATIONS && !takes_any_count {
+    } else if count > MAX_ITERATIONS && !takes_any_count {
         Err(FaultKind::Usage(Misuse::Count))
     } else {
         Ok(())
@@ -167,7 +167,7 @@ pub fn private_key_request<'a>(
         most_iterations: if is_set(matches, "any-count") {
             u32::MAX
         } else {
-            MOST_ITERATIONS
+            MAX_ITERATIONS
         },
     })
 }

@@ -2,7 +2,7 @@
 
 use super::argument_values::{count_of, is_given, is_set, place_of, text_of};
 use super::misuse::misuse;
-use super::requests::{Requested, by_input, by_key, with_account, with_key_of};
+use super::requests::{Requested, by_key, with_account, with_key_of};
 use super::sources::{input_at, one_of};
 use clap::ArgMatches;
 use des_lines::fault::{Fault, Misuse};
@@ -76,7 +76,8 @@ fn decode_request<'a>(matches: &ArgMatches<'a>) -> Requested<'a> {
     with_account_of(format, request, matches)
 }
 
-// The request of a translation of a block of format 1 to format 1, in which its digits are unchanged.
+// The request of a translation of a block of format 1 to format 1, in which its digits are
+// unchanged.
 fn format_1_request<'a>(matches: &ArgMatches<'a>) -> Requested<'a> {
     if is_given(matches, "fill") {
         return Err(misuse(Misuse::FillOfFormat1, ""));

@@ -7,11 +7,13 @@ ghost use Rattle.des_arguments.specs.CommandArguments.{is_standard_input as is_s
 
 use super::argument_values::text_of;
 use super::misuse::misuse;
-use super::sources::{file_of, is_standard_input, key_of};
+use super::sources::{is_standard_input, key_of};
 use clap::ArgMatches;
 use des_lines::fault::{Fault, Misuse};
 use des_lines::requests::{Account, Calculation, CalculationRequest};
 use des_lines::source::Source;
+use des_requests::command::by_input;
+use des_requests::sources::file_of;
 
 /// The request of a calculation, or the fault of its arguments.
 pub type Requested<'a> = Result<CalculationRequest<'a>, Fault<'a>>;
@@ -40,18 +42,6 @@ fn count_standard_inputs(sources: &[Option<Source>]) -> usize
     ensures { result ≡ length (filter is_standard_input_of sources.now) }
 {
     sources.iter().filter(|it| is_standard_input(**it)).count()
-}
-
-/// The request of a calculation by its input alone.
-pub fn by_input<'a>(calculation: Calculation<'a>, input: Source<'a>) -> CalculationRequest<'a> {
-    CalculationRequest {
-        calculation,
-        input,
-        key: None,
-        to_key: None,
-        account: Account::Absent,
-        refuses_wrong_check_digit: false,
-    }
 }
 
 /// The request of a calculation whose input is the key.

@@ -1,30 +1,22 @@
 //! Where keys and inputs are, and where the output goes, by the options that name them.
 
-ghost use Rattle.std.specs.Prelude.{◌≡◌, Some, IfOk, IfErr};
+ghost use Rattle.std.specs.Prelude.{◌≡◌, IfOk, IfErr};
 ghost use Rattle.des_lines.specs.declared.fault.FaultKind.TheVariants.{Usage};
 ghost use Rattle.des_lines.specs.declared.fault.Misuse.TheVariants.{StandardInputTwice};
-ghost use Rattle.des_arguments.specs.StreamArguments.{IsInput, IsOutput, IsReadTwice};
+ghost use Rattle.des_arguments.specs.StreamArguments.{IsOutput, IsReadTwice};
 ghost use Rattle.des_arguments.specs.CommandArguments.{is_standard_input as is_standard_input_of};
 
 use super::argument_values::{is_given, number_of, text_of};
 use super::misuse::misuse;
-use crate::command::streams::Output;
 use clap::ArgMatches;
 use des_lines::fault::{Fault, Misuse};
 use des_lines::source::Source;
+use des_requests::sources::{file_of, input_of};
+use des_requests::streams::Output;
 
-/// The options that name where a key is: a file, a descriptor and a variable, as `one_of` takes them.
+/// The options that name where a key is: a file, a descriptor and a variable, as `one_of` takes
+/// them.
 pub const KEY: [&str; 3] = ["key-file", "key-fd", "key-env"];
-
-/// The file of a path, or standard input, by the names that the system gives it.
-pub fn file_of<'a>(path: &'a str) -> Source<'a>
-    ensures { IsInput (Some path.entry) result }
-{
-    match path {
-        "-" | "/dev/stdin" | "/dev/fd/0" | "/proc/self/fd/0" => Source::StandardInput,
-        _ => Source::File(path),
-    }
-}
 
 /// The one of three places that options name: a file, a descriptor and a variable.
 pub fn one_of<'a>(
@@ -52,16 +44,6 @@ pub fn names_one(matches: &ArgMatches, names: [&str; 3]) -> bool {
 /// Where the key is, of a command that takes no password.
 pub fn key_of<'a>(matches: &ArgMatches<'a>) -> Result<Source<'a>, Fault<'a>> {
     one_of(matches, KEY, Misuse::KeySource)
-}
-
-/// Where the input is: in a file, or on standard input, as `-` or no path asks for.
-pub fn input_of<'a>(path: Option<&'a str>) -> Source<'a>
-    ensures { IsInput path.entry result }
-{
-    match path {
-        Some(path) => file_of(path),
-        None => Source::StandardInput,
-    }
 }
 
 /// Where the input is that an option names: in a file, or on standard input without the option.

@@ -2,9 +2,9 @@
 
 ghost use Rattle.std.specs.Prelude.{◌≡◌, ◌≢◌, codes, IfSome, IfNone, IfOk, IfErr};
 ghost use Rattle.des_io.specs.declared.padding.Padding.{Padding as PaddingOf};
-ghost use Rattle.des_arguments.specs.declared.command.streams.Cipher.{Cipher as CipherOf};
-ghost use Rattle.des_arguments.specs.declared.command.streams.CipherMode.{CipherMode as CipherModeOf};
-ghost use Rattle.des_arguments.specs.declared.command.streams.WeakKeys.{WeakKeys as WeakKeysOf};
+ghost use Rattle.des_requests.specs.declared.streams.Cipher.{Cipher as CipherOf};
+ghost use Rattle.des_requests.specs.declared.streams.CipherMode.{CipherMode as CipherModeOf};
+ghost use Rattle.des_requests.specs.declared.streams.WeakKeys.{WeakKeys as WeakKeysOf};
 ghost use Rattle.des_lines.specs.declared.fault.FaultKind.TheVariants.{Usage};
 ghost use Rattle.des_lines.specs.declared.fault.Misuse.TheVariants.{Arguments};
 ghost use Rattle.des_arguments.specs.StreamArguments.{cipher_name, padding_word, weak_keys_word, default_weak_keys, text_or, part_for};
@@ -15,13 +15,13 @@ use super::argument_values::{is_set, number_of, place_of, text_of};
 use super::misuse::misuse;
 use super::passwords::secret_of;
 use super::sources::{input_of, output_of, read_once};
-use crate::command::streams::{
-    BlockRange, Cipher, CipherMode, Coding, Secret, StreamMode, StreamRequest, Vector, WeakKeys,
-};
 use clap::ArgMatches;
 use des_io::Padding;
 use des_lines::digits::bytes_of;
 use des_lines::fault::{Fault, FaultKind, Misuse};
+use des_requests::streams::{
+    BlockRange, Cipher, CipherMode, Coding, Secret, StreamMode, StreamRequest, Vector, WeakKeys,
+};
 
 /// The arguments of a command line that asks for a stream, as they were typed.
 #[derive(Clone, Copy)]
@@ -103,8 +103,8 @@ pub fn weak_keys_of(word: Option<&str>, encrypts: bool) -> Option<WeakKeys>
     }
 }
 
-// The vector of a text, in the direction that its word is for. The fault is `Vector` if the text is neither
-// a word nor 16 hexadecimal digits.
+// The vector of a text, in the direction that its word is for. The fault is `Vector` if the text is
+// neither a word nor 16 hexadecimal digits.
 fn vector_of(text: &str, encrypts: bool) -> Result<Vector, FaultKind>
     ensures vector { IfOk result (IsVector text.now encrypts) }
     ensures fault { IfErr result (FailsAsVector text.now encrypts) }
@@ -121,7 +121,8 @@ fn vector_of(text: &str, encrypts: bool) -> Result<Vector, FaultKind>
     }
 }
 
-// The vector, if the mode takes one. By a key, it is that of `--iv`; by a password, that gives one too.
+// The vector, if the mode takes one. By a key, it is that of `--iv`; by a password, that gives one
+// too.
 fn asked_vector(
     arguments: &StreamArguments,
     takes_vector: bool,
@@ -158,7 +159,8 @@ pub fn part_of(
     }
 }
 
-// A fault of the arguments. Only `Vector` is about `--iv`: the sentences of the others name the option.
+// A fault of the arguments. Only `Vector` is about `--iv`: the sentences of the others name the
+// option.
 fn fault_of<'a>(kind: FaultKind) -> Fault<'a>
     ensures { result.kind ≡ kind }
 {

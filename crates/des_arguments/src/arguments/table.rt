@@ -110,8 +110,8 @@ static DECRYPTION: CommandGroup<'static> = group! {
         "base64": Nothing => "The input is Base64 in lines";
     }] "\
 Limits: a changed input decrypts to something, mostly with no fault, since
-nothing is authenticated. In CFB, OFB and CTR no key or password is found to
-be wrong.
+nothing is authenticated. In CFB, OFB and CTR a wrong key or password goes
+unnoticed.
 
 Example:
   echo 0123456789abcdeffedcba9876543210 >KEY
@@ -165,7 +165,7 @@ static LINES: CommandGroup<'static> = group! {
         "password-env": Text("NAME") => "Take it from an environment variable";
     }] "\
 Blanks around a value don't count, nor does \\x, \\\\x or 0x before its digits.
-NULL, null, \\N and an empty line are answered by themselves. Text that is not
+NULL, null, \\N and an empty line are written unchanged. Text that is not
 printable UTF-8 is a fault without --hex, so that no digits are taken for text.
 
 Limits: a changed value decrypts to something, mostly with no fault, since
@@ -190,7 +190,7 @@ static MACS: CommandGroup<'static> = group! {
         "length": Word("BYTES", &["4", "5", "6", "7", "8"]) =>
             "Print this number of the tag's first bytes; what --verify has must be as long [default: 8]";
         "verify": Text("TAG") =>
-            "Print right where these are the tag's first 4 to 8 bytes, else wrong, and end with 1";
+            "Print right if these are the tag's first 4 to 8 bytes; otherwise print wrong, and end with 1";
         "hex": Nothing => "The message is hexadecimal digits, of either case, with white space between";
     }, Key] "Example:
   echo 0123456789abcdeffedcba9876543210 >KEY
@@ -416,8 +416,8 @@ static KEY_BLOCK: CommandGroup<'static> = group! {
     --protection-key-file PROTECTION";
 };
 
-/// The groups, in the help's order. Each is a static of its own, since the time of a proof grows by the
-/// square of what a static holds.
+/// The groups, in the help's order. Each is a static of its own, since the time of a proof grows by
+/// the square of what a static holds.
 pub fn groups() -> [&'static CommandGroup<'static>; 12] {
     [
         &ENCRYPTION,

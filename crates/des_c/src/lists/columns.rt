@@ -19,8 +19,8 @@ use des_context::columns::{
 };
 use des_context::status::{ERR_ALGORITHM, ERR_COUNTS, ERR_KEY_NUMBER, OK};
 
-/// Reads values of MySQL and MariaDB under a key string, as `des_columns::mysql::decrypt_values` does.
-/// The status is `ERR_COUNTS` if the lengths do not fit, and then nothing is written, and
+/// Reads values of MySQL and MariaDB under a key string, as `des_columns::mysql::decrypt_values`
+/// does. The status is `ERR_COUNTS` if the lengths do not fit, and then nothing is written, and
 /// `ERR_VALUES` if the status of some value is not `OK`.
 #[unsafe(no_mangle)]
 pub extern "C" fn cukvashe_internal_mysql_decrypt_values(

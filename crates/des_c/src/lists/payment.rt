@@ -10,7 +10,7 @@ use super::Width;
 use des_context::payment_lists::{check_values, transaction_keys};
 use des_context::status::{ERR_COUNTS, OK};
 
-/// The check value of each key at its place: `keys` are keys of `key_size` bytes, one after
+/// Writes the check value of each key at its place: `keys` are keys of `key_size` bytes, one after
 /// another. The status is `ERR_COUNTS` if the numbers of keys and values differ; the values then
 /// are unchanged.
 #[unsafe(no_mangle)]
@@ -30,9 +30,9 @@ pub extern "C" fn cukvashe_internal_check_values(
     check_values::<Width>(key_size, keys, values)
 }
 
-/// The key of the transaction of each key serial number at its place, from the base derivation key.
-/// The status is `ERR_COUNTS` if the numbers of serial numbers and keys differ; the keys then
-/// are unchanged.
+/// Writes the key of the transaction of each key serial number at its place, from the base
+/// derivation key. The status is `ERR_COUNTS` if the numbers of serial numbers and keys differ; the
+/// keys then are unchanged.
 #[unsafe(no_mangle)]
 pub extern "C" fn cukvashe_internal_dukpt_transaction_keys(
     base: &[u8; 16],

@@ -26,10 +26,10 @@ fn status_of(fault: CvvError) -> i32
     }
 }
 
-/// The card verification value, three ASCII digits and a zero byte, of an account number of 12 to
-/// 19 digits, an expiry date of four and a service code of three, texts of ASCII digits. The status
-/// is that of the first fault, of the account number, then of the expiry date and then of the
-/// service code, and then `value` is unchanged.
+/// Writes the card verification value, three ASCII digits and a zero byte, of an account number of
+/// 12 to 19 digits, an expiry date of four and a service code of three, texts of ASCII digits. The
+/// status is that of the first fault, of the account number, then of the expiry date and then of
+/// the service code, and then `value` is unchanged.
 #[unsafe(no_mangle)]
 pub extern "C" fn cukvashe_cvv(
     key: &[u8; 16],

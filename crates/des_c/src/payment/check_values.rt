@@ -7,9 +7,9 @@ ghost use Rattle.des_payment.specs.KeyLengths.{is_key, encryption_by};
 use des_context::status::{ERR_KEY_LENGTH, OK};
 use des_payment::{key_check_value, short_key_check_value};
 
-/// The check value of a key of 8, 16 or 24 bytes, or of a component of one, by its length: under
-/// `Des`, `TdesEde2` or `TdesEde3`. The status for a key of any other length is `ERR_KEY_LENGTH`,
-/// and then `value` is unchanged.
+/// Writes the check value of a key of 8, 16 or 24 bytes, or of a component of one, by its length:
+/// under `Des`, `TdesEde2` or `TdesEde3`. The status for a key of any other length is
+/// `ERR_KEY_LENGTH`, and then `value` is unchanged.
 #[unsafe(no_mangle)]
 pub extern "C" fn cukvashe_key_check_value(key: &[u8], value: &mut [u8; 3]) -> i32
     ensures accepted { (result ≡ OK) ↔ IsTrue (is_key key.now) }
@@ -27,8 +27,8 @@ pub extern "C" fn cukvashe_key_check_value(key: &[u8], value: &mut [u8; 3]) -> i
     }
 }
 
-/// The first two bytes of the check value of a key, which `cukvashe_key_check_value` writes. The
-/// status is as for that call.
+/// Writes the first two of the bytes that `cukvashe_key_check_value` writes. The status is as for
+/// that call.
 #[unsafe(no_mangle)]
 pub extern "C" fn cukvashe_short_key_check_value(key: &[u8], value: &mut [u8; 2]) -> i32
     ensures accepted { (result ≡ OK) ↔ IsTrue (is_key key.now) }
@@ -46,7 +46,7 @@ pub extern "C" fn cukvashe_short_key_check_value(key: &[u8], value: &mut [u8; 2]
     }
 }
 
-/// The check value of a key of `key_size` bytes. The status for a key of any other length is
+/// Writes the check value of a key of `key_size` bytes. The status for a key of any other length is
 /// `ERR_KEY_LENGTH`, and then `value` is unchanged.
 #[unsafe(no_mangle)]
 pub extern "C" fn cukvashe_internal_check_value(

@@ -8,9 +8,9 @@ ghost use Rattle.des_context.specs.Keys.{IsKeyLength, keys_of};
 use des_context::components::combine;
 use des_context::status::{ERR_WEAK_KEY, OK};
 
-/// The key that two or more components of its length make, 8, 16 or 24 bytes: their xor, with odd
-/// parity. The components after the second stand one after another in `others`. The status for a
-/// key that the weak key test refuses is `ERR_WEAK_KEY`, and then `key` is unchanged.
+/// Writes the key that two or more components of its length make, 8, 16 or 24 bytes: their xor,
+/// with odd parity. The components after the second stand one after another in `others`. The status
+/// for a key that the weak key test refuses is `ERR_WEAK_KEY`, and then `key` is unchanged.
 #[unsafe(no_mangle)]
 pub extern "C" fn cukvashe_internal_combine(
     first: &[u8],

@@ -8,7 +8,7 @@ ghost use Rattle.des_c.specs.Messages.{message_of as message_by};
 use des_context::status::{ERR_NO_SERIAL, OK};
 use des_payment::dukpt::{self, MessageDirection};
 
-/// The initial key of a terminal, from the base derivation key and a key serial number.
+/// Writes the initial key of a terminal, from the base derivation key and a key serial number.
 #[unsafe(no_mangle)]
 pub extern "C" fn cukvashe_dukpt_initial_key(base: &[u8; 16], serial: &[u8; 10], key: &mut [u8; 16])
     ensures { key.new ≡ initial_key base.now serial.now }
@@ -16,8 +16,8 @@ pub extern "C" fn cukvashe_dukpt_initial_key(base: &[u8; 16], serial: &[u8; 10],
     *key = dukpt::initial_key(base, serial);
 }
 
-/// The key of a transaction, from the terminal's initial key and the transaction's key serial
-/// number.
+/// Writes the key of a transaction, from the terminal's initial key and the transaction's key
+/// serial number.
 #[unsafe(no_mangle)]
 pub extern "C" fn cukvashe_dukpt_transaction_key(
     initial: &[u8; 16],
@@ -29,7 +29,7 @@ pub extern "C" fn cukvashe_dukpt_transaction_key(
     *key = dukpt::transaction_key(initial, serial);
 }
 
-/// The key that encrypts PIN blocks, from the transaction's key.
+/// Writes the key that encrypts PIN blocks, from the transaction's key.
 #[unsafe(no_mangle)]
 pub extern "C" fn cukvashe_dukpt_pin_key(transaction: &[u8; 16], key: &mut [u8; 16])
     ensures { key.new ≡ pin_key transaction.now }
@@ -47,7 +47,7 @@ fn message_of(is_response: bool) -> MessageDirection
     }
 }
 
-/// The key that authenticates the request, or the response, from the transaction's key.
+/// Writes the key that authenticates the request, or the response, from the transaction's key.
 #[unsafe(no_mangle)]
 pub extern "C" fn cukvashe_dukpt_mac_key(
     transaction: &[u8; 16],
@@ -59,8 +59,8 @@ pub extern "C" fn cukvashe_dukpt_mac_key(
     *key = dukpt::mac_key(transaction, message_of(is_response));
 }
 
-/// The data variant of the transaction's key for the request, or for the response: the key that
-/// `cukvashe_dukpt_data_key` makes, without its last step.
+/// Writes the data variant of the transaction's key for the request, or for the response: the key
+/// that `cukvashe_dukpt_data_key` makes, without its last step.
 #[unsafe(no_mangle)]
 pub extern "C" fn cukvashe_dukpt_data_variant(
     transaction: &[u8; 16],
@@ -72,7 +72,8 @@ pub extern "C" fn cukvashe_dukpt_data_variant(
     *key = dukpt::data_variant(transaction, message_of(is_response));
 }
 
-/// The key that encrypts the data of the request, or of the response, from the transaction's key.
+/// Writes the key that encrypts the data of the request, or of the response, from the transaction's
+/// key.
 #[unsafe(no_mangle)]
 pub extern "C" fn cukvashe_dukpt_data_key(
     transaction: &[u8; 16],
@@ -93,7 +94,7 @@ pub extern "C" fn cukvashe_dukpt_is_usable(serial: &[u8; 10]) -> bool
     dukpt::is_usable(serial)
 }
 
-/// The next key serial number, with at most ten one bits in its counter. The status is
+/// Writes the next key serial number, with at most ten one bits in its counter. The status is
 /// `ERR_NO_SERIAL` if there is none, and then `next` is unchanged.
 #[unsafe(no_mangle)]
 pub extern "C" fn cukvashe_dukpt_next_serial(serial: &[u8; 10], next: &mut [u8; 10]) -> i32

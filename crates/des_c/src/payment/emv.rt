@@ -29,9 +29,9 @@ fn status_of(fault: EmvError) -> i32
     }
 }
 
-/// The key of a card (A1.4.1, option A), from the issuer's key, an account number of 8 to 19 digits
-/// and a sequence number of two, texts of ASCII digits. The status is that of the first fault, of
-/// the account number and then of the sequence number, and then `key` is unchanged.
+/// Writes the key of a card (A1.4.1, option A), from the issuer's key, an account number of 8 to 19
+/// digits and a sequence number of two, texts of ASCII digits. The status is that of the first
+/// fault, of the account number and then of the sequence number, and then `key` is unchanged.
 #[unsafe(no_mangle)]
 pub extern "C" fn cukvashe_emv_card_key(
     issuer: &[u8; 16],
@@ -53,7 +53,7 @@ pub extern "C" fn cukvashe_emv_card_key(
     }
 }
 
-/// The key of a card by option B (A1.4.2), and otherwise as `cukvashe_emv_card_key`.
+/// Writes the key of a card by option B (A1.4.2), and otherwise as `cukvashe_emv_card_key`.
 #[unsafe(no_mangle)]
 pub extern "C" fn cukvashe_emv_card_key_b(
     issuer: &[u8; 16],
@@ -75,7 +75,8 @@ pub extern "C" fn cukvashe_emv_card_key_b(
     }
 }
 
-/// The session key of a card's key (A1.3), from eight bytes that are different for each session.
+/// Writes the session key of a card's key (A1.3), from eight bytes that are different for each
+/// session.
 #[unsafe(no_mangle)]
 pub extern "C" fn cukvashe_emv_session_key(card: &[u8; 16], block: &[u8; 8], key: &mut [u8; 16])
     ensures { key.new ≡ session_key_of card.now block.now }
@@ -83,7 +84,7 @@ pub extern "C" fn cukvashe_emv_session_key(card: &[u8; 16], block: &[u8; 8], key
     *key = session_key(card, block);
 }
 
-/// The session key for application cryptograms, by the application transaction counter.
+/// Writes the session key for application cryptograms, by the application transaction counter.
 #[unsafe(no_mangle)]
 pub extern "C" fn cukvashe_emv_application_key(
     card: &[u8; 16],
@@ -95,7 +96,7 @@ pub extern "C" fn cukvashe_emv_application_key(
     *key = application_key(card, counter);
 }
 
-/// The application cryptogram of bytes under a session key (8.1.2).
+/// Writes the application cryptogram of bytes under a session key (8.1.2).
 #[unsafe(no_mangle)]
 pub extern "C" fn cukvashe_emv_application_cryptogram(
     session: &[u8; 16],
@@ -107,8 +108,8 @@ pub extern "C" fn cukvashe_emv_application_cryptogram(
     *cryptogram = application_cryptogram(session, bytes);
 }
 
-/// The response by method 1 (8.2.1) to an application cryptogram, with a response code of two
-/// bytes.
+/// Writes the response by method 1 (8.2.1) to an application cryptogram, with a response code of
+/// two bytes.
 #[unsafe(no_mangle)]
 pub extern "C" fn cukvashe_emv_response_1(
     session: &[u8; 16],
@@ -121,9 +122,9 @@ pub extern "C" fn cukvashe_emv_response_1(
     *response = response_1(session, cryptogram, code);
 }
 
-/// The response by method 2 (8.2.2) to an application cryptogram, with a card status update of four
-/// bytes and at most eight bytes of the issuer's. The status for more is `ERR_DATA_LENGTH`, and
-/// then `response` is unchanged.
+/// Writes the response by method 2 (8.2.2) to an application cryptogram, with a card status update
+/// of four bytes and at most eight bytes of the issuer's. The status for more is `ERR_DATA_LENGTH`,
+/// and then `response` is unchanged.
 #[unsafe(no_mangle)]
 pub extern "C" fn cukvashe_emv_response_2(
     session: &[u8; 16],

@@ -22,7 +22,7 @@ use des_key_blocks::key_block_header::{
     Algorithm, Exportability, Header, ModeOfUse, Usage, Version,
 };
 use des_key_blocks::key_blocks::{header, key_context, placed_optional_block, unwrap, wrap};
-use des_key_blocks::optional_blocks::{MOST_BLOCKS, OptionalBlock, read_optional_blocks};
+use des_key_blocks::optional_blocks::{MAX_BLOCKS, OptionalBlock, read_optional_blocks};
 
 fn status_of(fault: KeyBlockError) -> i32
     ensures status { result ≡ status_of_fault fault }
@@ -111,10 +111,10 @@ fn header_of(text: &HeaderText) -> Result<Header, KeyBlockError>
     })
 }
 
-/// The header and the key of a key block, under a protection key of 16 or 24 bytes: the key's 8, 16
-/// or 24 bytes and then zeros, and how many it has. The status is that of the first fault, of the
-/// protection key and then of the block, and then all three are unchanged. Nothing of the key is given
-/// before the block is authenticated.
+/// Writes the header and the key of a key block, under a protection key of 16 or 24 bytes: the
+/// key's 8, 16 or 24 bytes and then zeros, and how many it has. The status is that of the first
+/// fault, of the protection key and then of the block, and then all three are unchanged. Nothing of
+/// the key is given before the block is authenticated.
 #[unsafe(no_mangle)]
 pub extern "C" fn cukvashe_key_block_unwrap(
     protection: &[u8],
@@ -144,8 +144,8 @@ pub extern "C" fn cukvashe_key_block_unwrap(
     }
 }
 
-/// The fields of a block's header, with no key. The status is that of the first fault that shows
-/// without one, and then `text` is unchanged. Nothing of it is authenticated.
+/// Writes the fields of a block's header, with no key. The status is that of the first fault that
+/// shows without one, and then `text` is unchanged. Nothing of it is authenticated.
 #[unsafe(no_mangle)]
 pub extern "C" fn cukvashe_key_block_header(block: &[u8], text: &mut HeaderText) -> i32
     ensures found { result ≡ OK → (layout : HasLayout block.now)
@@ -164,9 +164,9 @@ pub extern "C" fn cukvashe_key_block_header(block: &[u8], text: &mut HeaderText)
     }
 }
 
-/// Where the key of a block may be, as the character of its header, with no key: `0`, `1` or `2`. The
-/// status is that of the first fault that shows without one, and then `context` is unchanged. Nothing of it
-/// is authenticated.
+/// Writes where the key of a block may be, as the character of its header, with no key: `0`, `1` or
+/// `2`. The status is that of the first fault that shows without one, and then `context` is
+/// unchanged. Nothing of it is authenticated.
 #[unsafe(no_mangle)]
 pub extern "C" fn cukvashe_key_block_context(block: &[u8], context: &mut u8) -> i32
     ensures found { (layout : HasLayout block.now)
@@ -185,10 +185,10 @@ pub extern "C" fn cukvashe_key_block_context(block: &[u8], context: &mut u8) -> 
     }
 }
 
-/// The optional block of a block at a place, from 0: its name and a zero byte, and if its
-/// content stands in the block and how many characters it has. The status is that of the block's
-/// first fault that shows without a key, and then `ERR_NO_OPTIONAL_BLOCK` if there are no more;
-/// and then all three are unchanged. Nothing of it is authenticated.
+/// Writes the optional block of a key block at a place, from 0: its name and a zero byte, where its
+/// content begins in the key block, and how many characters it has. The status is that of the key
+/// block's first fault that shows without a key, or `ERR_NO_OPTIONAL_BLOCK` if there are no more;
+/// all three are then unchanged. Nothing is authenticated.
 #[unsafe(no_mangle)]
 pub extern "C" fn cukvashe_key_block_optional_block(
     block: &[u8],
@@ -300,7 +300,7 @@ pub extern "C" fn cukvashe_key_block_wrap(
         name: [0; 2],
         content: &[],
     };
-    let mut blocks = [none; MOST_BLOCKS];
+    let mut blocks = [none; MAX_BLOCKS];
     let count = match read_optional_blocks(optional, &mut blocks) {
         Ok(count) => count,
         Err(fault) => return status_of(fault),

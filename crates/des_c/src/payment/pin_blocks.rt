@@ -69,8 +69,8 @@ fn write_pin(read: Result<Pin, PinError>, pin: &mut [u8; 13]) -> i32
     }
 }
 
-/// The block of format 0 of a PIN of 4 to 12 digits and an account number of 8 to 19, both texts
-/// of ASCII digits. The status is that of the first fault, of the PIN (`ERR_PIN_LENGTH`,
+/// Writes the block of format 0 of a PIN of 4 to 12 digits and an account number of 8 to 19, both
+/// texts of ASCII digits. The status is that of the first fault, of the PIN (`ERR_PIN_LENGTH`,
 /// `ERR_PIN_DIGIT`) and then of the account number (`ERR_ACCOUNT_LENGTH`, `ERR_ACCOUNT_DIGIT`), and
 /// then `block` is unchanged.
 #[unsafe(no_mangle)]
@@ -86,8 +86,8 @@ pub extern "C" fn cukvashe_pin_encode_0(pin: &[u8], account: &[u8], block: &mut 
     }
 }
 
-/// The block of format 1 of a PIN of 4 to 12 ASCII digits and ten transaction digits from 0 to 15.
-/// The status is that of the first fault, of the PIN and then of the transaction digits
+/// Writes the block of format 1 of a PIN of 4 to 12 ASCII digits and ten transaction digits from 0
+/// to 15. The status is that of the first fault, of the PIN and then of the transaction digits
 /// (`ERR_FILL`), and then `block` is unchanged.
 #[unsafe(no_mangle)]
 pub extern "C" fn cukvashe_pin_encode_1(
@@ -107,8 +107,8 @@ pub extern "C" fn cukvashe_pin_encode_1(
     }
 }
 
-/// The block of format 2 of a PIN of 4 to 12 ASCII digits, for a card. The status is that of the
-/// PIN's fault, and then `block` is unchanged.
+/// Writes the block of format 2 of a PIN of 4 to 12 ASCII digits, for a card. The status is that of
+/// the PIN's fault, and then `block` is unchanged.
 #[unsafe(no_mangle)]
 pub extern "C" fn cukvashe_pin_encode_2(pin: &[u8], block: &mut [u8; 8]) -> i32
     ensures status { result ≡ status_after status_of_fault (pin_fault pin.now) }
@@ -121,9 +121,9 @@ pub extern "C" fn cukvashe_pin_encode_2(pin: &[u8], block: &mut [u8; 8]) -> i32
     }
 }
 
-/// The block of format 3 of a PIN, an account number, as in format 0, and ten fill digits from 10
-/// to 15. The status is that of the first fault, of the PIN, of the account number and then of the
-/// fill digits (`ERR_FILL`), and then `block` is unchanged.
+/// Writes the block of format 3 of a PIN, an account number, as in format 0, and ten fill digits
+/// from 10 to 15. The status is that of the first fault, of the PIN, of the account number and then
+/// of the fill digits (`ERR_FILL`), and then `block` is unchanged.
 #[unsafe(no_mangle)]
 pub extern "C" fn cukvashe_pin_encode_3(
     pin: &[u8],
@@ -144,9 +144,9 @@ pub extern "C" fn cukvashe_pin_encode_3(
     }
 }
 
-/// The PIN of a block of format 0 and an account number: its ASCII digits, and then zero bytes. The
-/// status is that of the first fault: the account number's; `ERR_FORMAT` if the block has
-/// another format; `ERR_PIN_LENGTH` or `ERR_PIN_DIGIT` if its PIN has another length or a digit
+/// Writes the PIN of a block of format 0 and an account number: its ASCII digits, and then zero
+/// bytes. The status is that of the first fault: the account number's; `ERR_FORMAT` if the block
+/// has another format; `ERR_PIN_LENGTH` or `ERR_PIN_DIGIT` if its PIN has another length or a digit
 /// above 9; `ERR_FILL` if it is not filled with 15. Then `pin` is unchanged.
 #[unsafe(no_mangle)]
 pub extern "C" fn cukvashe_pin_decode_0(block: &[u8; 8], account: &[u8], pin: &mut [u8; 13]) -> i32
@@ -162,7 +162,7 @@ pub extern "C" fn cukvashe_pin_decode_0(block: &[u8; 8], account: &[u8], pin: &m
     write_pin(decode_format_0(block, account), pin)
 }
 
-/// The PIN of a block of format 1, as for one of format 0. The status for the first fault is
+/// Writes the PIN of a block of format 1, as for one of format 0. The status for the first fault is
 /// `ERR_FORMAT`, `ERR_PIN_LENGTH` or `ERR_PIN_DIGIT`.
 #[unsafe(no_mangle)]
 pub extern "C" fn cukvashe_pin_decode_1(block: &[u8; 8], pin: &mut [u8; 13]) -> i32
@@ -176,7 +176,7 @@ pub extern "C" fn cukvashe_pin_decode_1(block: &[u8; 8], pin: &mut [u8; 13]) -> 
     write_pin(decode_format_1(block), pin)
 }
 
-/// The PIN of a block of format 2, as for one of format 0. The status for the first fault is
+/// Writes the PIN of a block of format 2, as for one of format 0. The status for the first fault is
 /// `ERR_FORMAT`, `ERR_PIN_LENGTH`, `ERR_PIN_DIGIT` or `ERR_FILL`.
 #[unsafe(no_mangle)]
 pub extern "C" fn cukvashe_pin_decode_2(block: &[u8; 8], pin: &mut [u8; 13]) -> i32
@@ -191,8 +191,8 @@ pub extern "C" fn cukvashe_pin_decode_2(block: &[u8; 8], pin: &mut [u8; 13]) -> 
     write_pin(decode_format_2(block), pin)
 }
 
-/// The PIN of a block of format 3 and an account number, as for one of format 0; the status is
-/// `ERR_FILL` if the block is filled with a digit below 10.
+/// Writes the PIN of a block of format 3 and an account number, as for one of format 0; the status
+/// is `ERR_FILL` if the block is filled with a digit below 10.
 #[unsafe(no_mangle)]
 pub extern "C" fn cukvashe_pin_decode_3(block: &[u8; 8], account: &[u8], pin: &mut [u8; 13]) -> i32
     ensures status { result ≡ status_after status_of_fault

@@ -69,10 +69,10 @@ fn write_value(key: &[u8; 16], account: &[u8], index: u32, pin: &Pin, value: &mu
     }
 }
 
-/// The PIN verification value, four ASCII digits and a zero byte, of an account number of 12 to 19
-/// digits and a PIN of 4 to 12, texts of ASCII digits, under a key pair with an index from 1 to 6.
-/// The status is that of the first fault, of the PIN, then of the account number and then of the
-/// index, and then `value` is unchanged.
+/// Writes the PIN verification value, four ASCII digits and a zero byte, of an account number of 12
+/// to 19 digits and a PIN of 4 to 12, texts of ASCII digits, under a key pair with an index from 1
+/// to 6. The status is that of the first fault, of the PIN, then of the account number and then of
+/// the index, and then `value` is unchanged.
 #[unsafe(no_mangle)]
 pub extern "C" fn cukvashe_pvv(
     key: &[u8; 16],
@@ -161,7 +161,7 @@ fn write_table(
     }
 }
 
-/// The decimalization table of sixteen ASCII digits. The status is that of the first fault:
+/// Writes the decimalization table of sixteen ASCII digits. The status is that of the first fault:
 /// `ERR_TABLE_LENGTH`, `ERR_TABLE_DIGIT`, and `ERR_TABLE_VARIETY` if there are fewer than eight
 /// different ones; and then `table` is unchanged.
 #[unsafe(no_mangle)]
@@ -173,7 +173,7 @@ pub extern "C" fn cukvashe_decimal_table_init(table: &mut TableText, text: &[u8]
     write_table(DecimalTable::new(text), text, table)
 }
 
-/// Such a table with any number of different digits. The status is `ERR_TABLE_LENGTH` or
+/// Writes such a table with any number of different digits. The status is `ERR_TABLE_LENGTH` or
 /// `ERR_TABLE_DIGIT`.
 #[unsafe(no_mangle)]
 pub extern "C" fn cukvashe_decimal_table_init_any(table: &mut TableText, text: &[u8]) -> i32
@@ -199,8 +199,8 @@ fn write_pin(made: Result<Pin, VerificationError>, pin: &mut [u8; 13]) -> i32
     }
 }
 
-/// The natural PIN of 4 to 12 digits of validation data under a key of 8, 16 or 24 bytes: its ASCII
-/// digits, and then zero bytes. The status is that of the first fault, of the table, then
+/// Writes the natural PIN of 4 to 12 digits of validation data under a key of 8, 16 or 24 bytes:
+/// its ASCII digits, and then zero bytes. The status is that of the first fault, of the table, then
 /// `ERR_KEY_LENGTH` and then `ERR_PIN_LENGTH`, and then `pin` is unchanged.
 #[unsafe(no_mangle)]
 pub extern "C" fn cukvashe_natural_pin(
@@ -241,9 +241,9 @@ fn write_offset(
     }
 }
 
-/// The offset of a PIN of 4 to 12 ASCII digits, as many digits, and then zero bytes. The status is
-/// that of the first fault, of the PIN, then of the table and then `ERR_KEY_LENGTH`, and then
-/// `offset` is unchanged.
+/// Writes the offset of a PIN of 4 to 12 ASCII digits, as many digits, and then zero bytes. The
+/// status is that of the first fault, of the PIN, then of the table and then `ERR_KEY_LENGTH`, and
+/// then `offset` is unchanged.
 #[unsafe(no_mangle)]
 pub extern "C" fn cukvashe_pin_offset(
     key: &[u8],

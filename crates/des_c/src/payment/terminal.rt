@@ -23,7 +23,7 @@ pub extern "C" fn cukvashe_dukpt_terminal_init(
     *terminal = Terminal::new(initial, serial);
 }
 
-/// Returns the key serial number and the key of the next transaction, and clears the key in the
+/// Writes the key serial number and the key of the next transaction, and clears the key in the
 /// state. The status is `ERR_NO_SERIAL` if the terminal has had its last transaction, and then
 /// the state, `serial` and `key` are unchanged.
 #[unsafe(no_mangle)]

@@ -82,9 +82,9 @@ pub extern "C" fn cukvashe_pin_translate_to_0(
     write_block(made, translated)
 }
 
-/// Translates a PIN block of format 1 that is encrypted under one key, of 8, 16 or 24 bytes, into the
-/// same block under another. The status is `ERR_KEY_LENGTH`, and then `ERR_PIN_BLOCK` if it is no
-/// block of format 1; and then `translated` is unchanged.
+/// Translates a PIN block of format 1 that is encrypted under one key, of 8, 16 or 24 bytes, into
+/// the same block under another. The status is `ERR_KEY_LENGTH`, and then `ERR_PIN_BLOCK` if it is
+/// no block of format 1; and then `translated` is unchanged.
 #[unsafe(no_mangle)]
 pub extern "C" fn cukvashe_pin_translate_to_1(
     incoming: &[u8],
@@ -101,8 +101,8 @@ pub extern "C" fn cukvashe_pin_translate_to_1(
     write_block(translate_format_1(incoming, outgoing, block), translated)
 }
 
-/// As to format 0, into the block of format 3, of which `fill` has ten fill digits from 10 to 15: the
-/// status is `ERR_FILL` after a fault of the account number.
+/// As to format 0, into the block of format 3, of which `fill` has ten fill digits from 10 to 15:
+/// the status is `ERR_FILL` after a fault of the account number.
 #[unsafe(no_mangle)]
 pub extern "C" fn cukvashe_pin_translate_to_3(
     incoming: &[u8],

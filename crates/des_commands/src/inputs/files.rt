@@ -37,8 +37,8 @@ pub fn read_fault(error: io::Error) -> FaultKind
 }
 
 /// Opens a file to read. The system opens the file of a descriptor, as `/dev/fd/3`, anew and at its
-/// beginning: it is read from where the descriptor stands. Standard input under other names than its
-/// own is refused: it may be read beside this. The fault is `Read` or `Memory`.
+/// beginning: it is read from where the descriptor stands. Standard input under other names than
+/// its own is refused: it may be read beside this. The fault is `Read` or `Memory`.
 pub fn open(rt: &HostRuntime, path: &str) -> Result<Input, FaultKind>
     ensures { IfErr result FailsToRead }
 {
@@ -76,8 +76,8 @@ fn open_at(rt: &HostRuntime, path: &str, place: u64) -> io::Result<Input> {
 
 impl Input {
     /// Seeks to the last of the first `before` blocks, which CBC needs as its vector. Returns the
-    /// number of these blocks that are still to be read: one, none if `before` is 0, and all if the file
-    /// can't seek.
+    /// number of these blocks that are still to be read: one, none if `before` is 0, and all if the
+    /// file can't seek.
     pub fn seek_to_last(&mut self, before: u64) -> u64 {
         if before == 0 {
             return 0;
@@ -90,14 +90,15 @@ impl Input {
         1
     }
 
-    /// The number of bytes to read, if the file tells: up to its end, or those of `blocks` blocks and
-    /// of the blocks before them.
+    /// The number of bytes to read, if the file tells: up to its end, or those of `blocks` blocks
+    /// and of the blocks before them.
     pub fn total(&self, skipped: u64, blocks: Option<u64>) -> Option<u64> {
         self.length.map(|length| bytes_to_read(length, self.place, skipped, blocks))
     }
 }
 
-/// The number of bytes from a place in a file to its end.
+/// The number of bytes to read from a place in a file of `length` bytes: up to its end, or at most
+/// those of `skipped` blocks and of the `blocks` blocks after them.
 pub fn bytes_to_read(length: u64, place: u64, skipped: u64, blocks: Option<u64>) -> u64 {
     let rest = length.saturating_sub(place);
     match blocks {

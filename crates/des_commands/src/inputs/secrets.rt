@@ -3,7 +3,7 @@
 ghost use Rattle.std.specs.Prelude.{◌≤◌, length, IfOk, IfSome};
 ghost use Rattle.des_lines.specs.Keys.{IsKeySize};
 
-use super::sources::{LONGEST_TEXT, bytes_of, text_of};
+use super::sources::{MAX_TEXT, bytes_of, text_of};
 use des_lines::fault::Fault;
 use des_lines::keys::key_of_digits;
 use des_lines::source::Source;
@@ -11,7 +11,7 @@ use des_passwords::text_lines::cut;
 
 /// The text of a source, without its white space.
 pub fn text_in<'a>(rt: &HostRuntime, source: Source<'a>) -> Result<Vec<u8>, Fault<'a>>
-    ensures { IfOk result (λ text. length text.items ≤ LONGEST_TEXT) }
+    ensures { IfOk result (λ text. length text.items ≤ MAX_TEXT) }
 {
     text_of(rt, source).map_err(|kind| Fault::about(kind, source.name()))
 }
@@ -44,7 +44,7 @@ pub fn password_name<'a>(source: Source<'a>) -> &'a str {
 /// The password in a source: the first line of a file, or the value of a variable.
 pub fn password_in<'a>(rt: &HostRuntime, source: Source<'a>) -> Result<Vec<u8>, Fault<'a>> {
     let name = password_name(source);
-    let mut text = bytes_of(rt, source, LONGEST_TEXT).map_err(|kind| Fault::about(kind, name))?;
+    let mut text = bytes_of(rt, source, MAX_TEXT).map_err(|kind| Fault::about(kind, name))?;
     if let Source::Variable(_) = source {
         return Ok(text);
     }

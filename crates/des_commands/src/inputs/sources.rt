@@ -13,7 +13,7 @@ use std::env::{self, VarError};
 use std::io::Read;
 
 /// The bytes that an input has at most, white space among them.
-pub const LONGEST_TEXT: usize = 4096;
+pub const MAX_TEXT: usize = 4096;
 
 /// All that a reader has. The fault is `InputLength` if that is more than `longest` bytes,
 /// `Read` if the reader failed, or `Memory`.
@@ -74,12 +74,12 @@ pub fn bytes_of(rt: &HostRuntime, source: Source, longest: usize) -> Result<Vec<
     }
 }
 
-/// The text of a source, without its white space, of `LONGEST_TEXT` bytes at most. The faults are
+/// The text of a source, without its white space, of `MAX_TEXT` bytes at most. The faults are
 /// those of `bytes_of`.
 pub fn text_of(rt: &HostRuntime, source: Source) -> Result<Vec<u8>, FaultKind>
-    ensures { IfOk result (λ text. length text.items ≤ LONGEST_TEXT) }
+    ensures { IfOk result (λ text. length text.items ≤ MAX_TEXT) }
 {
-    let mut text = bytes_of(rt, source, LONGEST_TEXT)?;
+    let mut text = bytes_of(rt, source, MAX_TEXT)?;
     strip(&mut text);
     Ok(text)
 }

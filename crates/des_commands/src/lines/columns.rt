@@ -8,8 +8,8 @@ ghost use Rattle.des_commands.specs.LineColumns.{OpensColumn};
 use super::line_kind::LineKind;
 use std::alloc::{AllocError, Global};
 
-/// Lines that were read, and their values as a column: one after another. A line without a value has
-/// an empty one.
+/// Lines that were read, and their values as a column: one after another. A line without a value
+/// has an empty one.
 #[derive(Drop)]
 pub struct LineColumn {
     pub kinds: Vec<LineKind>,

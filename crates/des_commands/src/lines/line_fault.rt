@@ -15,7 +15,7 @@ use std::io::Write;
 /// Why a line has no answer. None has a place for what stands in the line.
 #[derive(Clone, Copy, PartialEq, Eq)]
 pub enum LineFault {
-    /// A character is no hexadecimal digit.
+    /// A character is not a hexadecimal digit.
     Digit,
     /// The number of hexadecimal digits is odd.
     DigitCount,
@@ -54,9 +54,9 @@ impl LineFault {
         ensures { result.now ≡ sentence_of self }
     {
         match self {
-            LineFault::Digit => "a character is no hexadecimal digit",
+            LineFault::Digit => "a character is not a hexadecimal digit",
             LineFault::DigitCount => "the number of hexadecimal digits is odd",
-            LineFault::Base64 => "it is no Base64",
+            LineFault::Base64 => "it is not Base64",
             LineFault::NotEncrypted => "the value is not encrypted",
             LineFault::KeyNumber => "the value names a key that is not given",
             LineFault::Length => "the value ends within a block of 8 bytes",
@@ -78,8 +78,8 @@ pub fn tell<E: Write>(fault: LineFault, about: &str, err: &mut E) -> Result<(), 
     write_line(fault.name(), about, fault.words(), err)
 }
 
-/// Tells of the fault of a line of an input, by the number of the line. The fault is `Memory`, and then
-/// nothing is written, or that of `err`.
+/// Tells of the fault of a line of an input, by the number of the line. The fault is `Memory`, and
+/// then nothing is written, or that of `err`.
 pub fn tell_line<E: Write>(
     alloc: Global,
     fault: LineFault,

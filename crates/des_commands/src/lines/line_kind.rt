@@ -13,7 +13,7 @@ ghost use Rattle.des_commands.specs.LineKinds.{null_text, digits_of as digits_be
 use super::line_fault::LineFault;
 use base64::DecodeAllocError;
 use base64::engine::general_purpose::STANDARD;
-use des_arguments::command::lines::LineCoding;
+use des_requests::lines::LineCoding;
 use std::alloc::AllocError;
 
 /// How what is no value is written.
@@ -64,8 +64,8 @@ fn null_word_of(text: &[u8]) -> Option<NullWord>
     }
 }
 
-// The digits behind `\x`, as PostgreSQL writes bytes, behind `\\x`, as its `COPY` does, or behind `0x`,
-// as MySQL does.
+// The digits behind `\x`, as PostgreSQL writes bytes, behind `\\x`, as its `COPY` does, or behind
+// `0x`, as MySQL does.
 fn digits_of(text: &[u8]) -> &[u8]
     ensures { result.now ≡ digits_behind text.now }
 {
@@ -82,7 +82,7 @@ fn are_digits(text: &[u8]) -> bool
     text.iter().all(|byte| byte.is_ascii_hexdigit())
 }
 
-// Why a text is not the digits of bytes: a character that is no digit is reported before an odd
+// Why a text is not the digits of bytes: a character that is not a digit is reported before an odd
 // number.
 fn fault_of(text: &[u8]) -> LineFault
     ensures { result ≡ digits_fault text.now }
@@ -137,8 +137,8 @@ fn add_bytes(coding: LineCoding, text: &[u8], values: &mut Vec<u8>) -> Result<Li
     }
 }
 
-/// Adds the bytes of the value of a line, if it has one, and says what the line is read as. Blanks at
-/// its ends don't count.
+/// Adds the bytes of the value of a line, if it has one, and says what the line is read as. Blanks
+/// at its ends don't count.
 pub fn add_value(
     coding: LineCoding,
     line: &[u8],

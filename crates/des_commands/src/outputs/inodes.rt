@@ -14,8 +14,8 @@ const REGULAR: u32 = 0o100000;
 
 const FIFO: u32 = 0o010000;
 
-// The bits of a folder where only owners remove files, where its group may write, and where everyone
-// may.
+// The bits of a folder where only owners remove files, where its group may write, and where
+// everyone may.
 const STICKY: u32 = 0o1000;
 
 const GROUP_WRITES: u32 = 0o020;

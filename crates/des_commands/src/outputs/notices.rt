@@ -7,19 +7,19 @@ ghost use Rattle.des_commands.specs.Notices.{notice_line, ruling_of as ruling_by
 ghost use Rattle.des_lines.specs.Written.{AppendsPrefix};
 ghost use Rattle.std.specs.Io.KnownBytes.{Appends};
 
-use des_arguments::command::streams::{StreamRequest, WeakKeys};
 use des_io::{Padding, StreamError};
 use des_lines::fault::FaultKind;
 use des_lines::keys::{Verdict, verdict_of};
 use des_lines::report::write_line;
+use des_requests::streams::{StreamRequest, WeakKeys};
 use std::io::Write;
 
 /// A notice; the stream goes on.
 #[derive(Clone, Copy)]
 pub enum Notice {
-    /// What is taken as text is nothing but hexadecimal digits.
+    /// The input is only hexadecimal digits, and is not decoded.
     Hexadecimal,
-    /// What is decrypted as bytes is nothing but Base64.
+    /// The input is only Base64, and is not decoded.
     Base64,
     /// A weak key is used.
     WeakKey,
@@ -42,11 +42,11 @@ fn words_of(notice: Notice) -> (&'static str, &'static str)
     match notice {
         Notice::Hexadecimal => (
             "Hexadecimal",
-            "the input is hexadecimal digits, and was taken as text: --hex reads it as bytes",
+            "the input is hexadecimal digits, and was taken as it is: --hex decodes it",
         ),
         Notice::Base64 => (
             "Base64",
-            "the input is a text in Base64, and was taken as bytes: --base64 decodes it",
+            "the input is a text in Base64, and was taken as it is: --base64 decodes it",
         ),
         Notice::WeakKey => ("WeakKey", "the key is weak, and is used"),
         Notice::DoubleLength => (

@@ -5,9 +5,9 @@ use std::alloc::{AllocError, Global};
 use std::io::IsTerminal;
 use std::time::{Duration, Instant};
 
-// The number of bytes read by a time.
+// The number of bytes that were read at a time.
 #[derive(Clone, Copy)]
-struct Mark {
+struct Sample {
     at: Instant,
     bytes: u64,
 }
@@ -18,17 +18,17 @@ const MILLISECONDS_BETWEEN: u64 = 500;
 /// When a stream began, and what was read of it at the last lines.
 #[derive(Clone, Copy)]
 pub struct Progress {
-    first: Mark,
+    first: Sample,
     // Those of the last eight lines, the oldest first.
-    marks: [Mark; 8],
+    samples: [Sample; 8],
     // The bytes that there are to read, if that is known.
     total: Option<u64>,
     // Lines are written on the way, and not only the last one.
     goes_on: bool,
 }
 
-// Bytes a second between two marks: from less than a millisecond as if it were one.
-fn rate_of(from: Mark, to: Mark) -> u64 {
+// Bytes a second between two samples: less than a millisecond counts as one.
+fn rate_of(from: Sample, to: Sample) -> u64 {
     let bytes = to.bytes.saturating_sub(from.bytes) as u128;
     let milliseconds = to.at.duration_since(from.at).as_millis().max(1);
     (bytes * 1000 / milliseconds).min(u64::MAX as u128) as u64
@@ -52,7 +52,7 @@ fn line_of(alloc: Global, bytes: u64, rate: u64, total: Option<u64>) -> Result<S
 }
 
 // The line of a stream that ended: all bytes, the seconds that it took, and the mean rate.
-fn last_line(alloc: Global, first: Mark, last: Mark) -> Result<String, AllocError> {
+fn last_line(alloc: Global, first: Sample, last: Sample) -> Result<String, AllocError> {
     let bytes = last.bytes;
     let milliseconds = last.at.duration_since(first.at).as_millis();
     let seconds = milliseconds / 1000;
@@ -75,10 +75,10 @@ impl Progress {
     /// the last line alone is written.
     pub fn begin(rt: &HostRuntime, total: Option<u64>) -> Option<Progress> {
         let at = Instant::now(rt).ok()?;
-        let first = Mark { at, bytes: 0 };
+        let first = Sample { at, bytes: 0 };
         Some(Progress {
             first,
-            marks: [first; 8],
+            samples: [first; 8],
             total,
             goes_on: rt.stderr().is_terminal(),
         })
@@ -89,18 +89,18 @@ impl Progress {
         let Ok(at) = Instant::now(rt) else {
             return self;
         };
-        let [oldest, second, third, fourth, fifth, sixth, seventh, last] = self.marks;
+        let [oldest, second, third, fourth, fifth, sixth, seventh, last] = self.samples;
         let since = at.duration_since(last.at);
         if !self.goes_on || since < Duration::from_millis(MILLISECONDS_BETWEEN) {
             return self;
         }
-        let mark = Mark { at, bytes };
+        let sample = Sample { at, bytes };
         show(
             rt,
-            line_of(rt.alloc(), bytes, rate_of(oldest, mark), self.total),
+            line_of(rt.alloc(), bytes, rate_of(oldest, sample), self.total),
         );
         Progress {
-            marks: [second, third, fourth, fifth, sixth, seventh, last, mark],
+            samples: [second, third, fourth, fifth, sixth, seventh, last, sample],
             ..self
         }
     }
@@ -108,7 +108,7 @@ impl Progress {
     /// Writes the last line.
     pub fn end(self, rt: &HostRuntime, bytes: u64) {
         if let Ok(at) = Instant::now(rt) {
-            show(rt, last_line(rt.alloc(), self.first, Mark { at, bytes }));
+            show(rt, last_line(rt.alloc(), self.first, Sample { at, bytes }));
         }
     }
 }

@@ -6,9 +6,9 @@ ghost use Rattle.std.specs.IoError.{error_kind};
 use super::inodes::{has_other_users, inode_of, is_refused_in_sticky};
 use crate::descriptors::{Followed, descriptor_state_of, folder_of, follow, has_shared, if_there};
 use crate::inputs::files::system_random;
-use des_arguments::command::streams::Output;
 use des_lines::fault::{Fault, FaultKind, Misuse, Reason};
 use des_lines::source::{Source, shown};
+use des_requests::streams::Output;
 use std::fs::{self, File, Metadata, OpenOptions, Permissions};
 use std::io::{self, ErrorKind, IsTerminal};
 use std::os::unix::fs::{MetadataExt, OpenOptionsExt, PermissionsExt, fchown};
@@ -31,7 +31,7 @@ const MODE_IN_WRITING: u32 = 0o600;
 const MODE_OF_NEW_FILES: u32 = 0o666;
 
 // The random names that are tried if there are files of these names already.
-const NAMES_AT_MOST: u32 = 16;
+const MAX_NAMES: u32 = 16;
 
 /// A file beside the one that it is to replace, which only its owner may read.
 #[derive(Drop)]
@@ -99,8 +99,8 @@ pub fn refuse_terminal<'a>(rt: &HostRuntime, output: Output) -> Result<(), Fault
     }
 }
 
-/// Opens an output, unless it is the regular file of the secret, which it would replace. The fault is
-/// `Write`, `Memory`, or `Source` if the system gives no random bytes for a name.
+/// Opens an output, unless it is the regular file of the secret, which it would replace. The fault
+/// is `Write`, `Memory`, or `Source` if the system gives no random bytes for a name.
 pub fn open(
     rt: &HostRuntime,
     output: Output,
@@ -121,9 +121,9 @@ pub fn open(
     }
 }
 
-// The file is looked up by the path that was given: so the system may refuse to follow another
-// user's links. It would not be asked of a new file: so no link to one is followed that stands in a
-// folder where everyone may write.
+// The file is looked up by the path as given, so that the system can refuse to follow another
+// user's link. It does not check this when a file is made: so none is made through a link that
+// stands in a folder where everyone may write.
 fn open_path(
     rt: &HostRuntime,
     path: &str,
@@ -151,9 +151,10 @@ fn own_user(rt: &HostRuntime) -> Option<u32> {
     Some(fs::metadata(rt, OWN_FOLDER).ok()?.uid())
 }
 
-// Opens the file that was looked up, under a name that is no link. A shell opens with `O_CREAT`, so that
-// the system refuses what another user has put into a folder where many may write. That would make a
-// file wherever a link leads that takes the name meanwhile: so it is refused here, by the same rule.
+// Opens the file that was looked up, by a name that is not a link. A shell opens with `O_CREAT`:
+// the system then refuses another user's file in a folder where many may write, but it also makes a
+// file, wherever a link leads that has taken the name since. So this opens without `O_CREAT`, and
+// applies the system's rule itself.
 fn open_looked_up(rt: &HostRuntime, name: &str, old: &Metadata) -> Result<File, FaultKind> {
     let folder = fs::metadata(rt, folder_of(name)).map_err(open_fault)?;
     let user = own_user(rt).unwrap_or(folder.uid());
@@ -187,8 +188,9 @@ fn open_old(rt: &HostRuntime, name: String, old: Metadata) -> Result<Target, Fau
     create_private(rt, name, Some(file), mode, narrows)
 }
 
-// The permissions of a new file beside a target: those that the system gives one, by the umask or the
-// folder's own list, unless it is to be its owner's. An empty file is made, looked at, and removed.
+// The permissions of a new file beside a target: those that the system gives one, by the umask or
+// the folder's own list, unless it is to be its owner's. An empty file is made, looked at, and
+// removed.
 fn mode_of(rt: &HostRuntime, target: &str, readers: Access) -> Result<u32, FaultKind> {
     if readers == Access::Owner {
         return Ok(MODE_IN_WRITING);
@@ -261,8 +263,8 @@ fn refuse_file(
     }
 }
 
-/// Refuses an input that is the regular file of standard output, as `cat` does: it would grow for as
-/// long as it is read. The fault is `Write` or `Memory`.
+/// Refuses an input that is the regular file of standard output, as `cat` does: it would grow for
+/// as long as it is read. The fault is `Write` or `Memory`.
 pub fn refuse_input(rt: &HostRuntime, input: Source) -> Result<(), FaultKind> {
     refuse_file(rt, STANDARD_OUTPUT, input, Reason::IsInput)
 }
@@ -278,10 +280,10 @@ fn random_path(rt: &HostRuntime, target: &str) -> Result<String, FaultKind> {
     Ok(path.into_string())
 }
 
-// A new file beside a target, and its path. The umask or the folder's own list takes bits of the mode
-// away. A file that stands already, or a link, is never opened: another name is tried.
+// A new file beside a target, and its path. The umask or the folder's own list takes bits of the
+// mode away. A file that stands already, or a link, is never opened: another name is tried.
 fn create_beside(rt: &HostRuntime, target: &str, mode: u32) -> Result<(String, File), FaultKind> {
-    for _ in 0..NAMES_AT_MOST {
+    for _ in 0..MAX_NAMES {
         let path = random_path(rt, target)?;
         let created = OpenOptions::new()
             .write(true)
@@ -319,8 +321,8 @@ fn create_private(
     }))
 }
 
-// Refuses what took a name after it was looked up, or left it: it is not replaced, unless that comes
-// between this look and the renaming.
+// Refuses what took a name after it was looked up, or left it: it is not replaced, unless that
+// comes between this look and the renaming.
 fn refuse_changed(rt: &HostRuntime, name: &str, old: &Option<Metadata>) -> Result<(), FaultKind> {
     match (
         old,
@@ -357,7 +359,8 @@ impl PrivateFile {
 
     // Flushes the file, gives it its group and permissions if the system lets it, and renames it: a
     // signal on the way leaves its owner's file. Then the folder is flushed if the system lets it.
-    // One that may not be read can't be: that is no fault, since the file stands whole under its name.
+    // One that may not be read can't be: that is no fault, since the file stands whole under its
+    // name.
     fn replace_target(&self, rt: &HostRuntime) -> Result<(), FaultKind> {
         self.file.sync_all().map_err(write_fault)?;
         let old = match &self.old {

@@ -4,21 +4,22 @@ ghost use Rattle.std.specs.Prelude.{◌≤◌, length, IfOk};
 
 use crate::inputs::files::{RANDOM_SOURCE, system_random};
 use crate::inputs::secrets::{key_in, text_in};
-use crate::inputs::sources::{LONGEST_TEXT, bytes_of, text_of};
-use des_arguments::arguments::{by_input, file_of};
+use crate::inputs::sources::{MAX_TEXT, bytes_of, text_of};
 use des_lines::calculations;
 use des_lines::fault::{Fault, FaultKind};
 use des_lines::names::{input_name, key_name, to_key_name};
 use des_lines::requests::{
-    Account, Calculation, CalculationRequest, Inputs, KeyBlockCalculation, LONGEST_INPUT, RANDOM,
-    Wrapping,
+    Account, Calculation, CalculationRequest, Inputs, KeyBlockCalculation, MAX_INPUT,
+    MAX_RANDOM_BYTES, Wrapping,
 };
 use des_lines::sentences::English;
 use des_lines::source::Source;
+use des_requests::command::by_input;
+use des_requests::sources::file_of;
 
-// The most components that are in files: as many as `--count` takes of one source. Their digits are no
-// longer than the text of one.
-const MOST_PARTS: usize = 255;
+// The most components that are in files: as many as `--count` takes of one source. Their digits are
+// no longer than the text of one.
+const MAX_PARTS: usize = 255;
 
 // The digits of a key, if there is one beside the input.
 fn key_text_in<'a>(
@@ -43,11 +44,11 @@ fn account_in<'a>(rt: &HostRuntime, account: Account<'a>) -> Result<Vec<u8>, Fau
 
 // The input: digits, or a key block, of which white space inside may be a part.
 fn input_in<'a>(rt: &HostRuntime, request: &CalculationRequest<'a>) -> Result<Vec<u8>, Fault<'a>>
-    ensures { IfOk result (λ input. length input.items ≤ LONGEST_INPUT) }
+    ensures { IfOk result (λ input. length input.items ≤ MAX_INPUT) }
 {
     let input = match request.calculation {
         Calculation::KeyBlock(KeyBlockCalculation::Header | KeyBlockCalculation::Unwrap { .. }) =>
-            bytes_of(rt, request.input, LONGEST_INPUT),
+            bytes_of(rt, request.input, MAX_INPUT),
         _ => text_of(rt, request.input),
     };
     input.map_err(|kind| Fault::about(kind, input_name(request)))
@@ -69,7 +70,7 @@ fn calculation_for<'a>(calculation: Calculation<'a>, digits: &[u8]) -> Calculati
 }
 
 fn run_by(rt: &HostRuntime, request: &CalculationRequest, inputs: Inputs) -> u8
-    requires { length inputs.text.now ≤ LONGEST_INPUT }
+    requires { length inputs.text.now ≤ MAX_INPUT }
 {
     calculations::run::<English, _, _>(
         rt.alloc(),
@@ -93,7 +94,7 @@ pub fn calculation_status<'a>(
         Calculation::KeyBlock(KeyBlockCalculation::Wrap(_)) => {
             system_random(rt).map_err(|kind| Fault::about(kind, RANDOM_SOURCE))?
         }
-        _ => [0; RANDOM],
+        _ => [0; MAX_RANDOM_BYTES],
     };
     // White space around a key block is no part of it.
     let text = match request.calculation {
@@ -116,8 +117,8 @@ pub fn calculation_status<'a>(
 
 // ---- components in files
 
-// Adds the bytes of components, each in a file: 8, 16 or 24 of the first, and as many of each other.
-// Returns the number that each has, if there is any.
+// Adds the bytes of components, each in a file: 8, 16 or 24 of the first, and as many of each
+// other. Returns the number that each has, if there is any.
 fn add_parts<'a>(
     rt: &HostRuntime,
     paths: &[&'a str],
@@ -136,7 +137,7 @@ fn add_parts<'a>(
 pub fn parts_status<'a>(rt: &HostRuntime, paths: &[&'a str]) -> Result<u8, Fault<'a>> {
     let mut bytes = Vec::new(rt.alloc());
     let size = add_parts(rt, paths, &mut bytes)?.unwrap_or(0);
-    if paths.len() > MOST_PARTS || bytes.len() > LONGEST_TEXT / 2 {
+    if paths.len() > MAX_PARTS || bytes.len() > MAX_TEXT / 2 {
         return Err(Fault::about(FaultKind::InputLength, "--part-file"));
     }
     // Its faults are about `--part-file`, wherever the input is said to be.
@@ -146,7 +147,7 @@ pub fn parts_status<'a>(rt: &HostRuntime, paths: &[&'a str]) -> Result<u8, Fault
         account: &[],
         key: &[],
         to_key: &[],
-        random: &[0; RANDOM],
+        random: &[0; MAX_RANDOM_BYTES],
     };
     Ok(run_by(rt, &request, inputs))
 }

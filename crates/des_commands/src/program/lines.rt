@@ -13,11 +13,11 @@ use crate::lines::{self, FIRST_FAULT, LinesJob};
 use crate::outputs::notices::{self, Notice};
 use crate::outputs::targets::{self, Access, PrivateFile, Target, output_name};
 use crate::streams::progress_reader::ProgressReader;
-use des_arguments::command::lines::{LineSecret, LinesRequest, ValueFormat};
 use des_columns::key_file::KeyFile;
 use des_lines::fault::{Fault, FaultKind, Misuse};
 use des_lines::report::send;
 use des_lines::source::Source;
+use des_requests::lines::{LineSecret, LinesRequest, ValueFormat};
 use hex::FromHexError;
 use std::alloc::Global;
 use std::io::{BufRead, BufReader, Read, Write};
@@ -25,8 +25,9 @@ use std::io::{BufRead, BufReader, Read, Write};
 // The bytes of the input that are read at a time.
 const BYTES_AT_A_TIME: usize = 65536;
 
-// The bytes that a server's file of keys has at most: six times those of ten lines as long as it reads.
-const LONGEST_KEY_FILE: usize = 65536;
+// The bytes that a server's file of keys has at most: six times those of ten lines as long as it
+// reads.
+const MAX_KEY_FILE: usize = 65536;
 
 // A request, with what was read for it.
 #[derive(Clone, Copy)]
@@ -217,11 +218,9 @@ fn bytes_of_digits(alloc: Global, digits: &[u8]) -> Result<Vec<u8>, FaultKind>
 fn secret_in<'a>(rt: &HostRuntime, request: &LinesRequest<'a>) -> Result<Vec<u8>, Fault<'a>> {
     match (request.secret, request.format) {
         (LineSecret::Password(source), _) => password_in(rt, source),
-        (LineSecret::Key(source), ValueFormat::Mysql) => bytes_of(
-            rt,
-            source,
-            LONGEST_KEY_FILE,
-        ).map_err(|kind| Fault::about(kind, source.name())),
+        (LineSecret::Key(source), ValueFormat::Mysql) => bytes_of(rt, source, MAX_KEY_FILE).map_err(
+            |kind| Fault::about(kind, source.name()),
+        ),
         (LineSecret::Key(source), _) => {
             let digits = text_in(rt, source)?;
             let name = source.name();

@@ -9,13 +9,13 @@ use crate::inputs::files;
 use crate::inputs::secrets::key_in;
 use crate::mac::tag_of;
 use crate::outputs::notices::{self, Notice};
-use des_arguments::command::{MacRequest, Method, Question};
 use des_lines::fault::{Fault, FaultKind};
 use des_lines::report::show;
 use des_lines::sentences::English;
 use des_lines::source::Source;
 use des_lines::tags::{status_of, tag_line, tag_of_digits, verification};
 use des_passwords::{HexReader, HexTextReader};
+use des_requests::command::{MacRequest, Method, Question};
 use std::io::Read;
 
 // The bytes of a message that are read at a time: 64 KiB.

@@ -5,16 +5,16 @@ use crate::inputs::secrets::password_in;
 use crate::inputs::sources::bytes_of;
 use crate::outputs::targets::{self, Access, Target, output_name, refuse_terminal};
 use crate::private_keys::{decrypted_key, is_der, object_identifier, pem_text};
-use des_arguments::command::{KeyForm, PrivateKeyRequest};
 use des_lines::fault::{Fault, FaultKind, FileFault};
 use des_lines::key_block_lines::shown_name;
 use des_lines::report::send;
 use des_passwords::{
     KeyAndVector, KeyFileError, Label, PemError, read_encrypted_key_of_many, read_pem,
 };
+use des_requests::command::{KeyForm, PrivateKeyRequest};
 
 // The bytes that a file with a private key has at most.
-const LONGEST_FILE: usize = 65536;
+const MAX_FILE: usize = 65536;
 
 /// A request with what was read.
 #[derive(Clone, Copy)]
@@ -58,8 +58,8 @@ fn tell_der(rt: &HostRuntime, error: KeyFileError, input: &str) -> Result<u8, Fa
 
 // ---- what is written
 
-// Writes a key where the request says. A file is replaced when all of it is written, and is then its
-// owner's alone. The file of the password is not written.
+// Writes a key where the request says. A file is replaced when all of it is written, and is then
+// its owner's alone. The file of the password is not written.
 fn write_bytes(
     rt: &HostRuntime,
     request: &PrivateKeyRequest,
@@ -146,7 +146,7 @@ pub fn private_key_status<'a>(
 ) -> Result<u8, Fault<'a>> {
     refuse_terminal(rt, request.output)?;
     let password = password_in(rt, request.password)?;
-    bytes_of(rt, request.input, LONGEST_FILE)
+    bytes_of(rt, request.input, MAX_FILE)
         .and_then(|text| run_text(rt, request, password.as_slice(), text.as_slice()))
         .map_err(|kind| match kind {
             FaultKind::Write(_) => Fault::about(kind, output_name(request.output)),

@@ -10,10 +10,6 @@ use crate::streams;
 use crate::streams::passwords::{PasswordJob, check_password, run_by_password};
 use crate::streams::progress_reader::ProgressReader;
 use base64::engine::general_purpose::STANDARD;
-use des_arguments::command::streams::{
-    CipherMode, Coding, Secret, StreamMode, StreamRequest, Vector, blocks_before, heading_of,
-    job_of,
-};
 use des_io::pieces::{fill, write_whole};
 use des_lines::fault::{Fault, FaultKind, FileFault};
 use des_lines::report::{send, tell};
@@ -21,6 +17,10 @@ use des_lines::sentences::English;
 use des_lines::source::Source;
 use des_passwords::salted::PREFIX;
 use des_passwords::{Base64Reader, HexFault, HexReader, HexTextReader, HexWriter};
+use des_requests::streams::{
+    CipherMode, Coding, Secret, StreamMode, StreamRequest, Vector, blocks_before, heading_of,
+    job_of,
+};
 use std::io::{Read, Write};
 
 // A request, with what was read for it.
@@ -115,8 +115,8 @@ fn run_to_output<R: Read>(
 
 // ---- the input
 
-// Whether a stream's end may come of digits or Base64 that were taken as bytes, and is not that nothing
-// could be read or written.
+// Whether an outcome may be due to digits or Base64 that were taken as bytes, and not to a reader
+// or a writer that failed.
 fn is_of_content(outcome: &Result<(), FaultKind>) -> bool {
     matches!(
         outcome,
@@ -157,8 +157,8 @@ fn run_reader<R: Read + Drop>(
 // What a text of Base64 begins with, whose bytes begin with `Salted__`.
 const PREFIX_IN_BASE64: [u8; 8] = *b"U2FsdGVk";
 
-// Reads from a reader that stands at the beginning of the input. If it is decrypted, a salt that
-// the words do not announce is refused, also in Base64.
+// Reads the input from its beginning. To decrypt, input that begins with `Salted__` is refused
+// unless the arguments announce a salt, and input that begins with its Base64 always is.
 fn run_from_start<R: Read + Drop>(
     rt: &HostRuntime,
     task: StreamTask,
@@ -181,8 +181,8 @@ fn run_from_start<R: Read + Drop>(
     run_reader(rt, task, (&first[..count]).chain(reader), total)
 }
 
-// Whether the blocks before a part need not be read: not if the first of them is the counter block,
-// since a counter goes on from the first.
+// Whether the input can be sought to a part. Under a password the salt at its beginning is needed,
+// and in CTR the counter block, if that is the first block of the input.
 fn may_seek(request: &StreamRequest) -> bool {
     !matches!(
         (request.secret, request.mode, request.vector),

@@ -1,11 +1,11 @@
-//! Streams under passwords, as `openssl enc` writes them: the key and the vector of a password and a
-//! salt, and the salt that stands before what is encrypted.
+//! Streams under passwords, as `openssl enc` writes them: the key and the vector of a password and
+//! a salt, and the salt that stands before what is encrypted.
 
 ghost use Rattle.std.specs.Prelude.{◌≡◌, ◌++◌, codes, IfOk, IfErr};
 ghost use Rattle.std.specs.Io.KnownBytes.{Consumes};
 ghost use Rattle.des_io.specs.Streams.{passage_of};
 ghost use Rattle.des_lines.specs.Keys.{IsKeySize};
-ghost use Rattle.des_arguments.specs.StreamRequests.{key_size_of};
+ghost use Rattle.des_requests.specs.StreamRequests.{key_size_of};
 ghost use Rattle.des_commands.specs.PasswordStreams.{password_fault, salt_bytes};
 ghost use Rattle.des_commands.specs.PasswordStreams.{IsToHaveSalt, ReadsSalt, FailsToReadSalt};
 ghost use Rattle.des_commands.specs.PasswordStreams.{IsDoneByPassword, StopsByPassword, TellsOfKey};
@@ -13,11 +13,11 @@ ghost use Rattle.des_lines.specs.Faults.{FailsOnlyBy};
 
 use crate::outputs::notices::accept_key;
 use crate::streams;
-use des_arguments::command::streams::{Cipher, Password, StreamRequest, job_of};
 use des_io::pieces::fill;
 use des_lines::fault::{FaultKind, FileFault, Misuse};
 use des_passwords::salted::PREFIX;
 use des_passwords::{SaltedError, read_salted};
+use des_requests::streams::{Cipher, Password, StreamRequest, job_of};
 use std::alloc::Global;
 use std::io::{Read, Write};
 
@@ -35,7 +35,7 @@ pub struct PasswordJob<'a> {
     pub name: &'a str,
 }
 
-/// The fault of a password, if it has one: what encrypts is not empty.
+/// Refuses to encrypt under an empty password. The fault is `EmptyPassword`.
 pub fn check_password(encrypts: bool, password: &[u8]) -> Result<(), FaultKind>
     ensures { FailsOnlyBy (password_fault encrypts password.now) result }
 {

@@ -4,8 +4,8 @@ ghost use Rattle.des_commands.specs.Notices.{TellsLimit};
 
 use crate::outputs::notices::{Notice, is_past_limit, tell};
 use crate::outputs::progress::Progress;
-use des_arguments::command::streams::{CipherMode, StreamMode, StreamRequest};
 use des_io::Padding;
+use des_requests::streams::{CipherMode, StreamMode, StreamRequest};
 use std::io::{self, Read, Write};
 
 /// A reader that gives the bytes of another.
@@ -55,8 +55,8 @@ fn progress_of(rt: &HostRuntime, shows_progress: bool, total: Option<u64>) -> Op
 }
 
 impl<'a, R: Read + Drop> ProgressReader<'a, R> {
-    /// A reader of the bytes of `inner`, none of which was counted, for what is asked for. `total` is
-    /// how many there are to read, if that is known.
+    /// A reader of the bytes of `inner`, none of which was counted, for what is asked for. `total`
+    /// is how many there are to read, if that is known.
     pub fn new(
         rt: &'a HostRuntime,
         inner: R,
@@ -74,8 +74,8 @@ impl<'a, R: Read + Drop> ProgressReader<'a, R> {
         }
     }
 
-    /// A reader of the bytes of `inner` that tells of no limit. If `shows_progress` is set, it tells of
-    /// progress; `total` is how many bytes there are to read, if that is known.
+    /// A reader of the bytes of `inner` that tells of no limit. If `shows_progress` is set, it
+    /// tells of progress; `total` is how many bytes there are to read, if that is known.
     pub fn of_progress(
         rt: &'a HostRuntime,
         inner: R,

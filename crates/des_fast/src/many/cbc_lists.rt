@@ -9,7 +9,7 @@ ghost use Rattle.des.specs.Cbc.{CbcDecrypts};
 ghost use Rattle.des_fast.specs.SpreadKeys.{AreSlicesFor};
 
 use super::batches::process_few;
-use super::{LARGEST_BATCH, Slice, process};
+use super::{MAX_BATCH, Slice, process};
 use crate::side_by_side::BlockTransform;
 use crate::slices::PassSlices;
 use des::cbc::{self, ListDecryption};
@@ -68,6 +68,6 @@ pub(super) fn cbc_decrypt<S: Slice>(blocks: &mut [[u8; 8]], iv: &[u8; 8], passes
         → AreSlicesFor S.BATCH S.bit passes.now decryption
         → CbcDecrypts decryption iv.now blocks.old blocks.new }
 {
-    let mut buffer = [[0; 8]; LARGEST_BATCH];
+    let mut buffer = [[0; 8]; MAX_BATCH];
     cbc::decrypt_by(&InBatches { passes }, iv, blocks, &mut buffer[..S::BATCH]);
 }

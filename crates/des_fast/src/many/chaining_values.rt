@@ -1,6 +1,6 @@
-//! Many chains in step, of which only the last block counts, as in MACs. Each step takes the next block
-//! of every list into its chain, and all chains go through the rounds together, as a batch. Lists that
-//! have ended wait in their lanes.
+//! Many chains in step, of which only the last block counts, as in MACs. Each step takes the next
+//! block of every list into its chain, and all chains go through the rounds together, as a batch.
+//! Lists that have ended wait in their lanes.
 
 ghost use Rattle.std.specs.Prelude.{◌≡◌, ◌≤◌, ◌<◌, ◌+◌, ◌^◌, ℕ, List, length};
 ghost use Rattle.des.specs.Cbc.{xor_blocks};
@@ -11,7 +11,7 @@ ghost use Rattle.des_fast.specs.Largest.{IsLargest};
 
 use super::chain_keys::ChainKeys;
 use super::lanes::{LaneKeys, process_filled};
-use super::{LARGEST_BATCH, Slice, xored};
+use super::{MAX_BATCH, Slice, xored};
 use crate::slices::PassSlices;
 
 /// Lists of blocks of 8 bytes, one for each of many chains, of which a call reads block after
@@ -57,7 +57,7 @@ fn longest<L: BlockLists>(lists: &L, from: usize, count: usize) -> usize
 
 // Makes each lane the xor of its chain and block i of its list, if that has one.
 fn add_step<L: BlockLists>(
-    lanes: &mut [[u8; 8]; LARGEST_BATCH],
+    lanes: &mut [[u8; 8]; MAX_BATCH],
     chains: &[[u8; 8]],
     lists: &L,
     from: usize,
@@ -80,7 +80,7 @@ fn add_step<L: BlockLists>(
 // Makes each chain its lane, if its list has a block i.
 fn keep_step<L: BlockLists>(
     chains: &mut [[u8; 8]],
-    lanes: &[[u8; 8]; LARGEST_BATCH],
+    lanes: &[[u8; 8]; MAX_BATCH],
     lists: &L,
     from: usize,
     i: usize,
@@ -116,7 +116,7 @@ fn last_values_of_group<S: Slice, L: BlockLists>(
         (λ k. L.block_of lists.now (from + k)) (λ k. L.count_of lists.now (from + k))
         chains.old chains.new }
 {
-    let mut lanes = [[0; 8]; LARGEST_BATCH];
+    let mut lanes = [[0; 8]; MAX_BATCH];
     'steps: for i in 0..longest(lists, from, chains.len()) {
         add_step(&mut lanes, chains, lists, from, i);
         process_filled(&mut lanes, passes);

@@ -10,7 +10,7 @@ ghost use Rattle.des_fast.specs.ChainingValues.{AreChainingValues, under_key};
 
 use super::chain_keys::ChainKeys;
 use super::lanes::{LaneKeys, PassPart, process_lanes_part};
-use super::{BlockLists, LARGEST_BATCH, Slice, chaining_values};
+use super::{BlockLists, MAX_BATCH, Slice, chaining_values};
 use crate::Des;
 use crate::slices::PassSlices;
 use des::cipher::{KeyedCipher, NotEqualError};
@@ -73,7 +73,7 @@ pub trait KeyForEach: KeyedCipher + Sized {
             return Err(NotEqualError);
         }
         let mut lanes = LaneKeys::zeros();
-        spread_batch::<S, Self>(&[*key; LARGEST_BATCH], &mut lanes);
+        spread_batch::<S, Self>(&[*key; MAX_BATCH], &mut lanes);
         chaining_values::last_values(&lanes, chains, lists);
         Ok(())
     }
@@ -145,7 +145,7 @@ impl<'a, S: Slice, C: KeyForEach> ChainKeys for EachKey<'a, S, C> {
 }
 
 // Makes the lanes' keys for encryption the first of these, a batch of them.
-fn spread_batch<S: Slice, C: KeyForEach>(keys: &[C::Key; LARGEST_BATCH], lanes: &mut LaneKeys<S>)
+fn spread_batch<S: Slice, C: KeyForEach>(keys: &[C::Key; MAX_BATCH], lanes: &mut LaneKeys<S>)
     ensures { InEachBlock S.BATCH (λ b. lane_output (S.bit b)
         (used lanes.new.is_triple lanes.new.passes)
         ≡ under_key C.encryption (map C.Key.bytes_of keys.now) b) }

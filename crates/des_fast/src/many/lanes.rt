@@ -12,7 +12,7 @@ ghost use Rattle.des_fast.specs.RoundKeySlices.{round_keys_in};
 ghost use Rattle.des_fast.specs.SpreadKeys.{used};
 ghost use Rattle.des_fast.specs.EachKey.{round_keys_under, round_keys_of_parts, AreSpreadBelow, lane_output};
 
-use crate::slices::{LARGEST_BATCH, PassSlices, Slice, halves_through_passes, read_blocks};
+use crate::slices::{MAX_BATCH, PassSlices, Slice, halves_through_passes, read_blocks};
 use des::cipher::KeyBytes;
 use des::tdes::key_part;
 
@@ -91,7 +91,7 @@ impl<S: Slice> LaneKeys<S> {
 }
 
 // Makes the first blocks those of a part of each key.
-fn write_parts<K: KeyBytes>(parts: &mut [[u8; 8]; LARGEST_BATCH], keys: &[K], number: usize)
+fn write_parts<K: KeyBytes>(parts: &mut [[u8; 8]; MAX_BATCH], keys: &[K], number: usize)
     requires from_one { 1 ≤ number }
     requires within { 8 * number ≤ K.LEN }
     requires batch { length keys.now ≤ 256 }
@@ -111,7 +111,7 @@ fn spread_part<S: Slice, K: KeyBytes>(pass: &mut PassSlices<S>, keys: &[K], by: 
     ensures { (k : ℕ) → k < length keys.now → round_keys_in (S.bit k) pass.new
         ≡ round_keys_under by.deciphers (part by.number (block_at (map K.bytes_of keys.now) k)) }
 {
-    let mut parts = [[0; 8]; LARGEST_BATCH];
+    let mut parts = [[0; 8]; MAX_BATCH];
     write_parts(&mut parts, keys, by.number);
     pass.spread_each(&parts[..S::BATCH], by.deciphers);
 }
@@ -169,12 +169,9 @@ pub(super) fn process_lanes<S: Slice>(blocks: &mut [[u8; 8]], passes: &[PassSlic
     halves_through_passes(blocks, &mut left, &mut right, passes);
 }
 
-/// A function for the proof alone: takes the first lanes, a batch, through passes. Of an array that is
-/// lent the proof knows the length if it is a parameter.
-pub(super) fn process_filled<S: Slice>(
-    lanes: &mut [[u8; 8]; LARGEST_BATCH],
-    passes: &[PassSlices<S>],
-)
+/// Takes the first lanes, a batch, through passes. A function of its own because a proof knows the
+/// length of a borrowed array only if it is a parameter.
+pub(super) fn process_filled<S: Slice>(lanes: &mut [[u8; 8]; MAX_BATCH], passes: &[PassSlices<S>])
     ensures { (k : ℕ) → k < S.BATCH
         → block_at lanes.new k ≡ lane_output (S.bit k) passes.now (block_at lanes.old k) }
 {
@@ -184,7 +181,7 @@ pub(super) fn process_filled<S: Slice>(
 /// Makes the first blocks of an array what passes make of at most a batch of blocks. They go
 /// through the passes in a batch that is filled up with blocks of the array.
 pub(super) fn write_processed<S: Slice>(
-    answers: &mut [[u8; 8]; LARGEST_BATCH],
+    answers: &mut [[u8; 8]; MAX_BATCH],
     blocks: &[[u8; 8]],
     passes: &[PassSlices<S>],
 )
@@ -206,7 +203,7 @@ pub(super) fn process_lanes_part<S: Slice>(blocks: &mut [[u8; 8]], passes: &[Pas
     if blocks.len() == S::BATCH {
         return process_lanes(blocks, passes);
     }
-    let mut answers = [[0; 8]; LARGEST_BATCH];
+    let mut answers = [[0; 8]; MAX_BATCH];
     write_processed(&mut answers, blocks, passes);
     blocks.copy_from_slice(&answers[..blocks.len()]);
 }

@@ -15,14 +15,14 @@ ghost use Rattle.des_fast.specs.SpreadKeys.{AreSlicesFor};
 ghost use Rattle.des_fast.specs.Transposition.{block_at};
 
 use super::lanes::{process_filled, write_processed};
-use super::{LARGEST_BATCH, Slice, xored};
+use super::{MAX_BATCH, Slice, xored};
 use crate::slices::PassSlices;
 
-/// Whether the records have this number of blocks in all.
-pub(super) fn add_up_to(sizes: &[usize], blocks: usize) -> bool
-    ensures { IsTrue result ↔ (sum sizes.now ≡ blocks) }
+/// Whether the sizes of records add up to a number.
+pub fn add_up_to(sizes: &[usize], total: usize) -> bool
+    ensures { IsTrue result ↔ (sum sizes.now ≡ total) }
 {
-    let mut left = blocks;
+    let mut left = total;
     'records: for k in 0..sizes.len() {
         let size = sizes[k];
         if left < size {
@@ -42,7 +42,8 @@ struct Group {
     start: usize,
 }
 
-// How many steps a group takes, the blocks of its longest record, and if the next one begins.
+// How many steps a group takes, as many as its longest record has blocks, and where the next group
+// begins.
 #[derive(Clone, Copy)]
 struct Extent {
     steps: usize,
@@ -72,7 +73,7 @@ impl Group {
 
 // Makes the lane of each record of a group that has a block i, from 0, that block xor its chain.
 fn fill_lanes(
-    lanes: &mut [[u8; 8]; LARGEST_BATCH],
+    lanes: &mut [[u8; 8]; MAX_BATCH],
     vectors: &[[u8; 8]],
     sizes: &[usize],
     blocks: &[[u8; 8]],
@@ -102,7 +103,7 @@ fn fill_lanes(
 // Makes block i, from 0, of each record of a group that has one what its lane holds, and its chain
 // too. The records that have ended are unchanged.
 fn write_lanes(
-    lanes: &[[u8; 8]; LARGEST_BATCH],
+    lanes: &[[u8; 8]; MAX_BATCH],
     vectors: &mut [[u8; 8]],
     sizes: &[usize],
     blocks: &mut [[u8; 8]],
@@ -130,7 +131,7 @@ fn write_lanes(
     }
 }
 
-// CbcUnder the records of a group in step.
+// Encrypts the records of a group by CBC, in step.
 fn cbc_encrypt_group<S: Slice>(
     vectors: &mut [[u8; 8]],
     sizes: &[usize],
@@ -154,7 +155,7 @@ fn cbc_encrypt_group<S: Slice>(
         → AreChainedBelow encryption sizes.now first p vectors.new blocks.new
         (group.from + group.count) }
 {
-    let mut lanes = [[0; 8]; LARGEST_BATCH];
+    let mut lanes = [[0; 8]; MAX_BATCH];
     'steps: for i in 0..steps {
         fill_lanes(&mut lanes, vectors, sizes, blocks, group, i);
         process_filled(&mut lanes, passes);
@@ -162,8 +163,8 @@ fn cbc_encrypt_group<S: Slice>(
     }
 }
 
-/// CbcUnder each record from the vector at its place, a batch of records at a time, and makes the
-/// vector the one with which the chain goes on.
+/// Encrypts each record by CBC from the vector at its place, a batch of records at a time, and
+/// makes the vector the one with which the chain goes on.
 pub(super) fn cbc_encrypt<S: Slice>(
     vectors: &mut [[u8; 8]],
     sizes: &[usize],
@@ -235,7 +236,7 @@ fn take_out(
     sizes: &[usize],
     blocks: &mut [[u8; 8]],
     span: Span,
-    answers: &[[u8; 8]; LARGEST_BATCH],
+    answers: &[[u8; 8]; MAX_BATCH],
 ) -> Record
     requires few { span.count ≤ 256 }
     requires within { span.from + span.count ≤ length blocks.old }
@@ -288,14 +289,14 @@ fn cbc_decrypt_part<S: Slice>(
         → AreCbcDecryptedBelow decryption sizes.now first q vectors.new blocks.new
         (span.from + span.count) }
 {
-    let mut answers = [[0; 8]; LARGEST_BATCH];
+    let mut answers = [[0; 8]; MAX_BATCH];
     let part = &blocks[span.from..span.from + span.count];
     write_processed(&mut answers, part, passes);
     take_out(vectors, sizes, blocks, span, &answers)
 }
 
-/// Takes each record out of the chain that begins with the vector at its place, a batch of blocks at
-/// a time, and makes the vector the one with which the chain goes on.
+/// Takes each record out of the chain that begins with the vector at its place, a batch of blocks
+/// at a time, and makes the vector the one with which the chain goes on.
 pub(super) fn cbc_decrypt<S: Slice>(
     vectors: &mut [[u8; 8]],
     sizes: &[usize],

@@ -66,13 +66,13 @@ impl<S: Slice> SpreadKeys<S> {
         cbc_lists::cbc_decrypt::<S>(blocks, iv, self.decryption.passes());
     }
 
-    /// Encrypts records in place by CBC, in step: one record after another stands in `blocks`, of as
-    /// many blocks of 8 bytes as `sizes` says, and `vectors[k]` is the initialization vector of
-    /// record k, as `des::cbc::encrypt` does record by record. Each vector becomes the one with which
-    /// its chain goes on, the last ciphertext block of its record. A record may be empty. A group of
-    /// as many records as a batch has blocks takes as many batches as its longest record has blocks.
-    /// If vectors and sizes differ in number, or the sizes do not sum up to the number of blocks,
-    /// the answer is `NotEqualError`, and vectors and blocks are unchanged.
+    /// Encrypts records in place by CBC, in step: one record after another stands in `blocks`, of
+    /// as many blocks of 8 bytes as `sizes` says, and `vectors[k]` is the initialization vector of
+    /// record k, as `des::cbc::encrypt` does record by record. Each vector becomes the one with
+    /// which its chain goes on, the last ciphertext block of its record. A record may be empty. A
+    /// group of as many records as a batch has blocks takes as many batches as its longest record
+    /// has blocks. If vectors and sizes differ in number, or the sizes do not sum up to the number
+    /// of blocks, the answer is `NotEqualError`, and vectors and blocks are unchanged.
     pub fn encrypt_cbc_records(
         &self,
         vectors: &mut [[u8; 8]],

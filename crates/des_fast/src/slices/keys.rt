@@ -49,10 +49,10 @@ const HALVES: [usize; 56] = [
     125, 117, 84, 96, 24, 88, 94,
 ];
 
-// Where permuted choice 1 finds the bits of a key after the initial permutation, whose rows of eight have
-// those of its own table: C, C again, and D, twice.
+// Where permuted choice 1 finds the bits of a key after the initial permutation, whose rows of
+// eight have those of its own table: C, C again, and D, twice.
 #[rattlefmt::skip]
-const CHOSEN: [usize; 112] = [
+const PERMUTED_CHOICE_1: [usize; 112] = [
     33, 34, 35, 36, 37, 38, 39,
     40, 1, 2, 3, 4, 5, 6,
     7, 8, 41, 42, 43, 44, 45,
@@ -140,7 +140,7 @@ impl<S: Slice> PassSlices<S> {
             → bits_of_halves (S.bit b) left.now right.now ≡ bits_of_bytes key
             → round_keys_in (S.bit b) self.new ≡ round_keys_under deciphers key) }
     {
-        write_selection(&mut self.halves, left, right, &CHOSEN);
+        write_selection(&mut self.halves, left, right, &PERMUTED_CHOICE_1);
         self.deciphers = deciphers;
     }
 

@@ -15,7 +15,7 @@ use super::keys::KeyHalves;
 // Permuted choice 2, in the rows of the standard's table, from 0: a position of D, from 29 on, is
 // 27 places on, since C stands before it twice.
 #[rattlefmt::skip]
-const PLACES: [usize; 48] = [
+const PERMUTED_CHOICE_2: [usize; 48] = [
     13, 16, 10, 23, 0, 4,
     2, 27, 14, 5, 20, 9,
     22, 18, 11, 3, 25, 7,
@@ -39,7 +39,9 @@ fn group<S: Slice>(half: &[S; 32], key: &KeyHalves<S>, rotation: usize, number: 
     // A row of E begins one bit before its own four, and goes on in a circle.
     let mut group = [S::same(false); 6];
     for i in 0..6 {
-        group[i] = half[(4 * number + i + 31) % 32].xor(key[rotation + PLACES[6 * number + i]]);
+        group[i] = half[(4 * number + i + 31) % 32].xor(
+            key[rotation + PERMUTED_CHOICE_2[6 * number + i]],
+        );
     }
     group
 }

@@ -1,5 +1,5 @@
-//! Blocks as rows of bits, and as slices: the first row has the first blocks of a batch, one in each
-//! word, the next row the next ones.
+//! Blocks as rows of bits, and as slices: the first row has the first blocks of a batch, one in
+//! each word, the next row the next ones.
 
 ghost use Rattle.std.specs.Prelude.{◌≡◌, ◌<◌, ◌≢◌, ◌/◌, ◌%◌, ℕ, length};
 ghost use Rattle.std.specs.Int.{to_le_bytes, w64};
@@ -12,9 +12,9 @@ use super::transposition::{
     Half, every_eighth, exchange_bytes, transpose_bits, write_every_eighth,
 };
 
-/// A function for the proof alone: the word of a block, whose first byte is the least significant. In
-/// a vector the bytes then stand as in memory. Of an element of a list of blocks the proof knows
-/// nothing but that it is one.
+/// The word of a block, whose first byte is the least significant: the bytes of a vector are then
+/// in memory order. A function of its own because a proof knows of an element of a list of blocks
+/// only that it is a block.
 #[inline(always)]
 pub(super) fn little_endian_word(block: &[u8; 8]) -> u64
     ensures { to_le_bytes w64 result ≡ block.now }
@@ -22,7 +22,7 @@ pub(super) fn little_endian_word(block: &[u8; 8]) -> u64
     u64::from_le_bytes(*block)
 }
 
-/// A function for the proof alone: the block of a word, whose first byte is the least significant.
+/// The block of a word, whose first byte is the least significant.
 #[inline(always)]
 pub(super) fn little_endian_block(word: u64) -> [u8; 8]
     ensures { result ≡ block_of_bits (bits_of_bytes (to_le_bytes w64 word)) }
@@ -78,7 +78,8 @@ pub(crate) fn read_blocks<S: Slice>(left: &mut Half<S>, right: &mut Half<S>, blo
     transpose_bits(left, right);
 }
 
-/// Writes the batch of blocks that two halves make under the final permutation. The halves are used up.
+/// Writes the batch of blocks that two halves make under the final permutation. The halves are used
+/// up.
 pub(crate) fn write_blocks<S: Slice>(
     blocks: &mut [[u8; 8]],
     left: &mut Half<S>,

@@ -1,8 +1,9 @@
 //! The transposition of bits: from blocks to slices, and back.
 //!
-//! Each word of the vectors holds a square of 64 rows of 64 bits, and all are transposed at once, in two
-//! steps: the bytes, across every eighth row, and the bits of each byte. Each step takes eight rows from
-//! their places in two half blocks, where the initial permutation IP puts them, and leaves eight there.
+//! Each word of the vectors holds a square of 64 rows of 64 bits, and all are transposed at once,
+//! in two steps: the bytes, across every eighth row, and the bits of each byte. Each step takes
+//! eight rows from their places in two half blocks, where the initial permutation IP puts them, and
+//! leaves eight there.
 
 ghost use Rattle.std.specs.Prelude.{◌≡◌, ◌<◌, ◌≢◌, ◌*◌, ◌+◌, ◌/◌, ◌%◌, ℕ, false, IsTrue, map, slice_index_or, slice_set};
 ghost use Rattle.des_fast.specs.Slices.{InEachBlock};
@@ -53,8 +54,8 @@ fn join_pairs<S: Slice>(rows: [S; 8]) -> [S; 8]
     [a, b, c, d, e, f, g, h]
 }
 
-/// Transposes the eight bytes of each word of eight rows. Three steps give each 16 bytes the bytes of
-/// eight rows at one place of each of two words, and the last one divides these words.
+/// Transposes the eight bytes of each word of eight rows. Three steps give each 16 bytes the bytes
+/// of eight rows at one place of each of two words, and the last one divides these words.
 #[inline(always)]
 pub(super) fn exchange_bytes<S: Slice>(rows: [S; 8]) -> [S; 8]
     ensures { AreBytesExchanged S.BATCH S.place_bit rows result }
@@ -72,8 +73,9 @@ fn exchange_bits<S: Slice>(rows: [S; 8]) -> [S; 8]
     exchange_pairs(rows, 1, 0x5555555555555555)
 }
 
-// The row of a bit of a byte, both from 0. Eight rows side by side in a half are those of one bit of each
-// byte, from the last byte to the first; the left half has the second bit, the fourth, and so on.
+// The row of a bit of a byte, both from 0. Eight rows side by side in a half are those of one bit
+// of each byte, from the last byte to the first; the left half has the second bit, the fourth, and
+// so on.
 #[inline(always)]
 fn row<S: Slice>(left: &Half<S>, right: &Half<S>, byte: usize, bit: usize) -> S
     requires of_eight { byte < 8 }

@@ -9,8 +9,8 @@ use super::Slice;
 use super::rows::{little_endian_block, little_endian_word};
 use std::simd::prelude::*;
 
-// Positions of the bytes of two vectors of 16 bytes, those of the second counted on from 16: by turns a
-// byte of each, in each 16 those of the first halves, and those of the second halves.
+// Positions of the bytes of two vectors of 16 bytes, those of the second counted on from 16: by
+// turns a byte of each, in each 16 those of the first halves, and those of the second halves.
 #[rattlefmt::skip]
 const FIRST_BYTES_OF_16: [usize; 16] = [
     0, 16, 1, 17, 2, 18, 3, 19, 4, 20, 5, 21, 6, 22, 7, 23,
@@ -32,8 +32,8 @@ const SECOND_WORDS_OF_16: [usize; 16] = [
     8, 9, 10, 11, 12, 13, 14, 15, 24, 25, 26, 27, 28, 29, 30, 31,
 ];
 
-// Positions of the bytes of two vectors of 32 bytes, those of the second counted on from 32: by turns a
-// byte of each, in each 16 those of the first halves, and those of the second halves.
+// Positions of the bytes of two vectors of 32 bytes, those of the second counted on from 32: by
+// turns a byte of each, in each 16 those of the first halves, and those of the second halves.
 #[rattlefmt::skip]
 const FIRST_BYTES_OF_32: [usize; 32] = [
     0, 32, 1, 33, 2, 34, 3, 35, 4, 36, 5, 37, 6, 38, 7, 39,

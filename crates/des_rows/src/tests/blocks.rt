@@ -5,8 +5,8 @@ use des::cipher::{BlockCipher, BlockCipherDecrypt, BlockCipherEncrypt, KeyedCiph
 
 type List = [[u8; 8]; 3];
 
-// Whether the first block of a list becomes that of the ciphertext by encryption, and itself again by
-// decryption, in place and from block to block.
+// Whether the first block of a list becomes that of the ciphertext by encryption, and itself again
+// by decryption, in place and from block to block.
 fn block_goes_there_and_back<C: BlockCipher>(cipher: &C, list: &List, ciphertext: &List) -> bool {
     let (mut there, mut back, mut place) = ([0xa5; 8], [0xa5; 8], list[0]);
     cipher.encrypt_block_b2b(&list[0], &mut there);

@@ -1,5 +1,5 @@
-//! Lists there and back, also by CBC, by the generic callers, over each cipher and over two that hide
-//! nothing.
+//! Lists there and back, also by CBC, by the generic callers, over each cipher and over two that
+//! hide nothing.
 
 ghost use Rattle.std.specs.Prelude.{◌≤◌};
 

@@ -25,7 +25,8 @@ const CMS_WRAPPED: [[u8; 8]; 5] = [
     *b"\x76\x8c\x63\x27\x75\xa4\x67\xd4",
 ];
 
-// Keys of one and of four blocks, wrapped by OpenSSL 3.0.19 (`EVP_des_ede3_wrap`) under the same key.
+// Keys of one and of four blocks, wrapped by OpenSSL 3.0.19 (`EVP_des_ede3_wrap`) under the same
+// key.
 const ONE_BLOCK: [[u8; 8]; 1] = [*b"\x00\x11\x22\x33\x44\x55\x66\x77"];
 
 const ONE_BLOCK_WRAPPED: [[u8; 8]; 3] = [

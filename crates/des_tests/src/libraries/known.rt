@@ -52,8 +52,8 @@ pub struct Known {
     pub decrypted_by_cbc: &'static str,
 }
 
-// OpenSSL's: three runs of `openssl enc -provider legacy -provider default -des-ecb -nopad -K PART`,
-// with `-d` for decryption, and for CBC the xor with the block before.
+// OpenSSL's: three runs of `openssl enc -provider legacy -provider default -des-ecb -nopad -K
+// PART`, with `-d` for decryption, and for CBC the xor with the block before.
 pub const EEE3: Known = Known {
     encrypted: "c1ac664eef5bf5d7 540a46eb589c5a60 f525c2d8d718726d 05c0f33d46e56b7c",
     decrypted: "a4f8fbb1984eef53 b7a5aa4a6ee2c111 83ee7f923c8d8889 084a4e1a4bd305dc",

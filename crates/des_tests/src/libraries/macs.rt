@@ -1,5 +1,5 @@
-//! The MACs through the bound that they share, over `Des` of `des`. The tests for C, Python and Rust
-//! take those over `des_fast` through many more messages.
+//! The MACs through the bound that they share, over `Des` of `des`. The tests for C, Python and
+//! Rust take those over `des_fast` through many more messages.
 
 use des::Des;
 use des_mac::{CbcMac, Cmac, Mac, Method1, Method2, RetailMac};
@@ -36,8 +36,8 @@ fn tag_of_pieces<M: Mac + Drop>(key: &[u8], head: &[u8], tail: &[u8]) -> Option<
     Some(state.finalize())
 }
 
-// Whether the message has the tag in two pieces, cut at every place, and the one of no bytes has its
-// own.
+// Whether the message has the tag in two pieces, cut at every place, and the one of no bytes has
+// its own.
 fn has_tag<M: Mac + Drop>(key: &[u8], tag: [u8; 8], of_none: [u8; 8]) -> bool {
     for cut in 0..23usize {
         let (head, tail) = MESSAGE.split_at(cut);

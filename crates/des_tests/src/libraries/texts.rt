@@ -1,5 +1,5 @@
-//! What ciphers, PINs and keys show of themselves if the writer refuses: what `Debug` has written by
-//! then, no contract says.
+//! What ciphers, PINs and keys show of themselves if the writer refuses: what `Debug` has written
+//! by then, no contract says.
 
 ghost use Rattle.std.specs.Prelude.{◌≤◌};
 

@@ -11,9 +11,7 @@ ghost use Rattle.des_tool.specs.Fault.{key_fault, tested_key_fault, vector_fault
 ghost use Rattle.des_tool.specs.Answer.{ReadIn, IsTextOf, IsVerdict, AnswersRequest, IsAnswer};
 ghost use Rattle.des_tool.specs.Ciphers.{in_direction, IsMadeBy};
 
-use super::digits::{
-    LONGEST_KEY, parse_blocks, parse_cipher_key, parse_key, parse_vector, text_of,
-};
+use super::digits::{MAX_KEY, parse_blocks, parse_cipher_key, parse_key, parse_vector, text_of};
 use super::fault::Fault;
 use super::request::{CbcCipher, Cipher, Command, Direction, parse};
 use des::cipher::{BlockCipher, KeyedCipher};
@@ -86,7 +84,7 @@ fn text_by<C: KeyedCipher + Drop>(
     key: &str,
     digits: &str,
 ) -> Result<Vec<u8>, Fault>
-    requires { C.KEY_SIZE ≤ LONGEST_KEY }
+    requires { C.KEY_SIZE ≤ MAX_KEY }
     ensures fault { FailsBy
         (option_or (key_fault C.KEY_SIZE key.now) (blocks_fault digits.now)) result }
     ensures answer { IfOk result (λ text. IsTextOf (AnswersEach
@@ -126,7 +124,7 @@ fn cbc_text_by<C: KeyedCipher + Drop>(
     vector: &str,
     digits: &str,
 ) -> Result<Vec<u8>, Fault>
-    requires { C.KEY_SIZE ≤ LONGEST_KEY }
+    requires { C.KEY_SIZE ≤ MAX_KEY }
     ensures fault { FailsBy (option_or (key_fault C.KEY_SIZE key.now)
         (option_or (vector_fault vector.now) (blocks_fault digits.now))) result }
     ensures answer { IfOk result (λ text. IsTextOf (ReadIn direction
@@ -152,7 +150,7 @@ fn weak_text(alloc: Global, digits: &str) -> Result<Vec<u8>, Fault>
         48 => 24,
         _ => return Err(Fault::KeyLength),
     };
-    let mut buffer = [0u8; LONGEST_KEY];
+    let mut buffer = [0u8; MAX_KEY];
     let key = &mut buffer[..size];
     parse_key(digits, key)?;
     let text = match weak_key_test(key) {

@@ -12,16 +12,16 @@ use des::cipher::KeyInit;
 use std::alloc::Global;
 
 // The bytes of the longest key that a cipher has.
-pub(super) const LONGEST_KEY: usize = 24;
+pub(super) const MAX_KEY: usize = 24;
 
 // The cipher of the key that the digits write.
 pub(super) fn parse_cipher_key<C: KeyInit + Drop>(digits: &str) -> Result<C, Fault>
-    requires { C.KEY_SIZE ≤ LONGEST_KEY }
+    requires { C.KEY_SIZE ≤ MAX_KEY }
     ensures fault { FailsOnlyBy (key_fault C.KEY_SIZE digits.now) result }
     ensures key { OnOk result (IsKey C.KEY_SIZE (bytes_of_digits digits.now)) }
     ensures made { IfOk result (λ cipher. C.is_made_from cipher (bytes_of_digits digits.now)) }
 {
-    let mut buffer = [0u8; LONGEST_KEY];
+    let mut buffer = [0u8; MAX_KEY];
     let key = &mut buffer[..C::KEY_SIZE];
     parse_key(digits, key)?;
     Ok(C::new_from_slice(key).unwrap())
@@ -29,7 +29,7 @@ pub(super) fn parse_cipher_key<C: KeyInit + Drop>(digits: &str) -> Result<C, Fau
 
 // Reads the key that the digits write, of the length of `key`.
 pub(super) fn parse_key(digits: &str, key: &mut [u8]) -> Result<(), Fault>
-    requires { length key.old ≤ LONGEST_KEY }
+    requires { length key.old ≤ MAX_KEY }
     ensures fault { FailsOnlyBy (key_fault (length key.old) digits.now) result }
     ensures key { OnOk result (key.new ≡ bytes_of_digits digits.now) }
     ensures is_key { OnOk result (IsKey (length key.old) (bytes_of_digits digits.now)) }

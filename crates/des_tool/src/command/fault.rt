@@ -13,13 +13,13 @@ use std::fmt;
 pub enum Fault {
     /// The arguments do not have a shape that is known.
     Usage,
-    /// The key argument has another number of bytes than a key has digits: two for each byte of the
-    /// cipher's key, or 16, 32 or 48 if a key is tested.
+    /// The key argument does not have two bytes for each byte of the cipher's key, or, if a key is
+    /// tested, 16, 32 or 48 bytes.
     KeyLength,
     /// The key argument holds something that is not a hexadecimal digit.
     KeyText,
-    /// The vector argument is not 16 bytes long, as many as a block has digits, or the length of
-    /// the blocks argument is no multiple of 16.
+    /// The vector argument does not have 16 bytes, or the length of the blocks argument is not a
+    /// multiple of 16 bytes.
     BlockLength,
     /// The vector argument or the blocks argument holds something that is not a hexadecimal digit.
     BlockText,

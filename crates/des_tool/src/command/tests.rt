@@ -4,8 +4,8 @@
 use super::{Fault, answer, show};
 use std::io::{self, Error, ErrorKind, Write};
 
-// A writer that takes one byte a write, each after one that is interrupted, and fails once it has no
-// more space: so does its flush.
+// A writer that takes one byte a write, each after one that is interrupted, and fails once it has
+// no more space: so does its flush.
 #[derive(Drop)]
 struct Page {
     bytes: [u8; 64],
@@ -58,7 +58,8 @@ impl Write for Page {
 // More bytes than are ever written.
 const ENOUGH: usize = 64;
 
-// Whether two writers of these capacities take these bytes of an answer or a fault, with this status.
+// Whether two writers of these capacities take these bytes of an answer or a fault, with this
+// status.
 fn shows(
     answer: &Result<Vec<u8>, Fault>,
     (out_capacity, out_bytes): (usize, &[u8]),
@@ -90,9 +91,10 @@ fn is_fault(answer: &Result<Vec<u8>, Fault>, line: &[u8], status: u8) -> bool {
 }
 
 // From J. Orlin Grabbe, "The DES Algorithm Illustrated", also under a key of equal parts and from a
-// vector of zeros; NIST Special Publication 800-67, appendix B; NBS Special Publication 500-20, under
-// keys whose first passes undo each other; FIPS 81, appendix C. The keys of the last three are the
-// first of FIPS 74, section 3.6, one of its parity twins, and one whose halves repeat every four bits.
+// vector of zeros; NIST Special Publication 800-67, appendix B; NBS Special Publication 500-20,
+// under keys whose first passes undo each other; FIPS 81, appendix C. The keys of the last three
+// are the first of FIPS 74, section 3.6, one of its parity twins, and one whose halves repeat every
+// four bits.
 const ANSWERS: [(&[&str], &str); 15] = [
     (
         &["des", "encrypt", "133457799BBCDFF1", "0123456789ABCDEF"],

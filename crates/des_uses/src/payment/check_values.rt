@@ -18,7 +18,8 @@ pub fn check_value_of_ede3(key: &[u8; 24]) -> [u8; 3]
     check_value::<TdesEde3>(key).unwrap()
 }
 
-/// Both check values of a key of any of the lengths: the shorter is the first two bytes of the other.
+/// Both check values of a key of any of the lengths: the shorter is the first two bytes of the
+/// other.
 pub fn both_values(key: &[u8]) -> Result<([u8; 3], [u8; 2]), InvalidLength>
     ensures accepted { IsOk result ↔ IsTrue (is_key key.now) }
     ensures values { IfOk result (λ values. values.1 ≡ take 2 values.0) }

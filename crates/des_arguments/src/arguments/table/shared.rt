@@ -136,7 +136,7 @@ const ACCOUNT: &[Argument<'static>] = arguments! {
         "The account number, 8 to 19 digits, the last its check digit; of pvv and cvv 12 at least";
     "account-file": Text("FILE") => "Read the account number from a file, or - for standard input";
     "check-digit": Word("CHOICE", &["warn", "refuse"]) =>
-        "What to do where the last digit is not the check digit [default: warn]";
+        "What to do if the last digit is not the check digit [default: warn]";
 };
 
 const FORMAT: &[Argument<'static>] = arguments! {

@@ -3,7 +3,7 @@ use Rattle.std.proofs.KnownBytes.{Consumes-nil, Consumes-trans}
 use Rattle.std.specs.Io.KnownBytes.{Consumes, IsAtEnd}
 use Rattle.std.specs.List.{concat}
 use Rattle.des_commands.specs.declared.lines.columns.LineColumn.{LineColumn}
-use Rattle.des_arguments.specs.declared.command.lines.LineCoding.{LineCoding}
+use Rattle.des_requests.specs.declared.lines.LineCoding.{LineCoding}
 use Rattle.des_commands.specs.LineColumns.{AddsLine, IsColumnOf}
 use Rattle.des_commands.specs.LineKinds.{ReadsLines}
 use Rattle.des_commands.proofs.LineEnds.{on_err}

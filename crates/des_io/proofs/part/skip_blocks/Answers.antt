@@ -32,7 +32,7 @@ loop-preserved g c =
     ∙ joined_chunks _ (omega (arith, size, c.if-n-count.false, c.in_ok-n.ensures.within)) in
     record {
       count = search rules;
-      so_far = Skips-more _ _ c.loop.invariant.so_far c.in_ok-n.ensures.read whole c.pass.ensures.blocks
-          c.pass.ensures.after total;
+      so_far = Skips-more _ _ c.loop.invariant.so_far c.in_ok-n.ensures.read whole c.skip.ensures.blocks
+          c.skip.ensures.after total;
       within = omega (arith, c.loop.invariant.within);
     }

@@ -16,9 +16,9 @@ loop-at-init c = record {
   left = λ read are. record { others = read; are = are; all = omega arith };
 }
 
-pub returns-then-count-eq-MOST_BLOCKS-clause-only :
-    goal.returns-then-count-eq-MOST_BLOCKS-clause-only
-returns-then-count-eq-MOST_BLOCKS-clause-only c = λ read few are.
+pub returns-then-count-eq-MAX_BLOCKS-clause-only :
+    goal.returns-then-count-eq-MAX_BLOCKS-clause-only
+returns-then-count-eq-MAX_BLOCKS-clause-only c = λ read few are.
     let left = c.loop-at.invariant.left read are in
     let some = left-some read c.loop-at.count c.loop-at.at c.args.text.now c.loop-at-test.true left in
     absurd (some (omega (arith, left.all)))

@@ -2,7 +2,7 @@ use Rattle.std.proofs.Common.{◌≡◌, ◌≢◌, ℕ, List, [], append-nil, r
 use Rattle.std.proofs.lemmas.Result.{IfOk-weaker}
 use Rattle.std.specs.Str.{IsTrimAscii}
 use Rattle.des_commands.specs.declared.lines.line_fault.LineFault.{LineFault}
-use Rattle.des_arguments.specs.declared.command.lines.LineCoding.{LineCoding}
+use Rattle.des_requests.specs.declared.lines.LineCoding.{LineCoding}
 use Rattle.des_commands.specs.declared.lines.line_kind.LineKind.{LineKind}
 use Rattle.des_commands.specs.LineKinds.{bytes_in, Adds, AddsValue, StandsForValue}
 use Rattle.des_commands.proofs.lines.line_kind.add_value.Goals as goal

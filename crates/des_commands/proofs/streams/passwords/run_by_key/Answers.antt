@@ -4,10 +4,10 @@ use Rattle.des_passwords.specs.Derivations.{derived}
 use Rattle.des_lines.specs.declared.fault.FaultKind.{FaultKind}
 use Rattle.des_commands.specs.declared.outputs.notices.Notice.{Notice}
 use Rattle.des_commands.specs.declared.streams.passwords.PasswordJob.{PasswordJob}
-use Rattle.des_arguments.specs.declared.command.streams.Job.{Job}
+use Rattle.des_requests.specs.declared.streams.Job.{Job}
 use Rattle.des_commands.specs.Notices.{IsRuledBy}
 use Rattle.des_commands.specs.PasswordStreams.{salt_bytes, IsStreamOf, TellsOfKey}
-use Rattle.des_arguments.specs.StreamRequests.{key_size_of, IsJobOf}
+use Rattle.des_requests.specs.StreamRequests.{key_size_of, IsJobOf}
 use Rattle.des_commands.proofs.streams.passwords.run_by_key.Goals as goal
 
 stream-of : (job : PasswordJob) (salt : Option (List ℕ)) (stream : Job) (size : ℕ)

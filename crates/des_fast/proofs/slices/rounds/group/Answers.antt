@@ -4,7 +4,7 @@ use Rattle.std.proofs.lemmas.Nat.{mul-le}
 use Rattle.des.specs.Bits.{xor}
 use Rattle.des.specs.Tables.{permuted_choice_2}
 use Rattle.des.specs.Laws.Selections.{length-select}
-use Rattle.des_fast.specs.declared.slices.rounds.TheConstants.{PLACES}
+use Rattle.des_fast.specs.declared.slices.rounds.TheConstants.{PERMUTED_CHOICE_2}
 use Rattle.des_fast.specs.RoundKeySlices.{round_key_of}
 use Rattle.des_fast.proofs.RotatedHalves.{get_or-round_key_of, place_within}
 use Rattle.des_fast.proofs.CipherFunctionByGroups.{group-xor_bits}
@@ -18,7 +18,7 @@ overflow_add-rotation g c =
 
 pub offset_bounds-key-rotation : goal.offset_bounds-key-rotation
 offset_bounds-key-rotation g c =
-    let place : ℕ = c.args.rotation + get_or PLACES (6 * c.args.number + c.loop-i.i) 0 in
+    let place : ℕ = c.args.rotation + get_or PERMUTED_CHOICE_2 (6 * c.args.number + c.loop-i.i) 0 in
     let within : place < 112 =
     place_within c.args.rotation (6 * c.args.number + c.loop-i.i) 112 c.requires.around
     (omega (arith, c.requires.numbered)) refl in
@@ -47,7 +47,7 @@ loop-i-preserved g c = (
       let read = g.S.Slice.bit b in
       let in_bits : c.loop-i.i < length (map read c.loop-i.group) = rw (length-map c.loop-i.group read) inside in
       let in_half : (4 * c.args.number + c.loop-i.i + 31) % 32 < length c.args.half.now = omega arith in
-      let in_key : c.args.rotation + get_or PLACES (6 * c.args.number + c.loop-i.i) 0 < length c.args.key.now =
+      let in_key : c.args.rotation + get_or PERMUTED_CHOICE_2 (6 * c.args.number + c.loop-i.i) 0 < length c.args.key.now =
       place_within c.args.rotation (6 * c.args.number + c.loop-i.i) (length c.args.key.now) c.requires.around
       (omega arith) c.told-key in
       ap (λ (bits : List Bool). get_or bits c.loop-i.i false) (map-set read c.loop-i.group c.loop-i.i c.xor.result)

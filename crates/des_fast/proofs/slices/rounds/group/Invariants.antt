@@ -1,7 +1,7 @@
 use Rattle.std.proofs.Common.{◌≡◌, ℕ, ◌+◌, ◌*◌, ◌%◌, ◌<◌, false, map, get_or, length}
 use Rattle.des.specs.Bits.{xor}
 use Rattle.des_fast.specs.Slices.{InEachBlock}
-use Rattle.des_fast.specs.declared.slices.rounds.TheConstants.{PLACES}
+use Rattle.des_fast.specs.declared.slices.rounds.TheConstants.{PERMUTED_CHOICE_2}
 use Rattle.des_fast.proofs.slices.rounds.group.Given as goal
 
 abbrev pub invariant-loop-i : goal.invariant-loop-i
@@ -10,4 +10,4 @@ invariant-loop-i g l =
     × ((k : ℕ) → k < l.i
     → InEachBlock g.S.Slice.BATCH (λ b. get_or (map (g.S.Slice.bit b) l.group) k false ≡ xor
     (get_or (map (g.S.Slice.bit b) l.half) ((4 * l.number + k + 31) % 32) false)
-    (get_or (map (g.S.Slice.bit b) l.key) (l.rotation + get_or PLACES (6 * l.number + k) 0) false)))
+    (get_or (map (g.S.Slice.bit b) l.key) (l.rotation + get_or PERMUTED_CHOICE_2 (6 * l.number + k) 0) false)))

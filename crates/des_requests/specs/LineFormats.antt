@@ -1,12 +1,12 @@
 -- What wrote the values of lines: which secrets that takes, and how the values stand in their lines.
 use Rattle.std.specs.Prelude.{Bool, true, false}
 use Rattle.des_lines.specs.declared.source.Source.{Source}
-use Rattle.des_arguments.specs.declared.command.lines.ValueFormat.{ValueFormat}
-use Rattle.des_arguments.specs.declared.command.lines.ValueFormat.TheVariants.{Jasypt}
-use Rattle.des_arguments.specs.declared.command.lines.LineSecret.{LineSecret}
-use Rattle.des_arguments.specs.declared.command.lines.LineSecret.TheVariants.{Password, Key}
-use Rattle.des_arguments.specs.declared.command.lines.LineCoding.{LineCoding}
-use Rattle.des_arguments.specs.declared.command.lines.LineCoding.TheVariants.{Hexadecimal, Base64, Bytes}
+use Rattle.des_requests.specs.declared.lines.ValueFormat.{ValueFormat}
+use Rattle.des_requests.specs.declared.lines.ValueFormat.TheVariants.{Jasypt}
+use Rattle.des_requests.specs.declared.lines.LineSecret.{LineSecret}
+use Rattle.des_requests.specs.declared.lines.LineSecret.TheVariants.{Password, Key}
+use Rattle.des_requests.specs.declared.lines.LineCoding.{LineCoding}
+use Rattle.des_requests.specs.declared.lines.LineCoding.TheVariants.{Hexadecimal, Base64, Bytes}
 
 -- where the secret is
 abbrev pub source_of : LineSecret → Source

@@ -2,8 +2,8 @@
 
 ghost use Rattle.std.specs.Prelude.{◌≡◌};
 ghost use Rattle.des_lines.specs.Keys.{IsKeySize};
-ghost use Rattle.des_arguments.specs.StreamRequests.{key_size_of, blocks_before as blocks_before_of, source_of, begin_of as begin_by, heading_of as heading_by, vectors_of as vectors_by, IsJobOf};
-ghost use Rattle.des_arguments.specs.StreamRequests.{takes_vector as takes_vector_by, is_stream as is_stream_by, takes_part as takes_part_by};
+ghost use Rattle.des_requests.specs.StreamRequests.{key_size_of, blocks_before as blocks_before_of, source_of, begin_of as begin_by, heading_of as heading_by, vectors_of as vectors_by, IsJobOf};
+ghost use Rattle.des_requests.specs.StreamRequests.{takes_vector as takes_vector_by, is_stream as is_stream_by, takes_part as takes_part_by};
 
 use des_io::{BlockMode, Padding};
 use des_lines::source::Source;
@@ -241,9 +241,9 @@ fn begin_of(asked: Option<Vector>, vector: [u8; 8]) -> BlockMode
     }
 }
 
-/// What is done for a request by a key: with a vector that is random, or of a password, if one is
-/// asked for; with a heading before what is encrypted; and after the blocks of what is decrypted that
-/// are read and passed over.
+/// The job of a request by a key. `vector` is the vector if the request asks for a random one or
+/// for that of a password; `heading` is written before the ciphertext; and of an input to decrypt
+/// `skipped` blocks are read and dropped first.
 pub fn job_of<'a>(
     request: &StreamRequest,
     key: &'a [u8],

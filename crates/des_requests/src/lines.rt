@@ -1,7 +1,7 @@
 //! What a command line asks of values in lines.
 
 ghost use Rattle.std.specs.Prelude.{◌≡◌};
-ghost use Rattle.des_arguments.specs.LineFormats.{source_of};
+ghost use Rattle.des_requests.specs.LineFormats.{source_of};
 
 use super::streams::Output;
 use des_columns::pbe::Algorithm;

@@ -1,12 +1,9 @@
-//! What is asked of the program.
+//! Commands, and the requests that are neither of streams nor of lines.
 
-pub mod lines;
-pub mod streams;
-
-use des_lines::requests::CalculationRequest;
+use crate::lines::LinesRequest;
+use crate::streams::{Output, StreamRequest};
+use des_lines::requests::{Account, Calculation, CalculationRequest};
 use des_lines::source::Source;
-use lines::LinesRequest;
-use streams::{Output, StreamRequest};
 
 /// What a command line asks for.
 #[derive(Clone, Copy)]
@@ -83,4 +80,16 @@ pub enum Question<'a> {
     Print(u8),
     /// Whether these are the digits of its first bytes.
     Verify(&'a str),
+}
+
+/// The request of a calculation by its input alone.
+pub fn by_input<'a>(calculation: Calculation<'a>, input: Source<'a>) -> CalculationRequest<'a> {
+    CalculationRequest {
+        calculation,
+        input,
+        key: None,
+        to_key: None,
+        account: Account::Absent,
+        refuses_wrong_check_digit: false,
+    }
 }

@@ -4,20 +4,20 @@ use Rattle.std.specs.Prelude.{◌≡◌, ℕ, ◌+◌, ◌-◌, ◌^◌, min, Bo
 use Rattle.des_io.specs.declared.mode.BlockMode.{BlockMode}
 use Rattle.des_io.specs.declared.mode.BlockMode.TheVariants.{Ecb, Cbc}
 use Rattle.des_lines.specs.declared.source.Source.{Source}
-use Rattle.des_arguments.specs.declared.command.streams.Cipher.{Cipher}
-use Rattle.des_arguments.specs.declared.command.streams.Cipher.TheVariants.{Des, TdesEde2, TdesEde3}
-use Rattle.des_arguments.specs.declared.command.streams.CipherMode.{CipherMode}
-use Rattle.des_arguments.specs.declared.command.streams.CipherMode.TheVariants.{Ecb as InEcb, Stream}
-use Rattle.des_arguments.specs.declared.command.streams.StreamMode.TheVariants.{Ofb}
-use Rattle.des_arguments.specs.declared.command.streams.Vector.{Vector}
-use Rattle.des_arguments.specs.declared.command.streams.Vector.TheVariants.{Bytes, Random, FirstBlock}
-use Rattle.des_arguments.specs.declared.command.streams.BlockRange.{BlockRange}
-use Rattle.des_arguments.specs.declared.command.streams.Secret.{Secret}
-use Rattle.des_arguments.specs.declared.command.streams.Secret.TheVariants.{Key, Password}
-use Rattle.des_arguments.specs.declared.command.streams.StreamRequest.{StreamRequest}
-use Rattle.des_arguments.specs.declared.command.streams.Job.{Job}
-use Rattle.des_arguments.specs.declared.command.streams.Work.{Work}
-use Rattle.des_arguments.specs.declared.command.streams.Work.TheVariants.{Encrypt, Decrypt}
+use Rattle.des_requests.specs.declared.streams.Cipher.{Cipher}
+use Rattle.des_requests.specs.declared.streams.Cipher.TheVariants.{Des, TdesEde2, TdesEde3}
+use Rattle.des_requests.specs.declared.streams.CipherMode.{CipherMode}
+use Rattle.des_requests.specs.declared.streams.CipherMode.TheVariants.{Ecb as InEcb, Stream}
+use Rattle.des_requests.specs.declared.streams.StreamMode.TheVariants.{Ofb}
+use Rattle.des_requests.specs.declared.streams.Vector.{Vector}
+use Rattle.des_requests.specs.declared.streams.Vector.TheVariants.{Bytes, Random, FirstBlock}
+use Rattle.des_requests.specs.declared.streams.BlockRange.{BlockRange}
+use Rattle.des_requests.specs.declared.streams.Secret.{Secret}
+use Rattle.des_requests.specs.declared.streams.Secret.TheVariants.{Key, Password}
+use Rattle.des_requests.specs.declared.streams.StreamRequest.{StreamRequest}
+use Rattle.des_requests.specs.declared.streams.Job.{Job}
+use Rattle.des_requests.specs.declared.streams.Work.{Work}
+use Rattle.des_requests.specs.declared.streams.Work.TheVariants.{Encrypt, Decrypt}
 
 -- where the key or the password is
 abbrev pub source_of : Secret → Source
