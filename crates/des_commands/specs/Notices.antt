@@ -21,7 +21,7 @@ use Rattle.des_lines.specs.Written.{AppendsPrefix}
 abbrev pub notice_line : Notice → List ℕ → List ℕ
 notice_line Hexadecimal about =
     line_with (codes "Hexadecimal") about
-    (codes "the input is hexadecimal digits, and was taken as it is: --hex decodes it")
+    (codes "the input is hexadecimal digits, which --hex decodes")
 notice_line Base64 about =
     line_with (codes "Base64") about
     (codes "the input is a text in Base64, and was taken as it is: --base64 decodes it")

@@ -135,6 +135,8 @@ pub enum FaultKind {
     /// The environment has no such variable, or it is no text.
     Variable,
     InputLength,
+    /// There are several lines where one is needed.
+    InputLines,
     /// A key does not have the digits of this number of bytes, or of 8, 16 or 24.
     KeyLength(Option<u8>),
     KeyText,
@@ -278,6 +280,7 @@ impl FaultKind {
             FaultKind::Usage(_) => "Usage",
             FaultKind::Variable => "Variable",
             FaultKind::InputLength => "InputLength",
+            FaultKind::InputLines => "InputLines",
             FaultKind::KeyLength(_) | FaultKind::ToKeyLength => "KeyLength",
             FaultKind::KeyText | FaultKind::ToKeyText => "KeyText",
             FaultKind::WeakKey => "WeakKey",

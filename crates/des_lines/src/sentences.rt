@@ -50,6 +50,7 @@ fn sentence_of(kind: FaultKind) -> &'static str {
         FaultKind::Variable =>
             "no such environment variable is exported, or its value is not valid UTF-8",
         FaultKind::InputLength => "the input is too long",
+        FaultKind::InputLines => "there are several lines, and one value is needed",
         FaultKind::KeyLength(size) => key_words(size),
         FaultKind::ToKeyLength => key_words(None),
         FaultKind::KeyText | FaultKind::ToKeyText => {
@@ -65,21 +66,24 @@ fn sentence_of(kind: FaultKind) -> &'static str {
         FaultKind::Tag => "8, 10, 12, 14 or 16 hexadecimal digits are needed",
         FaultKind::Value => "4 digits are needed",
         FaultKind::Offset => "4 to 12 digits are needed",
-        FaultKind::Counter | FaultKind::ResponseCode => "4 hexadecimal digits are needed",
+        FaultKind::Counter => "4 hexadecimal digits are needed",
+        FaultKind::ResponseCode =>
+            "4 hexadecimal digits are needed, two for each character: 3030 for the code 00",
         FaultKind::CardStatus => "8 hexadecimal digits are needed",
         FaultKind::IssuerData => "at most 16 hexadecimal digits are needed, two for each byte",
         FaultKind::CryptogramData => "hexadecimal digits are needed, two for each byte",
         FaultKind::BlockLength => "a block of 16 hexadecimal digits is needed",
         FaultKind::BlockText => "the block has a character that is not a hexadecimal digit",
         FaultKind::SerialLength =>
-            "a key serial number has 20 hexadecimal digits: put FFFF before one of 16",
+            "20 hexadecimal digits are needed, without blanks or 0x: put FFFF before a key serial number of 16",
         FaultKind::SerialText =>
             "the key serial number has a character that is not a hexadecimal digit",
         FaultKind::SerialCounter =>
             "the key serial number's counter is 0, or has more than ten one bits",
         FaultKind::FillLength => "ten digits are needed",
         FaultKind::FillText => "a character is not a hexadecimal digit",
-        FaultKind::CheckDigit => "the account number's last digit is not its check digit",
+        FaultKind::CheckDigit =>
+            "the account number's last digit is not its check digit, which the 12 digits of an HSM command lack",
         FaultKind::Pin(error) => pin_words(error),
         FaultKind::Cvv(error) => cvv_words(error),
         FaultKind::Translation(error) => translation_words(error),
@@ -172,7 +176,7 @@ fn misuse_words(misuse: Misuse) -> &'static str {
             "decryption needs --derive: md5 (OpenSSL before 1.1.0), sha256 (since then), pbkdf2-sha256:COUNT (-pbkdf2; COUNT is 10000 without -iter), sha1 or pbkdf2-sha1:COUNT",
         Misuse::DerivationToEncrypt => "encryption takes pbkdf2-sha256:COUNT alone",
         Misuse::Count => "more than 10000000 iterations need --any-count",
-        Misuse::NoText => "an argument is not valid UTF-8",
+        Misuse::NoText => "an argument is not valid UTF-8: give such a file as <FILE",
         Misuse::Codings => "give one of --base64 and --hex",
     }
 }
@@ -187,7 +191,8 @@ fn file_words(fault: FileFault) -> &'static str {
         FileFault::NotSalted => "the input does not begin with Salted__ (see --no-salt)",
         FileFault::SaltCut => "the input ends within the salt",
         FileFault::Base64 => "it is not Base64",
-        FileFault::HexText => "a character is not a hexadecimal digit",
+        FileFault::HexText =>
+            "a character is not a hexadecimal digit, or is white space inside a byte",
         FileFault::HexLength => "the number of hexadecimal digits is odd",
         FileFault::Begin =>
             "no line begins an encrypted private key (BEGIN PRIVATE KEY is not encrypted)",
@@ -214,22 +219,26 @@ fn file_words(fault: FileFault) -> &'static str {
 // What is said of a wrong number of digits: a key of `size` bytes is needed, or one of 8, 16 or 24.
 fn key_words(size: Option<u8>) -> &'static str {
     match size {
-        Some(8) => "a key of 16 hexadecimal digits is needed",
-        Some(16) => "a key of 32 hexadecimal digits is needed",
-        Some(24) => "a key of 48 hexadecimal digits is needed",
-        _ => "a key of 16, 32 or 48 hexadecimal digits is needed",
+        Some(8) => "a key of 16 hexadecimal digits is needed, and nothing else",
+        Some(16) => "a key of 32 hexadecimal digits is needed, and nothing else",
+        Some(24) => "a key of 48 hexadecimal digits is needed, and nothing else",
+        _ => "a key of 16, 32 or 48 hexadecimal digits is needed, and nothing else",
     }
 }
+
+// A block decodes to such digits mostly under another account number.
+const WRONG_FILL: &str =
+    "the fill digits are not those of the format (of format 3 a to f), as under another account number";
 
 // What is said of a PIN, an account number or a PIN block.
 fn pin_words(error: PinError) -> &'static str {
     match error {
-        PinError::Format => "the block is of another format",
+        PinError::Format => "the block is of another format, or still encrypted",
         PinError::PinLength => "a PIN has 4 to 12 digits",
         PinError::PinDigit => "the PIN has a character that is not a digit",
         PinError::AccountLength => "an account number of 8 to 19 digits is needed",
         PinError::AccountDigit => "the account number has a character that is not a digit",
-        PinError::Fill => "the fill digits of format 3 are a to f",
+        PinError::Fill => WRONG_FILL,
     }
 }
 
@@ -253,7 +262,7 @@ fn translation_words(error: TranslationError) -> &'static str {
         TranslationError::Formats => "there is no such translation",
         TranslationError::AccountLength => "an account number of 8 to 19 digits is needed",
         TranslationError::AccountDigit => "the account number has a character that is not a digit",
-        TranslationError::Fill => "the fill digits of format 3 are a to f",
+        TranslationError::Fill => WRONG_FILL,
         TranslationError::Block => "decrypted, the block is not a PIN block of its format",
     }
 }
@@ -291,7 +300,7 @@ fn key_block_words(error: KeyBlockError) -> &'static str {
     match error {
         KeyBlockError::ProtectionKeyLength => "a key of 32 or 48 hexadecimal digits is needed",
         KeyBlockError::Length =>
-            "the block is not as long as its header says, or has more than 9999 characters",
+            "the block is not as long as its header says, or has more than 9999 characters: leave out line ends and what an HSM puts before it",
         KeyBlockError::Version => {
             "the block's version is not A, B or C: leave out what an HSM puts before it; D needs AES"
         }

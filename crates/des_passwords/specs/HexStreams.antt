@@ -1,6 +1,7 @@
--- Hexadecimal digits of either case, with white space between, as a stream gives them, a character after another: the bytes
--- that they write, and the line of the first character that is not a digit.
-use Rattle.std.specs.Prelude.{ℕ, ◌+◌, ◌*◌, ◌%◌, ◌-◌, ◌^◌, min, ◌==◌, ◌&&◌, ◌||◌, Bool, false, not, if◌then◌else◌, List, filter, length, Option, Some, None, is_some, option_map, option_and_then, Result, Ok, Err}
+-- Hexadecimal digits of either case, with white space between bytes, as a stream gives them, a character after another: the
+-- bytes that they write, and the line of the first character that is not a digit, or stands apart from the first digit of
+-- its byte.
+use Rattle.std.specs.Prelude.{ℕ, ◌+◌, ◌*◌, ◌%◌, ◌-◌, ◌^◌, min, ◌==◌, ◌&&◌, ◌||◌, Bool, true, false, not, if◌then◌else◌, List, [], ◌∷◌, filter, length, Option, Some, None, is_some, option_map, option_and_then, Result, Ok, Err}
 use Rattle.std.specs.Result.{result_ok}
 use Rattle.base64.specs.Read.{Outlook}
 use Rattle.hex.specs.Hex.{decode_of, hex_digit_value}
@@ -33,11 +34,17 @@ after_digit position (Some value) = record position { first = first_after positi
 abbrev pub line_after : (line space : ℕ) → ℕ
 line_after line space = if space == 10 then min (line + 1) (2 ^ 64 - 1) else line
 
--- where a text is after a character more: nothing is read after one that is not a digit
+-- where a text is after white space, which may stand apart the digits of a byte
+abbrev pub after_space : Position → ℕ → Position
+after_space position space =
+    record position { line = line_after position.line space; is_apart = is_some position.first }
+
+-- where a text is after a character more: nothing is read after a fault
 unfoldable pub after : Position → ℕ → Position
 after position character =
     if is_some position.fault then position
-    else if is_space character then record position { line = line_after position.line character }
+    else if is_space character then after_space position character
+    else if position.is_apart then after_digit position None
     else after_digit position (hex_digit_value character)
 
 -- the byte of two digits, whose values are below 16
@@ -48,7 +55,7 @@ byte_of_digits _ _ = None
 -- the byte that a character ends, if it ends one
 unfoldable pub byte_of : Position → ℕ → Option ℕ
 byte_of position character =
-    if is_some position.fault then None else byte_of_digits (hex_digit_value character) position.first
+    if is_some position.fault || position.is_apart then None else byte_of_digits (hex_digit_value character) position.first
 
 -- all that was read are digits, and each byte has two
 abbrev pub is_whole : Position → Bool
@@ -64,9 +71,15 @@ abbrev pub bytes_from : Position → List ℕ → Option (List ℕ)
 bytes_from position text =
     if is_whole (after_all after position text) then Some (given_by after byte_of position text) else None
 
--- the bytes that the digits of a whole text write, if it has no other characters but white space
+-- white space stands between bytes, and not after the first digit of one
+unfoldable pub are_apart : (is_inside : Bool) → (text : List ℕ) → Bool
+are_apart is_inside [] = true
+are_apart is_inside (character ∷ text) =
+    if is_space character then not is_inside && are_apart is_inside text else are_apart (not is_inside) text
+
+-- the bytes that the digits of a whole text write, if it has no other characters but white space between bytes
 abbrev pub bytes_of : List ℕ → Option (List ℕ)
-bytes_of text = result_ok (decode_of (written_in text))
+bytes_of text = if are_apart false text then result_ok (decode_of (written_in text)) else None
 
 -- why what was read is no text of digits: the first line that has others is told before a digit that is alone
 abbrev pub fault_at : (fault first : Option ℕ) → Option HexFault

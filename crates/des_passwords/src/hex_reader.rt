@@ -14,7 +14,8 @@ use std::io::{self, ErrorKind, Read};
 /// Why a text is not read as hexadecimal digits.
 #[derive(Clone, Copy)]
 pub enum HexFault {
-    /// The line of this number, counted from 1, has a character that is not a digit.
+    /// The line of this number, counted from 1, has a character that is not a digit, or has the
+    /// second digit of a byte apart from the first.
     Line(u64),
     /// The last digit has no second one.
     Odd,
@@ -27,7 +28,10 @@ struct Position {
     line: u64,
     // The value of a digit that is the first of its byte.
     first: Option<u8>,
-    // The line of the first character that is not a digit.
+    // White space follows that digit.
+    is_apart: bool,
+    // The line of the first character that is not a digit, or stands apart from the first digit of
+    // its byte.
     fault: Option<u64>,
 }
 
@@ -35,6 +39,7 @@ struct Position {
 const BEGINNING: Position = Position {
     line: 1,
     first: None,
+    is_apart: false,
     fault: None,
 };
 
@@ -116,18 +121,21 @@ impl Decoding for Position {
     #[tactic(auto, unfolding(crate::specs::HexStreams::byte_of))]
     fn given(self, byte: u8) -> Option<u8> {
         match (self.fault, self.first, value_of(byte)) {
-            (None, Some(first), Some(second)) => Some(first % 16 * 16 + second % 16),
+            (None, Some(first), Some(second)) if !self.is_apart => {
+                Some(first % 16 * 16 + second % 16)
+            }
             _ => None,
         }
     }
 
-    // Nothing is read after a character that is not a digit.
+    // Nothing is read after a fault.
     #[tactic(auto, unfolding(crate::specs::HexStreams::after))]
     fn after(self, byte: u8) -> Position {
         if self.fault.is_some() {
             self
         } else if is_space(byte) {
             Position {
+                is_apart: self.first.is_some(),
                 line: if byte == b'\n' {
                     self.line.saturating_add(1)
                 } else {
@@ -135,6 +143,8 @@ impl Decoding for Position {
                 },
                 ..self
             }
+        } else if self.is_apart {
+            self.after_digit(None)
         } else {
             self.after_digit(value_of(byte))
         }
@@ -146,8 +156,9 @@ impl Decoding for Position {
 }
 
 /// A reader of the bytes whose hexadecimal digits another reader gives, of either case, with white
-/// space between, in little memory. What is none is an error of the kind `InvalidData`, and then
-/// `fault` tells why.
+/// space between bytes, in little memory. What is none is an error of the kind `InvalidData`, and
+/// then `fault` tells why. White space inside a byte is refused, since columns of other digits, as
+/// the offsets that `od` writes, would else pass for data.
 #[derive(Drop)]
 pub struct HexReader<R> {
     inner: R,

@@ -8,6 +8,7 @@ use clap::ArgMatches;
 use des_key_blocks::key_block_header::Version;
 use des_lines::fault::{Fault, Misuse};
 use des_lines::requests::{Calculation, CalculationRequest, KeyBlockCalculation, Wrapping};
+use des_requests::command::by_input;
 
 // The request with the key that protects blocks.
 fn protected<'a>(request: CalculationRequest<'a>, matches: &ArgMatches<'a>) -> Requested<'a> {

@@ -16,6 +16,7 @@ use des_columns::pgcrypto::Scheme;
 use des_lines::fault::{Fault, Misuse};
 use des_passwords::encrypted_keys::MAX_ITERATIONS;
 use des_requests::lines::{LineCoding, LineSecret, LinesRequest, ValueFormat};
+use des_requests::sources::{file_of, input_of};
 
 // What Jasypt takes unless it is told otherwise.
 const ALGORITHM: &str = "PBEWithMD5AndDES";

@@ -10,6 +10,7 @@ use des_lines::requests::{
     Calculation, CalculationRequest, CardKeyOption, EmvCalculation, NaturalPins, PinCalculation,
 };
 use des_payment::translation::Format;
+use des_requests::command::by_input;
 
 // The format of a place, of which the grammar takes the names alone.
 fn format_of(matches: &ArgMatches, name: &str) -> Format {

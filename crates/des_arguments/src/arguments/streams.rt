@@ -14,11 +14,12 @@ ghost use Rattle.des_arguments.specs.StreamArguments.{IsRequest, FailsAsRequest}
 use super::argument_values::{is_set, number_of, place_of, text_of};
 use super::misuse::misuse;
 use super::passwords::secret_of;
-use super::sources::{input_of, output_of, read_once};
+use super::sources::{output_of, read_once};
 use clap::ArgMatches;
 use des_io::Padding;
 use des_lines::digits::bytes_of;
 use des_lines::fault::{Fault, FaultKind, Misuse};
+use des_requests::sources::input_of;
 use des_requests::streams::{
     BlockRange, Cipher, CipherMode, Coding, Secret, StreamMode, StreamRequest, Vector, WeakKeys,
 };

@@ -191,7 +191,7 @@ static MACS: CommandGroup<'static> = group! {
             "Print this number of the tag's first bytes; what --verify has must be as long [default: 8]";
         "verify": Text("TAG") =>
             "Print right if these are the tag's first 4 to 8 bytes; otherwise print wrong, and end with 1";
-        "hex": Nothing => "The message is hexadecimal digits, of either case, with white space between";
+        "hex": Nothing => "The message is hexadecimal digits, of either case, with white space between bytes";
     }, Key] "Example:
   echo 0123456789abcdeffedcba9876543210 >KEY
   printf 'a message' | cukvashe mac cmac --key-file KEY";

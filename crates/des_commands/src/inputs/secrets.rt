@@ -3,17 +3,17 @@
 ghost use Rattle.std.specs.Prelude.{◌≤◌, length, IfOk, IfSome};
 ghost use Rattle.des_lines.specs.Keys.{IsKeySize};
 
-use super::sources::{MAX_TEXT, bytes_of, text_of};
+use super::sources::{MAX_TEXT, bytes_of, line_of};
 use des_lines::fault::Fault;
 use des_lines::keys::key_of_digits;
 use des_lines::source::Source;
 use des_passwords::text_lines::cut;
 
-/// The text of a source, without its white space.
-pub fn text_in<'a>(rt: &HostRuntime, source: Source<'a>) -> Result<Vec<u8>, Fault<'a>>
+/// The text of a source that has one line, without its white space.
+pub fn line_in<'a>(rt: &HostRuntime, source: Source<'a>) -> Result<Vec<u8>, Fault<'a>>
     ensures { IfOk result (λ text. length text.items ≤ MAX_TEXT) }
 {
-    text_of(rt, source).map_err(|kind| Fault::about(kind, source.name()))
+    line_of(rt, source).map_err(|kind| Fault::about(kind, source.name()))
 }
 
 /// The key in a source, of `size` bytes, or of 8, 16 or 24.
@@ -25,7 +25,7 @@ pub fn key_in<'a>(
     requires { IfSome size IsKeySize }
     ensures { IfOk result (λ key. IsKeySize (length key.items)) }
 {
-    let text = text_in(rt, source)?;
+    let text = line_in(rt, source)?;
     let name = source.name();
     key_of_digits(rt.alloc(), text.as_slice(), size).map_err(|kind| Fault::about(kind, name))
 }

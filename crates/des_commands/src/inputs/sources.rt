@@ -74,8 +74,27 @@ pub fn bytes_of(rt: &HostRuntime, source: Source, longest: usize) -> Result<Vec<
     }
 }
 
-/// The text of a source, without its white space, of `MAX_TEXT` bytes at most. The faults are
+// Whether a text has several lines, line ends at its own ends apart.
+fn has_lines(text: &[u8]) -> bool {
+    text.trim_ascii().iter().any(|byte| *byte == b'\n')
+}
+
+/// The text of a source that has one line, without its white space, of `MAX_TEXT` bytes at most. The
+/// fault is `InputLines` if there are several lines, which would else become one value, or one of
 /// those of `bytes_of`.
+pub fn line_of(rt: &HostRuntime, source: Source) -> Result<Vec<u8>, FaultKind>
+    ensures { IfOk result (λ text. length text.items ≤ MAX_TEXT) }
+{
+    let mut text = bytes_of(rt, source, MAX_TEXT)?;
+    if has_lines(text.as_slice()) {
+        return Err(FaultKind::InputLines);
+    }
+    strip(&mut text);
+    Ok(text)
+}
+
+/// The text of a source, of any number of lines, without its white space, of `MAX_TEXT` bytes at
+/// most. The faults are those of `bytes_of`.
 pub fn text_of(rt: &HostRuntime, source: Source) -> Result<Vec<u8>, FaultKind>
     ensures { IfOk result (λ text. length text.items ≤ MAX_TEXT) }
 {

@@ -42,7 +42,7 @@ fn words_of(notice: Notice) -> (&'static str, &'static str)
     match notice {
         Notice::Hexadecimal => (
             "Hexadecimal",
-            "the input is hexadecimal digits, and was taken as it is: --hex decodes it",
+            "the input is hexadecimal digits, which --hex decodes",
         ),
         Notice::Base64 => (
             "Base64",

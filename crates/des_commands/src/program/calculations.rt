@@ -3,14 +3,14 @@
 ghost use Rattle.std.specs.Prelude.{◌≤◌, length, IfOk};
 
 use crate::inputs::files::{RANDOM_SOURCE, system_random};
-use crate::inputs::secrets::{key_in, text_in};
-use crate::inputs::sources::{MAX_TEXT, bytes_of, text_of};
+use crate::inputs::secrets::{key_in, line_in};
+use crate::inputs::sources::{MAX_TEXT, bytes_of, line_of, text_of};
 use des_lines::calculations;
 use des_lines::fault::{Fault, FaultKind};
 use des_lines::names::{input_name, key_name, to_key_name};
 use des_lines::requests::{
-    Account, Calculation, CalculationRequest, Inputs, KeyBlockCalculation, MAX_INPUT,
-    MAX_RANDOM_BYTES, Wrapping,
+    Account, Calculation, CalculationRequest, EmvCalculation, Inputs, KeyBlockCalculation,
+    MAX_INPUT, MAX_RANDOM_BYTES, Wrapping,
 };
 use des_lines::sentences::English;
 use des_lines::source::Source;
@@ -28,7 +28,7 @@ fn key_text_in<'a>(
     name: &'a str,
 ) -> Result<Vec<u8>, Fault<'a>> {
     match source {
-        Some(source) => text_of(rt, source).map_err(|kind| Fault::about(kind, name)),
+        Some(source) => line_of(rt, source).map_err(|kind| Fault::about(kind, name)),
         None => Ok(Vec::new(rt.alloc())),
     }
 }
@@ -38,18 +38,22 @@ fn account_in<'a>(rt: &HostRuntime, account: Account<'a>) -> Result<Vec<u8>, Fau
     match account {
         Account::Absent => Ok(Vec::new(rt.alloc())),
         Account::Digits(digits) => Ok(Vec::from_slice(rt.alloc(), digits.as_bytes())?),
-        Account::In(source) => text_in(rt, source),
+        Account::In(source) => line_in(rt, source),
     }
 }
 
-// The input: digits, or a key block, of which white space inside may be a part.
+// The input: one value in a line, components or data in any number of lines, or a key block, of which
+// white space inside may be a part.
 fn input_in<'a>(rt: &HostRuntime, request: &CalculationRequest<'a>) -> Result<Vec<u8>, Fault<'a>>
     ensures { IfOk result (λ input. length input.items ≤ MAX_INPUT) }
 {
     let input = match request.calculation {
         Calculation::KeyBlock(KeyBlockCalculation::Header | KeyBlockCalculation::Unwrap { .. }) =>
             bytes_of(rt, request.input, MAX_INPUT),
-        _ => text_of(rt, request.input),
+        Calculation::Combine { .. } | Calculation::Emv(EmvCalculation::Cryptogram) => {
+            text_of(rt, request.input)
+        }
+        _ => line_of(rt, request.input),
     };
     input.map_err(|kind| Fault::about(kind, input_name(request)))
 }

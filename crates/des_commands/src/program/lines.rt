@@ -6,7 +6,7 @@ ghost use Rattle.des_commands.specs.LineJobs.{opening_of, vector_digits as vecto
 ghost use Rattle.des_commands.specs.LineRuns.{streams_of, FailsToRun, IsRun, StopsAfter};
 
 use crate::inputs::files::{self, RANDOM_SOURCE};
-use crate::inputs::secrets::{password_in, text_in};
+use crate::inputs::secrets::{line_in, password_in};
 use crate::inputs::sources::bytes_of;
 use crate::lines::openers::{JasyptPassword, KeyString, PgcryptoKey};
 use crate::lines::{self, FIRST_FAULT, LinesJob};
@@ -222,7 +222,7 @@ fn secret_in<'a>(rt: &HostRuntime, request: &LinesRequest<'a>) -> Result<Vec<u8>
             |kind| Fault::about(kind, source.name()),
         ),
         (LineSecret::Key(source), _) => {
-            let digits = text_in(rt, source)?;
+            let digits = line_in(rt, source)?;
             let name = source.name();
             bytes_of_digits(rt.alloc(), digits.as_slice()).map_err(|kind| Fault::about(kind, name))
         }

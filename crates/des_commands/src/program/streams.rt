@@ -247,10 +247,16 @@ fn run_encoded<R: Read + Drop>(
     task: StreamTask,
     reader: R,
 ) -> Result<u8, FaultKind> {
-    let mut reader = Base64Reader::new(reader, &STANDARD);
+    let input = task.request.input.name();
+    let mut text = HexTextReader::new(reader);
+    let mut reader = Base64Reader::new(&mut text, &STANDARD);
     let outcome = run_from_start(rt, task, &mut reader, None);
-    match reader.line_of_fault() {
-        Some(line) => tell_line(rt, FileFault::Base64, task.request.input.name(), line),
+    let fault = reader.line_of_fault();
+    if text.is_hexadecimal() {
+        let _ = notices::tell(Notice::Hexadecimal, input, &mut rt.stderr());
+    }
+    match fault {
+        Some(line) => tell_line(rt, FileFault::Base64, input, line),
         None => outcome.map(|()| 0),
     }
 }

@@ -168,7 +168,7 @@ const BLOCK_FILE: &[Argument<'static>] = arguments! {
 
 const HEX: &[Argument<'static>] = arguments! {
     "hex": Nothing =>
-        "Input and output are hexadecimal digits: of the input in either case, with white space between";
+        "Input and output are hexadecimal digits: of the input in either case, with white space between bytes";
 };
 
 /// The arguments, in the help's order.
