@@ -15,9 +15,6 @@ from ._types import ReadableBuffer, Text, WriteableBuffer
 
 BLOCK_SIZE = 8
 
-_Data = TypeVar("_Data")
-
-
 # Bytes, and words whose most significant byte comes first, as a memoryview names them.
 _IN_ORDER = re.compile("[@=<>!]?[Bbc]|[>!][HhIiLlQq]")
 
@@ -30,25 +27,35 @@ def in_order(view: memoryview) -> memoryview:
     return view
 
 
-def _no_text(data: _Data) -> _Data:
-    """What is no text, for which Python's own error would name a memoryview that nobody wrote."""
-    if isinstance(data, str):
-        raise TypeError("bytes are needed and not a text: encode makes them of a text, and bytes.fromhex of hexadecimal digits")
-    return data
+# What an error says that a call needs, and how it is made of a text.
+_Needed = Tuple[str, str]
+BYTES = "bytes are needed", "encode makes them of a text, and bytes.fromhex of hexadecimal digits"
+A_KEY = "a key is bytes", "bytes.fromhex makes it of hexadecimal digits"
+_DIGITS = "digits are needed as str or bytes", ""
 
 
-def bytes_of(data: ReadableBuffer) -> bytes:
+def view_of(data: ReadableBuffer, needed: _Needed = BYTES) -> memoryview:
+    """A view of an object, which `with` lets go. Python's own error for what has no bytes would name a memoryview that nobody
+    wrote."""
+    try:
+        return memoryview(data)
+    except TypeError:
+        told = f" and not a text: {needed[1]}" if isinstance(data, str) else f", not {type(data).__name__}"
+        raise TypeError(needed[0] + told) from None
+
+
+def bytes_of(data: ReadableBuffer, needed: _Needed = BYTES) -> bytes:
     """The bytes of an object that has some. They are taken once, and what is given is not asked again, since another thread
     may change it meanwhile, and a class of the caller's may say another length."""
     if type(data) is bytes:
         return data
-    with memoryview(_no_text(data)) as view:
+    with view_of(data, needed) as view:
         return in_order(view).tobytes()
 
 
-def copy_of(data: ReadableBuffer) -> bytearray:
+def copy_of(data: ReadableBuffer, needed: _Needed = BYTES) -> bytearray:
     """A copy of the bytes, taken once, which can be wiped."""
-    with memoryview(_no_text(data)) as view:
+    with view_of(data, needed) as view:
         return bytearray(in_order(view))
 
 
@@ -62,13 +69,6 @@ def _wiping(copied: bytearray) -> Iterator[Any]:
         wipe(secret, len(secret))
 
 
-def no_text(key: _Data) -> _Data:
-    """A key, or keys, that are no text: most texts in their place are the hexadecimal digits of a key."""
-    if isinstance(key, str):
-        raise TypeError("a key is bytes and not a text: bytes.fromhex makes it of hexadecimal digits")
-    return key
-
-
 def hint_of(key: Any, *sizes: int) -> str:
     """What an error says more of bytes that are the hexadecimal digits of a key of one of the sizes."""
     is_digits = len(key) in [2 * size for size in sizes] and all(byte in b"0123456789ABCDEFabcdef" for byte in key)
@@ -78,7 +78,7 @@ def hint_of(key: Any, *sizes: int) -> str:
 @contextlib.contextmanager
 def key_of(key: ReadableBuffer, *sizes: int) -> Iterator[Any]:
     """A copy of a key for one call, wiped after it. KeyLengthError if its length is none of the sizes."""
-    with _wiping(copy_of(no_text(key))) as copied:
+    with _wiping(copy_of(key, A_KEY)) as copied:
         if len(copied) not in sizes:
             listed = " or ".join(map(str, sizes))
             raise KeyLengthError(f"a key has {listed} bytes, not {len(copied)}{hint_of(copied, *sizes)}")
@@ -86,15 +86,15 @@ def key_of(key: ReadableBuffer, *sizes: int) -> Iterator[Any]:
 
 
 @contextlib.contextmanager
-def secret_of(secret: ReadableBuffer) -> Iterator[Tuple[Any, int]]:
+def secret_of(secret: ReadableBuffer, needed: _Needed = BYTES) -> Iterator[Tuple[Any, int]]:
     """A copy of secret bytes of any length for one call, and their length, wiped after it."""
-    with _wiping(copy_of(secret)) as copied:
+    with _wiping(copy_of(secret, needed)) as copied:
         yield copied, len(copied)
 
 
 def vector_of(iv: ReadableBuffer, what: str = "an initialization vector") -> Any:
     """A copy of an initialization vector, which a call may change."""
-    taken = bytes_of(iv)
+    taken = bytes_of(iv, (f"{what} is bytes", BYTES[1]))
     if len(taken) != BLOCK_SIZE:
         raise VectorLengthError(f"{what} has {BLOCK_SIZE} bytes, not {len(taken)}")
     return (ctypes.c_uint8 * BLOCK_SIZE).from_buffer_copy(taken)
@@ -133,7 +133,7 @@ def number_of(number: int, least: int, most: int) -> int:
 def text_of(digits: Text) -> Iterator[Tuple[Any, int]]:
     """A copy of a text, of str or of bytes, and its length, wiped after a call. A character beyond ASCII becomes one that is no
     digit either."""
-    with _wiping(bytearray(digits, "ascii", "replace") if isinstance(digits, str) else copy_of(digits)) as copied:
+    with _wiping(bytearray(digits, "ascii", "replace") if isinstance(digits, str) else copy_of(digits, _DIGITS)) as copied:
         yield copied, len(copied)
 
 
@@ -196,7 +196,7 @@ def lent(data: ReadableBuffer) -> Iterator[Tuple[Any, int]]:
     """Where the bytes of an object begin, and how many there are. Where they do not lie in one piece they are copied, and
     the copy is wiped after the call. Until the call ends nobody can change their number; if the bytes themselves change
     meanwhile, the answer is to some of both."""
-    with memoryview(_no_text(data)) as view:
+    with view_of(data) as view:
         if view.c_contiguous:
             buffer = _Buffer()
             _take_buffer(view, ctypes.byref(buffer), 0)
@@ -235,7 +235,7 @@ def pointer_to(data: WriteableBuffer) -> Any:
 @contextlib.contextmanager
 def writable(data: WriteableBuffer) -> Iterator[Tuple[Any, int]]:
     """Where data begin that a call changes in place, null if there are none, and how many bytes they have."""
-    with memoryview(data) as view:
+    with view_of(data) as view:
         if not is_writable(in_order(view)):
             raise TypeError("a call in place needs writable data in one piece, such as a bytearray")
         yield pointer_to(view) if view.nbytes else None, view.nbytes

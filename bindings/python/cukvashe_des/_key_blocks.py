@@ -8,7 +8,7 @@ from dataclasses import dataclass
 from typing import Any, List, Mapping, Optional, Tuple
 
 from ._calls import KeyBlockParts, SIZE
-from ._data import buffer_of, bytes_from, bytes_of, hint_of, no_text, place_of, secret_of
+from ._data import A_KEY, buffer_of, bytes_from, bytes_of, hint_of, place_of, secret_of
 from ._keys import KEY_SIZES
 from ._faults import KeyBlockDigitError, KeyBlockFieldError, KeyBlockLengthError, KeyBlockVersionError, OptionalBlockError, check
 from ._library import function
@@ -82,7 +82,7 @@ def _block_of(block: Text) -> bytes:
         if not text.isascii():
             raise KeyBlockDigitError("a key block has ASCII characters alone")
         return text.encode("ascii")
-    return bytes_of(block)
+    return bytes_of(block, ("a key block is str or bytes", ""))
 
 
 def _optional_bytes(pair: Tuple[str, str]) -> bytes:
@@ -118,7 +118,7 @@ def unwrap_key_block(protection: ReadableBuffer, block: Text) -> Tuple[KeyBlockH
     KeyBlockFieldError, OptionalBlockError, KeyDataLengthError, KeyBlockDigitError, KeyLengthError; KeyBlockMacError if the block was
     changed, or is under another key."""
     text, fields, key, length = _block_of(block), buffer_of(_FIELDS_SIZE), buffer_of(_KEY_SIZE), SIZE()
-    with secret_of(no_text(protection)) as kbpk:
+    with secret_of(protection, A_KEY) as kbpk:
         _checked(_unwrap(*kbpk, text, len(text), fields, key, ctypes.byref(length)), kbpk[0])
     return _header_from(fields), bytes_from(key, length.value)
 
@@ -138,7 +138,7 @@ def wrap_key_block(
     OptionalBlockError, ProtectionKeyLengthError, KeyBlockFieldError, KeyLengthError, PaddingLengthError, KeyBlockLengthError."""
     fields, more = _fields_of(header), _optional_of(optional)
     block, length = buffer_of(len(more) + _MORE), SIZE()
-    with secret_of(no_text(protection)) as kbpk, secret_of(no_text(key)) as bare:
+    with secret_of(protection, A_KEY) as kbpk, secret_of(key, A_KEY) as bare:
         hiding = os.urandom(max(0, _KEY_DATA_SIZE - 2 - bare[1])) if padding is None else bytes_of(padding)
         parts = KeyBlockParts(
             protection=place_of(kbpk[0]),

@@ -7,7 +7,7 @@ import secrets
 from typing import Any, Callable, Optional
 
 from ._calls import SIZE
-from ._data import BLOCK_SIZE, buffer_of, bytes_from, hint_of, no_text, secret_of, vector_of
+from ._data import A_KEY, BLOCK_SIZE, buffer_of, bytes_from, hint_of, secret_of, vector_of
 from ._faults import check
 from ._library import function
 from ._statuses import KEY_LENGTH, PROTECTION_KEY_LENGTH
@@ -27,7 +27,7 @@ _tkw_unwrap = function("tkw_unwrap_key")
 
 def _through(call: Callable[..., int], protection: ReadableBuffer, given: ReadableBuffer, more: int, *vector: Any) -> bytes:
     """What a call makes of bytes under a protection key: `more` bytes more than were given."""
-    with secret_of(no_text(protection)) as kek, secret_of(no_text(given)) as bare:
+    with secret_of(protection, A_KEY) as kek, secret_of(given, A_KEY) as bare:
         made, length = buffer_of(max(bare[1] + more, 0)), SIZE()
         status = call(*kek, *vector, *bare, made, len(made), ctypes.byref(length))
         check(status, hint_of(kek[0], 16, 24) if status == PROTECTION_KEY_LENGTH else "", _TAKEN)

@@ -9,7 +9,8 @@ from itertools import accumulate
 from typing import AbstractSet, Any, Callable, Iterable, Iterator, List, Mapping, Optional, Tuple, Type
 
 from ._ciphers import Cipher, class_of, vectors_by_name
-from ._data import BLOCK_SIZE, Kind, buffer_of, bytes_from, in_order, is_writable, kept_apart, key_of, lent, no_text, pointer_to, row_size
+from ._data import A_KEY, BLOCK_SIZE, BYTES, Kind, buffer_of, bytes_from, in_order, is_writable, kept_apart, key_of, lent, pointer_to
+from ._data import row_size, view_of
 from ._faults import BlockLengthError, CountMismatchError, Error, KeyLengthError, SerialLengthError, VectorLengthError
 from ._faults import check, fault_of
 from ._library import function
@@ -46,7 +47,7 @@ def _list_of(
     data: ReadableBuffer, size: int, fault: Type[Error], elements: str, written: Optional[memoryview] = None
 ) -> Iterator[Tuple[Any, int]]:
     """Where the elements of a list begin, and how many there are, kept apart from what a call writes."""
-    with memoryview(no_text(data) if fault is KeyLengthError else data) as view:
+    with view_of(data, A_KEY if fault is KeyLengthError else BYTES) as view:
         count = _elements_of(view, size, fault, elements)
         with lent(view) if written is None else kept_apart(view, written) as (start, _):
             yield start, count
@@ -59,7 +60,7 @@ def _apply_each(call: str, kind: Kind, keys: Any, count: int, blocks: Any, lengt
 
 
 def _applied_each(call: str, cipher: Type[Cipher], keys: ReadableBuffer, blocks: ReadableBuffer) -> bytes:
-    with memoryview(blocks) as given:
+    with view_of(blocks) as given:
         _elements_of(given, BLOCK_SIZE, BlockLengthError, "blocks")
         result = bytearray(given)
     kind = class_of(cipher)
@@ -69,7 +70,7 @@ def _applied_each(call: str, cipher: Type[Cipher], keys: ReadableBuffer, blocks:
 
 
 def _change_each(call: str, cipher: Type[Cipher], keys: ReadableBuffer, blocks: WriteableBuffer) -> None:
-    with memoryview(blocks) as view:
+    with view_of(blocks) as view:
         if not is_writable(view):
             raise TypeError("a call in place needs writable blocks in one piece, as of a bytearray")
         _elements_of(view, BLOCK_SIZE, BlockLengthError, "blocks")
@@ -147,10 +148,10 @@ def _recorded(
     if not isinstance(cipher, Cipher):
         raise TypeError("the first argument is a cipher, such as TdesEde3(key)")
     context, numbers = cipher._open(), _numbers_of(counts)
-    with memoryview(vectors) as given:
+    with view_of(vectors) as given:
         records = _elements_of(given, BLOCK_SIZE, VectorLengthError, "vectors")
         starts = bytearray(given)
-    with memoryview(blocks) as given:
+    with view_of(blocks) as given:
         _elements_of(given, BLOCK_SIZE, BlockLengthError, "blocks")
         result = bytearray(given)
     if records != len(numbers):
@@ -187,7 +188,7 @@ def decrypt_cbc_records(
 @contextlib.contextmanager
 def _lent_bytes(messages: ReadableBuffer) -> Iterator[Tuple[Any, int]]:
     """Where messages begin, and how many bytes they have. Words that are not in the order of their bytes are refused."""
-    with memoryview(messages) as view:
+    with view_of(messages) as view:
         with lent(in_order(view)) as bytes_and_length:
             yield bytes_and_length
 

@@ -5,7 +5,7 @@ import unittest
 import cukvashe_des
 from cukvashe_des import KeyLengthError, TdesEde2, TdesEde3, pad, unpad
 
-from .values import BLOCK, BLOCK_HEADER, KEY, LENGTHS, OBJECTS, OF_A_KEY, OTHER, PAIR, PROTECTION, SERIAL
+from .values import ACCOUNT, BLOCK, BLOCK_HEADER, KEY, LENGTHS, OBJECTS, OF_A_KEY, OTHER, PAIR, PROTECTION, SERIAL
 
 
 class Hexadecimal(unittest.TestCase):
@@ -45,7 +45,35 @@ class Hexadecimal(unittest.TestCase):
             lambda: cipher.encrypt_ecb("8 bytes."),
             lambda: cipher.encrypt_cbc(b"8 bytes.", iv="1234567890abcdef"),
         ):
-            self.assertRaisesRegex(TypeError, "^bytes are needed and not a text: encode makes them of a text", call)
+            needed = "^(bytes are needed|an initialization vector is bytes) and not a text: encode makes them of a text"
+            self.assertRaisesRegex(TypeError, needed, call)
+
+    def test_what_has_no_bytes(self):
+        """A number, None and a list, in the place of each argument that is bytes or digits."""
+        cipher, mac = TdesEde3(KEY), cukvashe_des.CmacTdesEde2(PAIR)
+        calls = [("a key is bytes", lambda key, call=call, others=others: call(key, *others)) for call, _, others in self.CALLS]
+        calls += [(f"{what} is bytes", lambda iv, call=call: call(b"8 bytes.", iv=iv)) for what, call in (
+            ("an initialization vector", cipher.encrypt_cbc), ("an initialization vector", cipher.decrypt_ofb),
+            ("a counter block", lambda data, iv: cipher.encrypt_ctr(data, counter=iv)),
+        )]
+        calls += [("digits are needed as str or bytes", call) for call in (
+            lambda digits: cukvashe_des.pvv(PAIR, ACCOUNT, 1, digits), lambda digits: cukvashe_des.pvv(PAIR, digits, 1, "1234"),
+            lambda digits: cukvashe_des.cvv(PAIR, ACCOUNT, digits, "101"), lambda digits: cukvashe_des.pin_encode_0("1234", digits),
+            lambda digits: cukvashe_des.emv_card_key(PAIR, ACCOUNT, digits), cukvashe_des.DecimalTable,
+        )]
+        calls += [("bytes are needed", call) for call in (
+            cipher.encrypt_ecb, cipher.encrypt_ecb_into, mac.update, mac.verify, cukvashe_des.dukpt_is_usable,
+            lambda data: cukvashe_des.pbkdf2("sha1", data, b"salt", 1, 24), lambda data: cukvashe_des.pad(data, "pkcs7"),
+            lambda data: cukvashe_des.pin_decode_0(data, ACCOUNT), lambda data: cukvashe_des.encrypt_each(TdesEde2, PAIR, data),
+            lambda data: cukvashe_des.encrypt_each_into(TdesEde2, PAIR, data), lambda data: cukvashe_des.wrong_tags(data, b""),
+            lambda data: cukvashe_des.decrypt_cbc_records(cipher, b"", vectors=data, counts=[]),
+            lambda data: cukvashe_des.macs(cukvashe_des.CmacTdesEde2, PAIR, None, [], data),
+        )]
+        calls += [("a key is bytes", lambda key: cukvashe_des.check_values(TdesEde2, key)),
+                  ("a key block is str or bytes", lambda block: cukvashe_des.unwrap_key_block(PROTECTION, block))]
+        for needed, call in calls:
+            for wrong, name in ((1234, "int"), (None, "NoneType"), ([8], "list")):
+                self.assertRaisesRegex(TypeError, f"^{needed}, not {name}$", call, wrong)
 
     def test_texts_of_keys(self):
         for call in (cukvashe_des.encrypt_each, cukvashe_des.decrypt_each):
