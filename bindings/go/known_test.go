@@ -8,6 +8,7 @@ import (
 	"errors"
 	"fmt"
 	"os"
+	"reflect"
 	"regexp"
 	"strconv"
 	"strings"
@@ -137,6 +138,12 @@ func shown(it any) string {
 	case [][]string, []any:
 		text, _ := json.Marshal(it)
 		return string(text)
+	}
+	if of := reflect.ValueOf(it); of.Kind() == reflect.Array {
+		// Of keys fmt writes the type alone.
+		array := reflect.New(of.Type()).Elem()
+		array.Set(of)
+		it = array.Bytes()
 	}
 	return fmt.Sprintf("x%x", it)
 }

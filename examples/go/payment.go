@@ -51,7 +51,7 @@ func main() {
 	translation := cukvashe.Translation{IncomingKey: transaction.PIN(), OutgoingKey: issuerKey, Account: account}
 	translated, err := translation.Translate(pinBlock)
 	check(err)
-	fmt.Printf("to the issuer: %x\n", translated)
+	fmt.Printf("to the issuer: %x\n", translated[:])
 
 	// A PIN key in a key block (TR-31). Look at the header before you use the key: no call does.
 	header, key, err := cukvashe.UnwrapKeyBlock(protection, "B0080P0TE00E000094B420079CC80BA3461F86FE26EFC4A3B8E4FA4C5F5341176EED7B727B8A248E")
