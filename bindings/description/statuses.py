@@ -121,8 +121,8 @@ def of_types(header):
 
 def narrow(batches):
     """The number of blocks up to which one narrow batch is faster, which des_fast has."""
-    found = re.findall(r"^pub const MOST_NARROW: usize = (\d+);$", batches, re.MULTILINE)
+    found = re.findall(r"^pub const MAX_NARROW: usize = (\d+);$", batches, re.MULTILINE)
     if len(found) != 1:
-        raise Refused("crates/des_fast/src/many/batches.rt does not have the number MOST_NARROW once")
+        raise Refused("crates/des_fast/src/many/batches.rt does not have the number MAX_NARROW once")
     yield "/* The longest list, in blocks, that is faster by narrow calls than by wide ones. Made by bindings/describe of des_fast. */"
     yield from ["#ifndef NARROW_H", "#define NARROW_H", f"#define MOST_NARROW {found[0]}", "#endif"]
