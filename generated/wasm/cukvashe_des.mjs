@@ -351,7 +351,7 @@ function numberOf(number, least, most, what) {
   return Number.isInteger(number) && number >= least && number <= most ? number : 2 ** 31 - 1;
 }
 
-/** The bytes of a text of ASCII digits. A character beyond ASCII becomes one that is no digit either. */
+/** The bytes of a text of ASCII digits. A character beyond ASCII becomes one that is not a digit either. */
 function textOf(text, what) {
   if (typedArrayName.call(text) === "Uint8Array") return bytesOf(text, what);
   if (typeof text !== "string") throw new TypeError(`${what}: a string of digits is needed`);

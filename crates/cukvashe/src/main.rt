@@ -12,10 +12,9 @@ use std::{env, io};
 
 fn run_words(rt: &HostRuntime, words: &[&str]) -> u8 {
     match parse(rt.alloc(), words) {
-        Ok(matches) => match command_of(&matches) {
-            Ok(command) => run(rt, &command),
-            Err(fault) => tell_fault(rt, fault),
-        },
+        Ok(matches) => command_of(&matches)
+            .map(|command| run(rt, &command))
+            .unwrap_or_else(|fault| tell_fault(rt, fault)),
         Err(error) => show_usage(rt, &error, words),
     }
 }
