@@ -49,7 +49,7 @@ module _ (size_of : ℕ → ℕ) (Writes : List ℕ → List ℕ → Type 0) whe
 -- ---- the values of the texts before k, one after another: that of a text of n bytes has `span_of n`
 
 module _ (size_of span_of : ℕ → ℕ) (Writes : List ℕ → List ℕ → Type 0) (texts : List (List ℕ)) (lengths values : List ℕ)
-    (k start : ℕ) (room : length values ≡ sum_by span_of lengths) (count : length texts ≡ length lengths)
+    (k start : ℕ) (capacity : length values ≡ sum_by span_of lengths) (count : length texts ≡ length lengths)
     (to : start ≡ sum_by span_of (take k lengths)) (column : IsColumnWritten size_of Writes (take k texts) (take start values)) where
   -- with one more
   pub written-next : (span : ℕ) (text value : List ℕ) → k < length lengths → span ≡ span_of (get_or lengths k 0)
@@ -61,7 +61,7 @@ module _ (size_of span_of : ℕ → ℕ) (Writes : List ℕ → List ℕ → Typ
   written-next span text value below spans as_long is size writes =
       let next : start + span ≡ sum_by span_of (take (k + 1) lengths) =
       ap₂ ◌+◌ to spans ∙ sym (sum_by_more span_of lengths k 0 below) in
-      let inside : start + span ≤ length values = omega (arith, next, sum_by-take-le span_of lengths (k + 1), room) in
+      let inside : start + span ≤ length values = omega (arith, next, sum_by-take-le span_of lengths (k + 1), capacity) in
       let placed : length value ≡ span =
       as_long
       ∙ length-take-le (start + span - start) (drop start values) (omega (arith, length-drop start values, inside))
@@ -77,7 +77,7 @@ module _ (size_of span_of : ℕ → ℕ) (Writes : List ℕ → List ℕ → Typ
   -- if they are all
   pub written-end : length lengths ≤ k → IsColumnWritten size_of Writes texts values
   written-end all =
-      let end : start ≡ length values = to ∙ ap (sum_by span_of) (take_all k lengths all) ∙ sym room in
+      let end : start ≡ length values = to ∙ ap (sum_by span_of) (take_all k lengths all) ∙ sym capacity in
       rw (take_all k texts (omega (arith, count, all)), take_all start values (omega (arith, end))) at column
 
 -- ---- the texts of a column

@@ -111,8 +111,8 @@ fn gather(
         let text = &texts[bytes..bytes + lengths[count]];
         let value_size = form.value_size(text.len());
         let size = value_size / 8;
-        let room = LONGEST.min(buffer.len() - blocks);
-        if size > room {
+        let capacity = LONGEST.min(buffer.len() - blocks);
+        if size > capacity {
             break;
         }
         let place = &mut values[span..span + size * 8];

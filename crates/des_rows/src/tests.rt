@@ -4,7 +4,4 @@ mod blocks;
 mod ciphers;
 mod generic;
 mod known;
-mod lengths;
-mod lists;
-mod steps;
 mod weak_keys;

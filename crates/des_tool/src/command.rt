@@ -7,8 +7,6 @@ mod fault;
 mod process;
 mod request;
 mod status;
-#[cfg(test)]
-mod tests;
 
 pub use answers::answer;
 pub use fault::Fault;

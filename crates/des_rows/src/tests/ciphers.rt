@@ -1,24 +1,21 @@
 //! The five ciphers of `des`, each of which must pass all tests of a cipher.
 
-use crate::tests::known::{DES, EDE2, EDE3, EEE2, EEE3, Known, LIST_PARTS, PARTS};
-use crate::tests::{blocks, generic, lengths, lists};
-use des::cipher::{AlgorithmName, KeyedCipher, ParBlocksSizeUser};
+use crate::tests::known::{DES, EDE2, EDE3, EEE2, EEE3, Known, PARTS};
+use crate::tests::{blocks, generic};
+use des::cipher::{AlgorithmName, KeyInit, KeyedCipher, ParBlocksSizeUser};
+
+// Whether a type has its sizes and its name.
+fn has_constants<C: KeyInit + ParBlocksSizeUser + AlgorithmName>(known: &Known) -> bool {
+    C::KEY_SIZE == 8 * known.parts
+        && C::BLOCK_SIZE == 8
+        && C::PAR_BLOCKS == 1
+        && C::NAME == known.name
+}
 
 // Whether a cipher of the first parts of a key gives what is known of it.
 fn gives_known<C: KeyedCipher + Clone + Drop>(known: &Known) -> bool {
     match C::new_from_slice(known.key(&PARTS)) {
-        Ok(cipher) => {
-            blocks::passes(&cipher, known)
-                && lengths::refuses(&cipher)
-                && generic::passes(&cipher, known)
-        }
-        Err(_) => false,
-    }
-}
-
-fn gives_known_list<C: KeyedCipher + Drop>(known: &Known) -> bool {
-    match C::new_from_slice(known.key(&LIST_PARTS)) {
-        Ok(cipher) => lists::gives_known(&cipher, known),
+        Ok(cipher) => blocks::passes(&cipher, known) && generic::passes(&cipher, known),
         Err(_) => false,
     }
 }
@@ -28,11 +25,7 @@ fn passes<C>(known: &Known) -> bool
 where
     C: KeyedCipher + ParBlocksSizeUser + AlgorithmName + Clone + Drop,
 {
-    lengths::has_constants::<C>(known)
-        && lengths::takes_its_length_alone::<C>(8 * known.parts)
-        && gives_known::<C>(known)
-        && blocks::complements::<C>(known)
-        && gives_known_list::<C>(known)
+    has_constants::<C>(known) && gives_known::<C>(known)
 }
 
 fn ede_forms_pass() -> bool {

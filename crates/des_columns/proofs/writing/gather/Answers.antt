@@ -28,10 +28,10 @@ texts-preserved c =
     let sized : size ≡ size_in_blocks form text = ap (λ m. m / 8) c.value_size-value_size.ensures in
     let blocks : ℕ = c.texts.blocks in
     let new : List (List ℕ) = c.write_blocks.new.blocks in
-    let room : blocks + size ≤ length c.texts.buffer = omega (arith, c.if-size-room.false, c.min-room.ensures, c.texts.invariant.blocks) in
+    let capacity : blocks + size ≤ length c.texts.buffer = omega (arith, c.if-size-capacity.false, c.min-capacity.ensures, c.texts.invariant.blocks) in
     let long : length new ≡ size =
     c.write_blocks.auto.blocks
-    ∙ length-take-le (blocks + size - blocks) (drop blocks c.texts.buffer) (omega (arith, length-drop blocks c.texts.buffer, room))
+    ∙ length-take-le (blocks + size - blocks) (drop blocks c.texts.buffer) (omega (arith, length-drop blocks c.texts.buffer, capacity))
     ∙ omega arith in
     let more : take (k + 1) vs ≡ take k vs ++ text ∷ [] =
     take_more vs k [] (omega (arith, length-pieces lengths bytes, below))
@@ -40,7 +40,7 @@ texts-preserved c =
       end = omega (arith, below);
       count = omega (arith, c.if-count-sizes.true, length-set c.texts.sizes k size);
       bytes = at.1;
-      blocks = omega (arith, room, long);
+      blocks = omega (arith, capacity, long);
       span =
           ap₂ ◌+◌ c.texts.invariant.span (c.value_size-value_size.ensures ∙ ap (value_size form) at.0)
           ∙ sym (sum_by_more (value_size form) lengths k 0 below);

@@ -88,14 +88,14 @@ texts-preserved g c =
     let values : List ℕ = c.texts.values in
     let below : k < length lengths = c.texts-test.true in
     let size : ℕ = from + get_or lengths k 0 - from in
-    let room = c.texts.auto.values ∙ c.requires.values in
-    let within : start ≤ length values = omega (arith, c.texts.invariant.start, sum_by-take-le (value_size form) lengths k, room) in
+    let capacity = c.texts.auto.values ∙ c.requires.values in
+    let within : start ≤ length values = omega (arith, c.texts.invariant.start, sum_by-take-le (value_size form) lengths k, capacity) in
     let over : List ℕ = put_mid start (length values - start) values c.refill.new.values in
     let at = next g (goal.at.texts-preserved g c).After-refill in
     let more =
     written-next (value_size form) (value_size form) W vs lengths over k start
     (length-put start (length values - start) values c.refill.new.values (omega (arith, within))
-    (c.refill.auto.values ∙ ap length (take_rest values start) ∙ length-drop start values) ∙ room)
+    (c.refill.auto.values ∙ ap length (take_rest values start) ∙ length-drop start values) ∙ capacity)
     (length-pieces lengths bytes) c.texts.invariant.start
     (rw (take-put_mid_below start (length values - start) values c.refill.new.values start (omega arith) within)
     c.texts.invariant.written) c.value_size-size.result (take size (drop from bytes)) c.write_next.new.value below
