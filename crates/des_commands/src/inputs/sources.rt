@@ -74,9 +74,12 @@ pub fn bytes_of(rt: &HostRuntime, source: Source, longest: usize) -> Result<Vec<
     }
 }
 
-// Whether a text has several lines, line ends at its own ends apart.
+// Whether a text has several lines, line ends at its own ends apart. Some systems end a line by a
+// carriage return alone.
 fn has_lines(text: &[u8]) -> bool {
-    text.trim_ascii().iter().any(|byte| *byte == b'\n')
+    text.trim_ascii()
+        .iter()
+        .any(|byte| matches!(*byte, b'\n' | b'\r'))
 }
 
 /// The text of a source that has one line, without its white space, of `MAX_TEXT` bytes at most. The
