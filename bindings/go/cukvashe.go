@@ -6,8 +6,10 @@
 // would depend on the key and the data.
 //
 // The error of a call is an Error, which errors.Is compares with ErrKeyLength and the others, but if the call says more. Texts tell
-// no key, PIN or data: of what holds a key or a PIN block fmt writes the type alone, and k[:] has the bytes of an array. Nothing is left to free: all state is memory of Go's. Wipe overwrites the round keys of a Block or MAC; Go
-// itself may have copied keys and PINs that you pass and get.
+// no key, PIN or data: of what holds a key or a PIN block fmt writes the type alone, and k[:] has the bytes of an array. But of such a
+// value in an unexported field of a type of yours fmt writes the bytes, since it asks no method of it; and so does encoding/json of
+// arrays and of exported fields. Nothing is left to free: all state is memory of Go's. Wipe overwrites the round keys of a Block or MAC;
+// Go itself may have copied keys and PINs that you pass and get.
 //
 // Goroutines may share a Block, and nothing else while one of them changes it.
 //

@@ -973,7 +973,7 @@ function positionOf(position) {
   if (typeof position !== "number" && typeof position !== "bigint") throw new TypeError("a position: a number is needed");
   const isWhole = typeof position === "bigint" || Number.isSafeInteger(position);
   if (isWhole && position >= 0 && position < 2n ** 67n) return BigInt(position);
-  throw new Position("a position in a stream is 0 to 2^67 - 1");
+  throw new Position("a position in a stream is 0 to 2^67 - 1, from 2^53 on a BigInt");
 }
 
 const CIPHER_FIRST = "the cipher comes";

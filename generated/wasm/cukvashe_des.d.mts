@@ -249,7 +249,7 @@ declare abstract class Stream extends Keyed {
 /** The counter mode from a first counter block, as encryptCtr. VectorLength. */
 export class Ctr extends Stream {
   constructor(cipher: Cipher, named: { counter: Uint8Array });
-  /** Goes on at a byte of the text, from 0 on, of which no byte before it is needed, in either direction. Position. */
+  /** Goes on at a byte of the text, from 0 on, of which no byte before it is needed, in either direction. From 2^53 on take a BigInt. Position. */
   seek(position: number | bigint): void;
 }
 /** Output feedback from an initialization vector, as encryptOfb. VectorLength. */

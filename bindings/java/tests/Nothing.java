@@ -1,6 +1,8 @@
 import cukvashe.des.CukvasheException;
 import cukvashe.des.Emv;
 import cukvashe.des.HashFunction;
+import cukvashe.des.KeyBlock;
+import cukvashe.des.KeyBlockHeader;
 import cukvashe.des.Keys;
 import cukvashe.des.Passwords;
 import cukvashe.des.PinFormat;
@@ -10,8 +12,9 @@ import cukvashe.des.Status;
 import java.util.Arrays;
 import java.util.HexFormat;
 import javax.crypto.SecretKey;
+import javax.crypto.spec.SecretKeySpec;
 
-/** Null is never taken for an empty array, and a key of no bytes is refused. */
+/** Null is never taken for an empty array, a key of no bytes is refused, and so is one that says that it is of AES. */
 public final class Nothing {
   interface Call {
     Object of() throws Exception;
@@ -38,9 +41,38 @@ public final class Nothing {
     throw new AssertionError(what + " makes a key of such a length");
   }
 
+  private static void isOfAes(String what, Call call) throws Exception {
+    try {
+      call.of();
+    } catch (IllegalArgumentException wanted) {
+      return;
+    }
+    throw new AssertionError(what + " takes a key of AES");
+  }
+
+  private static String wrapped(SecretKey protection, char algorithm, SecretKey key) throws Exception {
+    return KeyBlock.wrap(protection, KeyBlockHeader.of('B', "P0", algorithm, 'E', "00", 'E'), key, 16);
+  }
+
+  /** What a key block says of its key is what the key is called. */
+  private static void isCalled(SecretKey protection, char algorithm, SecretKey key, String name) throws Exception {
+    String is = KeyBlock.unwrap(protection, wrapped(protection, algorithm, key)).key().getAlgorithm();
+    if (!is.equals(name)) {
+      throw new AssertionError("a key of " + algorithm + " is called " + is);
+    }
+  }
+
   public static void main(String[] arguments) throws Exception {
     byte[] bytes = new byte[8];
     SecretKey key = Keys.of(HexFormat.of().parseHex("0123456789abcdeffedcba9876543210"));
+
+    SecretKey aes = new SecretKeySpec(key.getEncoded(), "AES");
+    isOfAes("checkValue", () -> Keys.checkValue(aes));
+    isOfAes("wrap", () -> wrapped(key, 'T', aes));
+    isOfAes("wrap, protection", () -> wrapped(aes, 'T', key));
+    isCalled(key, 'A', aes, "AES");
+    isCalled(key, 'H', key, "HMAC");
+    isCalled(key, 'T', key, "DESede");
 
     refuses("pbkdf2", () -> Passwords.pbkdf2(HashFunction.SHA1, null, bytes, 1, 8));
     refuses("pbkdf2, salt", () -> Passwords.pbkdf2(HashFunction.SHA1, bytes, null, 1, 8));

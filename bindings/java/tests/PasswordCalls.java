@@ -4,10 +4,12 @@ import java.security.Provider;
 import java.security.spec.AlgorithmParameterSpec;
 import java.security.spec.KeySpec;
 import java.util.Arrays;
+import java.util.LinkedHashMap;
 import java.util.Map;
 import javax.crypto.Cipher;
 import javax.crypto.SecretKey;
 import javax.crypto.SecretKeyFactory;
+import javax.crypto.interfaces.PBEKey;
 import javax.crypto.spec.DESKeySpec;
 import javax.crypto.spec.IvParameterSpec;
 import javax.crypto.spec.PBEKeySpec;
@@ -23,6 +25,29 @@ final class PasswordCalls {
   private final Map<String, Exceptions.Call> calls;
   private final String name;
 
+  /** A password with its salt, as Bouncy Castle's factories make it: its encoding is what was derived of them. */
+  private record Salted(byte[] getSalt, int getIterationCount) implements PBEKey {
+    @Override
+    public char[] getPassword() {
+      return "x".toCharArray();
+    }
+
+    @Override
+    public String getAlgorithm() {
+      return "PBEWithSHA1AndDESede";
+    }
+
+    @Override
+    public String getFormat() {
+      return "RAW";
+    }
+
+    @Override
+    public byte[] getEncoded() {
+      return new byte[24];
+    }
+  }
+
   private PasswordCalls(Map<String, Exceptions.Call> calls, String name) {
     this.calls = calls;
     this.name = name;
@@ -34,6 +59,7 @@ final class PasswordCalls {
     }
     // Of all names these are one class each.
     PasswordCalls last = new PasswordCalls(calls, "PBEWithSHA1AndDESede");
+    last.salted();
     last.factories();
     last.parameters();
   }
@@ -124,6 +150,22 @@ final class PasswordCalls {
     calls.put(kept + "unwrap, bad padding", p -> {
       return cipher(p, Cipher.UNWRAP_MODE, SALT).unwrap(new byte[16], "DESede", Cipher.SECRET_KEY);
     });
+  }
+
+  private void salted() {
+    byte[] salt = SALT.getSalt();
+    Map<String, Salted> keys = new LinkedHashMap<>();
+    keys.put("salt", new Salted(salt, 1000));
+    keys.put("no salt", new Salted(null, 0));
+    keys.put("another salt", new Salted(new byte[8], 1000));
+    keys.put("another count", new Salted(salt, 1001));
+    keys.forEach((of, key) -> {
+      calls.put("PBE: key with " + of, p -> Exceptions.hex(cipher(p, ENCRYPT, key, SALT).doFinal(new byte[5])));
+    });
+    Salted key = keys.get("salt");
+    calls.put("PBE: key with salt alone", p -> Exceptions.hex(cipher(p, ENCRYPT, key, null).doFinal(new byte[5])));
+    calls.put("PBE: key with salt alone, decrypt", p -> cipher(p, DECRYPT, key, null).doFinal(new byte[0]).length);
+    calls.put("PBE: key with no salt alone, decrypt", p -> cipher(p, DECRYPT, keys.get("no salt"), null));
   }
 
   private void factories() {

@@ -114,7 +114,7 @@ for (const place of [...whole.keys(), 3, 99, 0, 8, 7]) {
 ctr.seek(2n ** 67n - 5n);
 is(ctr.encrypt(new Uint8Array(11)).slice(5), hex(whole.subarray(0, 6)));
 for (const wrong of [-1, 0.5, NaN, Infinity, 2 ** 53, -1n, 2n ** 67n, 2n ** 100n]) {
-  throwsFault(() => ctr.seek(wrong), "Position", "a position in a stream is 0 to 2^67 - 1");
+  throwsFault(() => ctr.seek(wrong), "Position", "a position in a stream is 0 to 2^67 - 1, from 2^53 on a BigInt");
 }
 is(ctr.encrypt(new Uint8Array(4)), hex(whole.subarray(6, 10)));
 

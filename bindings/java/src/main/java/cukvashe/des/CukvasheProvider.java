@@ -4,6 +4,7 @@ import java.security.InvalidParameterException;
 import java.security.Provider;
 import java.util.List;
 import java.util.Map;
+import java.util.Objects;
 import java.util.function.Function;
 
 /**
@@ -20,7 +21,6 @@ import java.util.function.Function;
  */
 public final class CukvasheProvider extends Provider {
   private static final long serialVersionUID = 1L;
-  private static final String NO_TABLES = "no_tables";
 
   private final boolean readsTables;
 
@@ -86,14 +86,12 @@ public final class CukvasheProvider extends Provider {
   /**
    * The provider without tables.
    *
-   * @param argument {@code no_tables}
-   * @throws InvalidParameterException for any other argument
+   * @param argument {@code no_tables}. Any other has the same effect: if it were refused, Java would leave the provider out in silence, and
+   *     take a cipher with tables from the next one.
    */
   @Override
   public Provider configure(String argument) {
-    if (!argument.equals(NO_TABLES)) {
-      throw new InvalidParameterException("the argument of the provider is " + NO_TABLES);
-    }
+    Objects.requireNonNull(argument);
     return new CukvasheProvider(false);
   }
 

@@ -64,12 +64,13 @@ public final class KeyBlock {
     return header;
   }
 
-  /** The key. */
+  /** The key, named by the header's algorithm: {@code AES} or {@code HMAC}, and else {@code DES} if it has 8 bytes, or {@code DESede}. */
   public SecretKey key() {
     return key;
   }
 
   private static Secret protection(SecretKey key) {
+    Secret.refuseAes(key);
     return Secret.of(Secret.withoutThirdPart(Secret.raw(key)));
   }
 
@@ -93,7 +94,15 @@ public final class KeyBlock {
     try (Secret kbpk = protection(protection);
         Secret made = Secret.buffer(Native.TDES_EDE3_KEY_SIZE)) {
       CukvasheException.check(Native.keyBlockUnwrap(kbpk.bytes, text(block), fields, made.bytes, length));
-      return new KeyBlock(KeyBlockHeader.of(fields), made.key((int) length[0]));
+      KeyBlockHeader header = KeyBlockHeader.of(fields);
+      switch (header.algorithm()) {
+        case 'A':
+          return new KeyBlock(header, made.key((int) length[0], "AES"));
+        case 'H':
+          return new KeyBlock(header, made.key((int) length[0], "HMAC"));
+        default:
+          return new KeyBlock(header, made.key((int) length[0]));
+      }
     }
   }
 
@@ -131,7 +140,7 @@ public final class KeyBlock {
     byte[] text = new byte[Native.KEY_BLOCK_SIZE];
     long[] written = new long[1];
     try (Secret kbpk = protection(protection);
-        Secret secret = Secret.key(key, length);
+        Secret secret = header.algorithm() == 'A' ? Secret.keyOfAny(key, length) : Secret.key(key, length);
         Secret random = Secret.of(padding.clone())) {
       CukvasheException.check(
           Native.keyBlockWrap(kbpk.bytes, header.struct(), Secret.text(blocks.toString()), secret.bytes, random.bytes, text, written));

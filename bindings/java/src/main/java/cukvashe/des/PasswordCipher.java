@@ -1,5 +1,6 @@
 package cukvashe.des;
 
+import java.nio.charset.CharacterCodingException;
 import java.security.AlgorithmParameters;
 import java.security.InvalidAlgorithmParameterException;
 import java.security.InvalidKeyException;
@@ -12,6 +13,7 @@ import java.security.spec.InvalidParameterSpecException;
 import java.util.Arrays;
 import javax.crypto.Cipher;
 import javax.crypto.NoSuchPaddingException;
+import javax.crypto.interfaces.PBEKey;
 import javax.crypto.spec.IvParameterSpec;
 import javax.crypto.spec.PBEParameterSpec;
 
@@ -77,10 +79,14 @@ final class PasswordCipher extends DesCipher {
   protected void engineInit(int opmode, Key key, AlgorithmParameterSpec given, SecureRandom random)
       throws InvalidKeyException, InvalidAlgorithmParameterException {
     boolean isInverse = opmode == Cipher.DECRYPT_MODE || opmode == Cipher.UNWRAP_MODE;
-    if (given == null && isInverse) {
+    PBEParameterSpec ofKey = parametersOf(key);
+    if (given == null && ofKey == null && isInverse) {
       throw new InvalidAlgorithmParameterException("decryption needs the salt and the number of iterations");
     }
-    PBEParameterSpec spec = given == null ? fresh(random) : checked(given);
+    PBEParameterSpec spec = given != null ? checked(given) : ofKey != null ? checked(ofKey) : fresh(random);
+    if (ofKey != null && !(Arrays.equals(ofKey.getSalt(), spec.getSalt()) && ofKey.getIterationCount() == spec.getIterationCount())) {
+      throw new InvalidAlgorithmParameterException("the key has another salt or number of iterations");
+    }
     byte[] password = passwordOf(key);
     try (Secret both = Secret.buffer(scheme.keySize + Native.BLOCK_SIZE)) {
       int status = Native.pbeKey(Secret.text(scheme.title), spec.getIterationCount(), password, spec.getSalt(), both.bytes);
@@ -110,10 +116,31 @@ final class PasswordCipher extends DesCipher {
     return spec;
   }
 
+  /** The salt and the number of iterations of a key that has them, or null. */
+  private static PBEParameterSpec parametersOf(Key key) {
+    byte[] salt = key instanceof PBEKey ? ((PBEKey) key).getSalt() : null;
+    if (salt == null) {
+      return null;
+    }
+    int iterations = ((PBEKey) key).getIterationCount();
+    return new PBEParameterSpec(salt, iterations == 0 ? PasswordScheme.ITERATIONS : iterations);
+  }
+
   /** The bytes of a password, which the caller overwrites. */
   private byte[] passwordOf(Key key) throws InvalidKeyException {
     if (key == null || !key.getAlgorithm().regionMatches(true, 0, "PBE", 0, 3)) {
       throw new InvalidKeyException("the key is not that of a password");
+    }
+    // The encoding of such a key may be what was derived of its password.
+    if (key instanceof PBEKey) {
+      char[] characters = ((PBEKey) key).getPassword();
+      try {
+        return PasswordKeyFactory.encoded(characters);
+      } catch (CharacterCodingException error) {
+        throw new InvalidKeyException("the password is no text", error);
+      } finally {
+        Arrays.fill(characters, '\0');
+      }
     }
     byte[] bytes = Algorithm.rawOf(key);
     // SunJCE's sign for a password that has not even the zeros at its end, which no call here takes.

@@ -20,6 +20,14 @@ final class PasswordKeyFactory extends SecretKeyFactorySpi {
     this.scheme = scheme;
   }
 
+  /** The bytes of a password, in UTF-8. */
+  static byte[] encoded(char[] characters) throws CharacterCodingException {
+    ByteBuffer made = StandardCharsets.UTF_8.newEncoder().encode(CharBuffer.wrap(characters));
+    byte[] bytes = Arrays.copyOf(made.array(), made.limit());
+    Arrays.fill(made.array(), (byte) 0);
+    return bytes;
+  }
+
   @Override
   protected SecretKey engineGenerateSecret(KeySpec spec) throws InvalidKeySpecException {
     if (!(spec instanceof PBEKeySpec)) {
@@ -27,10 +35,7 @@ final class PasswordKeyFactory extends SecretKeyFactorySpi {
     }
     char[] characters = ((PBEKeySpec) spec).getPassword();
     try {
-      ByteBuffer made = StandardCharsets.UTF_8.newEncoder().encode(CharBuffer.wrap(characters));
-      byte[] bytes = Arrays.copyOf(made.array(), made.limit());
-      Arrays.fill(made.array(), (byte) 0);
-      return new DesKey(scheme.title, bytes);
+      return new DesKey(scheme.title, encoded(characters));
     } catch (CharacterCodingException error) {
       throw new InvalidKeySpecException("the password is no text");
     } finally {

@@ -24,8 +24,21 @@ final class Secret implements AutoCloseable {
     return size == 0 ? NOTHING : new Secret(new byte[size]);
   }
 
-  /** The bytes of a key, which has one of these sizes. */
+  /** The bytes of a key of DES or triple DES, which has one of these sizes. */
   static Secret key(SecretKey key, int... sizes) throws CukvasheException {
+    refuseAes(key);
+    return keyOfAny(key, sizes);
+  }
+
+  /** A key that says that it is one of AES would be used as another, since both may have 16 or 24 bytes. */
+  static void refuseAes(SecretKey key) {
+    if ("AES".equalsIgnoreCase(key.getAlgorithm())) {
+      throw new IllegalArgumentException("the key is one of AES");
+    }
+  }
+
+  /** The bytes of a key of any algorithm, which has one of these sizes. */
+  static Secret keyOfAny(SecretKey key, int... sizes) throws CukvasheException {
     byte[] bytes = raw(key);
     if (bytes.length == 24 && !has(sizes, 24) && has(sizes, 16)) {
       bytes = withoutThirdPart(bytes);
@@ -122,7 +135,11 @@ final class Secret implements AutoCloseable {
   }
 
   SecretKey key(int length) {
-    return new DesKey(length == 8 ? Algorithm.DES.title : Algorithm.DESEDE.title, Arrays.copyOf(bytes, length));
+    return key(length, length == 8 ? Algorithm.DES.title : Algorithm.DESEDE.title);
+  }
+
+  SecretKey key(int length, String algorithm) {
+    return new DesKey(algorithm, Arrays.copyOf(bytes, length));
   }
 
   /** A PIN that a call made. */
