@@ -10,7 +10,7 @@ from itertools import accumulate
 from typing import AbstractSet, Any, Callable, Dict, Iterable, List, Mapping, NamedTuple, Optional, Tuple, TypeVar
 
 from ._ciphers import Cipher, Des, TdesEde3
-from ._data import BLOCK_SIZE, buffer_of, bytes_of, in_order, pointer_to, row_size, secret_of, wiped_buffer
+from ._data import BLOCK_SIZE, buffer_of, bytes_of, in_order, pointer_to, refuse_masked, row_size, secret_of, wiped_buffer
 from ._faults import AlgorithmNameError, BlockLengthError, Error, KeyNumberError, SaltLengthError, UnreadableValuesError, check, fault_of
 from ._library import function
 from ._lists import encrypt_cbc_records
@@ -63,6 +63,7 @@ def _bytes_of(value: Any, is_text: bool) -> bytes:
 
 def _rows_of(column: Any) -> Optional[List[Any]]:
     """The rows of an array of bytes, each of which is a value, or None if it is no array."""
+    refuse_masked(column)
     try:
         view = memoryview(column)
     except TypeError:
@@ -192,7 +193,7 @@ def mysql_encrypt_values(password: ReadableBuffer, texts: Column, *, number: int
     0 to 9, and this string. Take it for what reads nothing else: nothing authenticates the values. KeyNumberError."""
     if not isinstance(number, int) or isinstance(number, bool):
         raise TypeError("the number of a key is a number")
-    if not 0 <= number <= _KEY_STRING:
+    if not (0 <= number <= 9 or number == _KEY_STRING):
         raise KeyNumberError("the number of a key is 0 to 9, or 127 of a key string")
     taken = _taken(texts)
     padded = [text + b"*" * (7 - len(text) % 8) + bytes([8 - len(text) % 8]) if text else b"" for text in taken.values]

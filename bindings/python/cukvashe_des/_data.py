@@ -34,9 +34,16 @@ A_KEY = "a key is bytes", "bytes.fromhex makes it of hexadecimal digits"
 _DIGITS = "digits are needed as str or bytes", ""
 
 
+def refuse_masked(data: Any) -> None:
+    """A masked array of NumPy, which no other object has this attribute of, has bytes where it says that it has none."""
+    if hasattr(data, "hardmask"):
+        raise TypeError("a masked array has bytes behind its mask: its filled() has them all, and a list may have None")
+
+
 def view_of(data: ReadableBuffer, needed: _Needed = BYTES) -> memoryview:
     """A view of an object, which `with` lets go. Python's own error for what has no bytes would name a memoryview that nobody
     wrote."""
+    refuse_masked(data)
     try:
         return memoryview(data)
     except TypeError:

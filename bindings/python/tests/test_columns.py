@@ -195,6 +195,8 @@ class Faults(unittest.TestCase):
 
     def test_arguments(self):
         for call, fault in (
+            (lambda: mysql_encrypt_values(b"k", [b"abc"], number=10), KeyNumberError),
+            (lambda: mysql_encrypt_values(b"k", [b"abc"], number=126), KeyNumberError),
             (lambda: mysql_encrypt_values(b"k", [b"abc"], number=128), KeyNumberError),
             (lambda: mysql_encrypt_values(b"k", [b"abc"], number=-1), KeyNumberError),
             (lambda: mysql_encrypt_values(b"k", [b"abc"], number=2**32), KeyNumberError),
@@ -269,7 +271,8 @@ class Columns(unittest.TestCase):
         self.assertEqual(mysql_decrypt_values(b"secret key", rows), [text] * 3)
         self.assertEqual(mysql_decrypt_values(b"secret key", rows[::2]), [text] * 2)
         self.assertEqual(mysql_decrypt_values(b"secret key", rows[:0]), [])
-        for other in (rows.reshape(-1), rows.reshape(3, 5, 5), numpy.array([value]), rows.astype(float)):
+        masked = numpy.ma.masked_array(rows, mask=[[True] * 25, [False] * 25, [False] * 25])
+        for other in (rows.reshape(-1), rows.reshape(3, 5, 5), numpy.array([value]), rows.astype(float), masked, masked[1:]):
             self.assertRaises(TypeError, mysql_decrypt_values, b"secret key", other)
         self.assertEqual(jasypt_decrypt_values(b"secret", numpy.array([STRING, f"ENC({STRING})"])), [SETTING] * 2)
 

@@ -329,7 +329,8 @@ class Kinds(unittest.TestCase):
             self.assertEqual(decrypt_each(kind, keys, changed), TEXT)
             self.assertRaises(KeyLengthError, check_values, kind, numpy.zeros((3, kind.key_size + 8), numpy.uint8))
             self.assertRaises(BlockLengthError, encrypt_each, kind, keys, blocks.reshape(2, 12))
-            for other in (keys.view(numpy.uint64), keys.view(f"S{kind.key_size}"), keys.astype(object), keys.astype(float)):
+            masked = numpy.ma.masked_array(keys)
+            for other in (keys.view(numpy.uint64), keys.view(f"S{kind.key_size}"), keys.astype(object), keys.astype(float), masked):
                 self.assertRaises(TypeError, encrypt_each, kind, other, blocks)
                 self.assertRaises(TypeError, check_values, kind, other)
 
